@@ -1,16 +1,16 @@
 -- Laws of signed numbers. Assumes nothing.
-use Prim.Native.Nat.{ℕ, suc, zero, _-_, _^_, _<_}
-use mathlib.Core.Path.{_≡_, refl, ap, sym, _∙_}
+use Prim.Native.Nat.{ℕ, suc, zero, _-_, _<_}
+use mathlib.Core.Path.{_≡_, refl, ap}
 use mathlib.Core.Bool.{Bool, true, false}
 use lib.IntN.{ℤ, pos, negsuc, _-ℤ_, natAbs}
-use lib.Signed.{mag, ltZ, nonNeg}
-use lib.Dec.{T, ltb}
-use mir.Val.{SFits, Fits, toZ, ofZ, hbits}
-use mir.Syntax.{Width, w64, w32}
-use mir.Facts.{toZ-ofZ, toZ-pos}
+use lib.Signed.{ltZ, nonNeg}
+use lib.Dec.{T}
+use mir.Val.{SFits, toZ, ofZ}
+use mir.Syntax.{Width}
+use mir.Facts.{toZ-ofZ}
 use native.Mathlib.Omega.{arith}
-use native.Mathlib.Nat.{zero-add, sub-zero}
-use borrow.Author.Tests.{le-ltb, lt-ltb, ltb-true, ltb-false}
+use native.Mathlib.Nat.{zero-add}
+use borrow.Author.Tests.{le-ltb, ltb-true}
 use Rattle.twos.specs.Signed.{bitsOf}
 
 -- the complement, -1 - z

@@ -1,4 +1,4 @@
--- Two's complement numbers (the manual, section 1.3, "Integer Data Formats").
+-- Two's complement numbers (the manual, section 1.4, "Integer Data Formats").
 use Prim.Native.Nat.{ℕ, _+_, _-_, _%_, _^_}
 use mathlib.Core.Bool.{Bool, true, false}
 use lib.Dec.{ltb}

@@ -1,37 +1,29 @@
 use borrow.Author.Needs.{needs}
 use Rattle.twos.proofs.to_signed.Statement.{statement}
 use Rattle.twos.proofs.to_signed.Tie as tie
-use Rattle.twos.proofs.to_signed.Reads as reads
-use Rattle.twos.proofs.to_signed.Lts as lts
-use mir.Facts.{toZ-ofZ, toZ-pos, sfits-widen, fits-natAbs}
-use mir.Syntax.{w64, w32}
-use Rattle.twos.proofs.Laws.{minus-one, comp-sfits, read-comp, neg-nonneg, not-neg, bits-neg, bits-pos, comp}
+use mir.Facts.{toZ-ofZ, toZ-pos}
+use mir.Syntax.{w64}
+use Rattle.twos.proofs.Laws.{minus-one}
 use native.Mathlib.Omega.{arith}
 use borrow.Author.Tests.{lt-ltb, le-ltb}
 use lib.IntN.{pos}
 use Prim.Native.Nat.{_-_}
 
--- src/lib.rt:11:9
 cast-result : tie.Need-cast-result
 cast-result c = search needs
 
--- src/lib.rt:13:18
 sub-n : tie.Need-sub-n
 sub-n c = search needs
 
--- src/lib.rt:13:17
 cast-n : tie.Need-cast-n
 cast-n c = search needs
 
--- src/lib.rt:14:9
 sub-result : tie.Need-sub-result
 sub-result c = rw (toZ-pos w64 {n = 4294967295 - c .before .args .x} (omega arith), minus-one (pos (4294967295 - c .before .args .x))) (record { sfits = omega arith })
 
--- src/lib.rt:7:1
 returns : tie.Need-returns
 returns c = rw (lt-ltb _ _ (c .if1 .taken)) (toZ-pos w64 (omega arith))
 
--- src/lib.rt:7:1
 returns-2 : tie.Need-returns-2
 returns-2 c = rw (le-ltb _ _ (c .if1 .left), toZ-pos w64 {n = 4294967295 - c .before .args .x} (omega arith), minus-one (pos (4294967295 - c .before .args .x))) (toZ-ofZ {w = w64} (record { sfits = omega arith }))
 

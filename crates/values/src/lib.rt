@@ -1,0 +1,10 @@
+// The functions on the values of an instruction, as the Rust's encoded.rs has them: a module for each type.
+pub mod bit_field_operation;
+pub mod condition;
+pub mod control_register;
+pub mod displacement_size;
+pub mod extension_word;
+pub mod field;
+pub mod index_base;
+pub mod register_operand;
+pub mod size;
