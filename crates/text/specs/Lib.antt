@@ -1,0 +1,10 @@
+pub mod Parts
+pub mod Number
+pub mod Numbers
+pub mod Written
+pub mod PartLaws
+pub mod NumberLaws
+pub mod NumbersLaws
+pub mod WrittenLaws
+pub mod ReadBack
+pub mod Examples
