@@ -1,0 +1,14 @@
+use borrow.Author.Needs.{needs}
+use Rattle.m68k.proofs.encode.Statement.{statement}
+use Rattle.m68k.proofs.encode.Tie as tie
+use Rattle.isa.specs.Encode.{encodeOf}
+
+encoded-requires : tie.Need-encoded-requires
+encoded-requires c κs = search needs
+
+returns : tie.Need-returns
+unfolding encodeOf
+returns c = c .encoded .ensures .0
+
+pub encode-spec : {M : Type 1} → statement M
+encode-spec = tie.close (tie.spec encoded-requires returns)

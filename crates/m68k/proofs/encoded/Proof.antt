@@ -1,0 +1,30 @@
+use borrow.Author.Needs.{needs}
+use Rattle.m68k.proofs.encoded.Statement.{statement}
+use Rattle.m68k.proofs.encoded.Tie as tie
+use native.Mathlib.Omega.{arith}
+use mathlib.Core.Path.{_≡_}
+use Rattle.isa.specs.Encode.{encodedAs, refusalOf, wordsOf}
+use Rattle.isa.specs.Instruction.{partsOf}
+use Rattle.state.specs.Laws.{view}
+use Rattle.m68k.specs.Laws.{few, count-most}
+
+begin-requires : tie.Need-begin-requires
+begin-requires c κs = search needs
+
+instruction-words-requires : tie.Need-instruction-words-requires
+instruction-words-requires c κs = search needs
+
+finish-requires : tie.Need-finish-requires
+finish-requires c κs = search needs
+
+returns : tie.Need-returns
+returns c =
+    let a = c .before .before .before .args in
+    let e : c .finish .result ≡ encodedAs (refusalOf (a .check) (a .instruction) (a .address)) (wordsOf (a .instruction) (a .address)) =
+    rw (c .finish .ensures, c .before .instruction-words .ensures, c .before .before .begin .ensures)
+    (view (partsOf (a .instruction)) (a .address) (a .check) (omega arith) (few (a .instruction) (a .address))) in
+    (e, rw e (count-most (refusalOf (a .check) (a .instruction) (a .address)) (a .instruction) (a .address)))
+
+pub encoded-spec : {M : Type 1} → statement M
+encoded-spec =
+    tie.close (tie.spec begin-requires instruction-words-requires finish-requires returns)
