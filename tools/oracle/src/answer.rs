@@ -1,0 +1,106 @@
+//! The original's answer to a line of the numeric form.
+
+use crate::machine::encode::{encode, size, EncodeError, Field};
+use crate::numeric::{placed, Placed};
+
+include!(concat!(env!("OUT_DIR"), "/field_numbers.rs"));
+include!(concat!(env!("OUT_DIR"), "/reason_texts.rs"));
+
+pub const NOT_IN_FORM: &str = "refused\t7\t0\t0";
+
+#[derive(Debug, Clone, Copy, PartialEq, Eq)]
+pub struct Refusal {
+    pub number: u32,
+    pub detail: u32,
+    pub value: i64,
+}
+
+/// What `encode` and `size` say.
+pub struct Answer {
+    pub words: Result<Vec<u16>, Refusal>,
+    pub size: Result<u32, Refusal>,
+}
+
+const OUTSIDE: Refusal = Refusal {
+    number: 1,
+    detail: 0,
+    value: 0,
+};
+
+pub fn answer(placed: &Placed) -> Answer {
+    if placed.outside {
+        return Answer {
+            words: Err(OUTSIDE),
+            size: Err(OUTSIDE),
+        };
+    }
+    Answer {
+        words: encode(&placed.instruction, placed.address).map_err(refusal),
+        size: size(&placed.instruction).map_err(refusal),
+    }
+}
+
+fn refusal(error: EncodeError) -> Refusal {
+    match error {
+        EncodeError::OutOfRange { field, value } => Refusal {
+            number: 2,
+            detail: field_number(field),
+            value,
+        },
+        EncodeError::NoEncoding { reason } => Refusal {
+            number: 3,
+            detail: reason_number(reason),
+            value: 0,
+        },
+    }
+}
+
+fn reason_number(reason: &str) -> u32 {
+    let place = REASONS.iter().position(|text| *text == reason);
+    place.expect("every reason is in the table") as u32 + 1
+}
+
+/// The answer to a line, without LF.
+pub fn answer_line(line: &[u8]) -> String {
+    match placed(line) {
+        Some(placed) => answer(&placed).text(),
+        None => NOT_IN_FORM.to_string(),
+    }
+}
+
+/// Whether `line` is in the form and `encode` accepts it.
+pub fn accepts(line: &str) -> bool {
+    placed(line.as_bytes()).is_some_and(|placed| answer(&placed).words.is_ok())
+}
+
+impl Answer {
+    pub fn text(&self) -> String {
+        let words = match &self.words {
+            Ok(words) => {
+                let words: Vec<String> = words.iter().map(|word| format!("{word:04X}")).collect();
+                words.join("\t")
+            }
+            Err(refusal) => refusal.text(),
+        };
+        let size = match &self.size {
+            Ok(size) => size.to_string(),
+            Err(refusal) => refusal.text(),
+        };
+        format!("{words}\t=>\t{size}")
+    }
+}
+
+impl Refusal {
+    fn text(&self) -> String {
+        format!("refused\t{}\t{}\t{}", self.number, self.detail, self.value)
+    }
+}
+
+/// The lines of an input; the last one may lack its LF.
+pub fn lines(input: &[u8]) -> Vec<&[u8]> {
+    let mut lines: Vec<&[u8]> = input.split(|byte| *byte == b'\n').collect();
+    if lines.last().is_some_and(|line| line.is_empty()) {
+        lines.pop();
+    }
+    lines
+}

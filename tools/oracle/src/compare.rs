@@ -1,0 +1,48 @@
+//! Answers compared line by line.
+
+const SHOWN: usize = 20;
+
+#[derive(Default)]
+pub struct Comparison {
+    pub compared: usize,
+    pub different: usize,
+}
+
+impl Comparison {
+    /// Compares the answers to one line; `asked` is the line, if known.
+    pub fn line(&mut self, asked: &[u8], expected: &[u8], found: &[u8]) {
+        self.compared += 1;
+        if expected == found {
+            return;
+        }
+        self.different += 1;
+        if self.different <= SHOWN {
+            println!("line {}: {:?}", self.compared, text(asked));
+            println!("    first  {:?}", text(expected));
+            println!("    second {:?}", text(found));
+        }
+    }
+
+    /// Compares two lists of answers, a missing line marked as such.
+    pub fn lists(&mut self, asked: &[&[u8]], expected: &[&[u8]], found: &[&[u8]]) {
+        for at in 0..expected.len().max(found.len()) {
+            self.line(
+                at_or_none(asked, at),
+                at_or_none(expected, at),
+                at_or_none(found, at),
+            );
+        }
+    }
+
+    pub fn report(&self) {
+        println!("{} compared, {} different", self.compared, self.different);
+    }
+}
+
+fn at_or_none<'l>(list: &[&'l [u8]], at: usize) -> &'l [u8] {
+    list.get(at).copied().unwrap_or(b"<no line>")
+}
+
+fn text(bytes: &[u8]) -> std::borrow::Cow<'_, str> {
+    String::from_utf8_lossy(bytes)
+}

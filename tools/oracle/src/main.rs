@@ -1,0 +1,148 @@
+//! Compares an encoder with the Rust original. README.md says how.
+
+mod answer;
+mod compare;
+mod coverage;
+mod draft;
+mod fill;
+mod generate;
+mod instructions;
+mod kinds;
+mod list;
+mod machine;
+mod malformed;
+mod manual;
+mod numeric;
+mod random;
+mod replay;
+mod schema;
+mod systematic;
+mod values;
+
+use std::error::Error;
+use std::io::{self, BufWriter, Read, Write};
+use std::process::ExitCode;
+use std::{env, fs};
+
+const USAGE: &str =
+    "oracle generate SEED COUNT | list SEED COUNT | answer | compare A B | coverage | manual
+       | replay PROGRAM SEED COUNT | places | reasons";
+
+fn main() -> ExitCode {
+    let arguments: Vec<String> = env::args().skip(1).collect();
+    let arguments: Vec<&str> = arguments.iter().map(String::as_str).collect();
+    match run(&arguments) {
+        Ok(0) => ExitCode::SUCCESS,
+        Ok(_) => ExitCode::FAILURE,
+        Err(error) => {
+            eprintln!("oracle: {error}");
+            ExitCode::FAILURE
+        }
+    }
+}
+
+/// Runs a command; gives the number of differences found.
+fn run(arguments: &[&str]) -> Result<usize, Box<dyn Error>> {
+    match arguments {
+        ["generate", seed, count] => generate(seed.parse()?, count.parse()?)?,
+        ["list", seed, count] => list::write(seed.parse()?, count.parse()?, &mut output())?,
+        ["answer"] => answer()?,
+        ["compare", first, second] => return compare(first, second),
+        ["coverage"] => coverage::report(&input()?),
+        ["manual"] => return Ok(manual::check()),
+        ["replay", program, seed, count] => {
+            let comparison = replay::replay(program, seed.parse()?, count.parse()?)?;
+            comparison.report();
+            return Ok(comparison.different);
+        }
+        ["places"] => places(),
+        ["reasons"] => reasons(),
+        _ => return Err(USAGE.into()),
+    }
+    Ok(0)
+}
+
+fn output() -> BufWriter<io::Stdout> {
+    BufWriter::new(io::stdout())
+}
+
+fn input() -> io::Result<Vec<u8>> {
+    let mut input = Vec::new();
+    io::stdin().read_to_end(&mut input)?;
+    Ok(input)
+}
+
+fn generate(seed: u64, count: usize) -> io::Result<()> {
+    let mut output = output();
+    for line in generate::lines(seed).take(count) {
+        writeln!(output, "{line}")?;
+    }
+    output.flush()
+}
+
+fn answer() -> io::Result<()> {
+    let mut output = output();
+    for line in answer::lines(&input()?) {
+        writeln!(output, "{}", answer::answer_line(line))?;
+    }
+    output.flush()
+}
+
+fn compare(first: &str, second: &str) -> Result<usize, Box<dyn Error>> {
+    let (first, second) = (fs::read(first)?, fs::read(second)?);
+    let mut comparison = compare::Comparison::default();
+    comparison.lists(&[], &answer::lines(&first), &answer::lines(&second));
+    comparison.report();
+    Ok(comparison.different)
+}
+
+/// The instructions by their places in the numeric form.
+fn places() {
+    for (place, variant) in schema::instructions().iter().enumerate() {
+        println!("{place}\t{}", variant.name);
+    }
+}
+
+fn reasons() {
+    for (place, text) in answer::REASONS.iter().enumerate() {
+        println!("{}\t{text}", place + 1);
+    }
+}
+
+#[cfg(test)]
+mod tests {
+    use super::*;
+
+    #[test]
+    fn worked_encodings_agree() {
+        assert_eq!(manual::check(), 0);
+    }
+
+    #[test]
+    fn lines_outside_the_form_are_refused() {
+        for line in malformed::lines().chain(malformed::raw_lines()) {
+            assert_eq!(answer::answer_line(line), answer::NOT_IN_FORM);
+        }
+    }
+
+    #[test]
+    fn the_ends_of_the_types_are_in_the_form() {
+        for line in [
+            "4294967295\t81",
+            "0\t23\t5\t-2147483648\t0\t255\t1",
+            "0\t23\t5\t2147483647\t0\t0\t1",
+            "0\t23\t10\t18446744073709551615\t1\t2",
+            "0\t23\t9\t255\t65535\t0\t0\t0",
+        ] {
+            assert!(numeric::placed(line.as_bytes()).is_some(), "{line}");
+        }
+    }
+
+    #[test]
+    fn generated_lines_are_in_the_form_and_read_back() {
+        for line in generate::lines(1).take(40_000) {
+            assert!(numeric::placed(line.as_bytes()).is_some(), "{line}");
+            assert_eq!(draft::Draft::of_line(&line).line(), line);
+        }
+    }
+}
