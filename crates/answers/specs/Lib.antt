@@ -1,0 +1,4 @@
+pub mod Answer
+pub mod AnswerLaws
+pub mod Answers
+pub mod AnswersLaws

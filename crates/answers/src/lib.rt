@@ -1,0 +1,160 @@
+// The answer to a line of the numeric form, written into a lent buffer.
+ghost use mathlib.Core.Path.{_≡_};
+ghost use Prim.Native.Nat.{_+_, _≤_};
+ghost use lib.ListN.{length, take};
+ghost use Rattle.text.specs.Written.{placed};
+ghost use Rattle.answers.specs.Answer.{Wrote, fieldText, refusedText, wordsText, encodedText, measuredText, resultText, notInForm, builtText, numbersText, numbersIn, answerOf};
+ghost use Rattle.answers.specs.Answers.{Answered};
+use fields::Numbers;
+use isa::Encoded;
+use isa::Measured;
+use numeric::Built;
+
+// A number and a tab.
+fn put_field(out: &mut [u8], at: usize, n: u8) -> usize
+    requires { ⌜ at + 20 ≤ length (now out) ⌝ }
+    ensures { λ r. ⌜ Wrote (now (out .entry)) at (fieldText n) (now (out .exit)) r × (r ≤ at + 4) ⌝ }
+{
+    let next = text::put_decimal(out, at, n as u64);
+    text::put_byte(out, next, b'\t')
+}
+
+// `refused`, number, detail and value.
+fn put_refusal(out: &mut [u8], at: usize, number: u8, detail: u8, value: i64) -> usize
+    requires { ⌜ at + 36 ≤ length (now out) ⌝ }
+    ensures { λ r. ⌜ Wrote (now (out .entry)) at (refusedText number detail value) (now (out .exit)) r × (r ≤ at + 36) ⌝ }
+{
+    let mut next = text::put(out, at, b"refused\t");
+    next = put_field(out, next, number);
+    next = put_field(out, next, detail);
+    text::put_signed(out, next, value)
+}
+
+// Each word, and a tab.
+fn put_words(out: &mut [u8], at: usize, words: [u16; 11], count: usize) -> usize
+    requires { ⌜ (at + 55 ≤ length (now out)) × (count ≤ 11) × (count ≤ length words) ⌝ }
+    ensures { λ r. ⌜ Wrote (now (out .entry)) at (wordsText (take count words)) (now (out .exit)) r × (r ≤ at + 55) ⌝ }
+{
+    let mut next = at;
+    let mut i: usize = 0;
+    while i < count {
+        next = text::put_hex4(out, next, words[i]);
+        next = text::put_byte(out, next, b'\t');
+        i += 1;
+    }
+    next
+}
+
+// The words or the refusal, and a tab.
+fn put_encoded(out: &mut [u8], at: usize, e: Encoded) -> usize
+    requires { ⌜ (at + 55 ≤ length (now out)) × (e .count ≤ 11) × (e .count ≤ length (e .words)) ⌝ }
+    ensures { λ r. ⌜ Wrote (now (out .entry)) at (encodedText e) (now (out .exit)) r × (r ≤ at + 55) ⌝ }
+{
+    if e.number == 0 {
+        let words = e.words;
+        return put_words(out, at, words, e.count);
+    }
+    let next = put_refusal(out, at, e.number, e.detail, e.value);
+    text::put_byte(out, next, b'\t')
+}
+
+// The size or the refusal.
+fn put_measured(out: &mut [u8], at: usize, m: Measured) -> usize
+    requires { ⌜ at + 36 ≤ length (now out) ⌝ }
+    ensures { λ r. ⌜ Wrote (now (out .entry)) at (measuredText m) (now (out .exit)) r × (r ≤ at + 36) ⌝ }
+{
+    if m.number == 0 {
+        return text::put_decimal(out, at, m.size as u64);
+    }
+    put_refusal(out, at, m.number, m.detail, m.value)
+}
+
+// The words, => and the size.
+fn put_result(out: &mut [u8], at: usize, e: Encoded, m: Measured) -> usize
+    requires { ⌜ (at + 95 ≤ length (now out)) × (e .count ≤ 11) × (e .count ≤ length (e .words)) ⌝ }
+    ensures { λ r. ⌜ Wrote (now (out .entry)) at (resultText e m) (now (out .exit)) r × (r ≤ at + 95) ⌝ }
+{
+    let mut next = put_encoded(out, at, e);
+    next = text::put(out, next, b"=>\t");
+    next = put_measured(out, next, m);
+    text::put_byte(out, next, b'\n')
+}
+
+fn put_not_in_form(out: &mut [u8], at: usize) -> usize
+    requires { ⌜ at + 37 ≤ length (now out) ⌝ }
+    ensures { λ r. ⌜ Wrote (now (out .entry)) at notInForm (now (out .exit)) r × (r ≤ at + 37) ⌝ }
+{
+    let next = put_refusal(out, at, 7, 0, 0);
+    text::put_byte(out, next, b'\n')
+}
+
+fn put_built(out: &mut [u8], at: usize, built: Built, address: u32) -> usize
+    requires { ⌜ at + 95 ≤ length (now out) ⌝ }
+    ensures { λ r. ⌜ Wrote (now (out .entry)) at (builtText built address) (now (out .exit)) r × (r ≤ at + 95) ⌝ }
+{
+    match built {
+        Built::Instruction(i) => put_result(out, at, m68k::encode(i, address), m68k::size(i)),
+        Built::NotInForm => put_not_in_form(out, at),
+    }
+}
+
+// The address, then the numbers of the instruction.
+fn put_numbers(out: &mut [u8], at: usize, numbers: Numbers) -> usize
+    requires { ⌜ at + 95 ≤ length (now out) ⌝ }
+    ensures { λ r. ⌜ Wrote (now (out .entry)) at (numbersText numbers) (now (out .exit)) r × (r ≤ at + 95) ⌝ }
+{
+    let address = fields::number::long_at(numbers, 0);
+    if address.ok {
+        put_built(out, at, numeric::build(numbers, 1), address.value)
+    } else {
+        put_not_in_form(out, at)
+    }
+}
+
+fn numbers_in(n: text::Numbers) -> Numbers
+    ensures { λ r. ⌜ r ≡ numbersIn n ⌝ }
+{
+    let negative = n.negative;
+    let magnitude = n.magnitude;
+    Numbers {
+        count: n.count,
+        negative,
+        magnitude,
+    }
+}
+
+// The answer to a line, from place `at` on; the next place.
+pub fn answer(line: &[u8], out: &mut [u8], at: usize) -> usize
+    requires { ⌜ at + 95 ≤ length (now out) ⌝ }
+    ensures { λ r. ⌜ (r ≡ at + length (answerOf (now (line .entry)))) × (now (out .exit) ≡ placed (now (out .entry)) at (answerOf (now (line .entry)))) × (r ≤ at + 95) ⌝ }
+{
+    let n = text::read_numbers(line);
+    if n.ok {
+        put_numbers(out, at, numbers_in(n))
+    } else {
+        put_not_in_form(out, at)
+    }
+}
+
+// The next place in the text, and how many bytes were written.
+pub struct Step {
+    pub next: usize,
+    pub count: usize,
+}
+
+// The answers to the lines from a place on, while the buffer has room.
+pub fn answers(text: &[u8], from: usize, out: &mut [u8]) -> Step
+    ensures { λ r. ⌜ Answered (now (text .entry)) from (now (out .entry)) (now (out .exit)) r ⌝ }
+{
+    let mut next = from;
+    let mut at: usize = 0;
+    while next < text.len() {
+        if out.len() - at < 128 {
+            return Step { next, count: at };
+        }
+        let e = text::line_end(text, next);
+        at = answer(&text[next..e], out, at);
+        next = e + 1;
+    }
+    Step { next, count: at }
+}
