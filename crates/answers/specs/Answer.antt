@@ -1,10 +1,8 @@
 -- What is printed for a line: the words, `=>` and the size, or refusals in their places.
-use mathlib.Core.Path.{_≡_}
 use mathlib.Core.List.{List, [], _∷_, _++_}
-use Prim.Native.Nat.{ℕ, _+_}
+use Prim.Native.Nat.{ℕ}
 use lib.Dec.{eqb}
-use lib.IntN.{ℤ, pos}
-use lib.ListN.{length, take}
+use lib.ListN.{take}
 use Rattle.isa.specs.declared.Encoded.{Encoded}
 use Rattle.isa.specs.declared.Measured.{Measured}
 use Rattle.isa.specs.ExtensionWord.{pick}
@@ -16,24 +14,8 @@ use Rattle.fields.specs.Number.{longAt}
 use Rattle.numeric.specs.Build.{buildOf}
 use Rattle.text.specs.declared.Numbers as read
 use Rattle.text.specs.Numbers.{numbersOf}
-use Rattle.text.specs.Written.{placed, hex4Of, decimalOf, signedOf}
-
--- t stands in buf from place `at` on, which makes it out; r is the next place
-pub record Wrote (buf : List ℕ) (at : ℕ) (t : List ℕ) (out : List ℕ) (r : ℕ) : Type 0 where
-  pub next : r ≡ at + length t
-  pub image : out ≡ placed buf at t
-
-abbrev pub tab : List ℕ
-tab = 9 ∷ []
-
--- a number and a tab
-abbrev pub fieldText : ℕ → List ℕ
-fieldText n = decimalOf n ++ tab
-
--- refused⇥number⇥detail⇥value
-unfoldable pub refusedText : ℕ → ℕ → ℤ → List ℕ
-refusedText number detail value =
-    (114 ∷ 101 ∷ 102 ∷ 117 ∷ 115 ∷ 101 ∷ 100 ∷ 9 ∷ []) ++ fieldText number ++ fieldText detail ++ signedOf value
+use Rattle.text.specs.Written.{hex4Of, decimalOf}
+use Rattle.lines.specs.Wrote.{tab, refusedText, notInForm}
 
 -- each word, and a tab
 abbrev pub wordsText : List ℕ → List ℕ
@@ -50,10 +32,6 @@ measuredText m = pick (eqb (m .number) 0) (decimalOf (m .size)) (refusedText (m 
 -- the words, => and the size
 unfoldable pub resultText : Encoded → Measured → List ℕ
 resultText e m = encodedText e ++ (61 ∷ 62 ∷ 9 ∷ []) ++ measuredText m ++ (10 ∷ [])
-
--- refused⇥7⇥0⇥0
-abbrev pub notInForm : List ℕ
-notInForm = refusedText 7 0 (pos 0) ++ (10 ∷ [])
 
 -- what is printed for an instruction at an address
 abbrev pub builtText : Built → ℕ → List ℕ

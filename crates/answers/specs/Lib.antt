@@ -1,4 +1,2 @@
 pub mod Answer
 pub mod AnswerLaws
-pub mod Answers
-pub mod AnswersLaws

@@ -3,32 +3,14 @@ ghost use mathlib.Core.Path.{_≡_};
 ghost use Prim.Native.Nat.{_+_, _≤_};
 ghost use lib.ListN.{length, take};
 ghost use Rattle.text.specs.Written.{placed};
-ghost use Rattle.answers.specs.Answer.{Wrote, fieldText, refusedText, wordsText, encodedText, measuredText, resultText, notInForm, builtText, numbersText, numbersIn, answerOf};
-ghost use Rattle.answers.specs.Answers.{Answered};
+ghost use Rattle.lines.specs.Wrote.{Wrote};
+ghost use Rattle.lines.specs.Lines.{Answered};
+ghost use Rattle.answers.specs.Answer.{wordsText, encodedText, measuredText, resultText, builtText, numbersText, numbersIn, answerOf};
 use fields::Numbers;
 use isa::Encoded;
 use isa::Measured;
+use lines::Step;
 use numeric::Built;
-
-// A number and a tab.
-fn put_field(out: &mut [u8], at: usize, n: u8) -> usize
-    requires { ⌜ at + 20 ≤ length (now out) ⌝ }
-    ensures { λ r. ⌜ Wrote (now (out .entry)) at (fieldText n) (now (out .exit)) r × (r ≤ at + 4) ⌝ }
-{
-    let next = text::put_decimal(out, at, n as u64);
-    text::put_byte(out, next, b'\t')
-}
-
-// `refused`, number, detail and value.
-fn put_refusal(out: &mut [u8], at: usize, number: u8, detail: u8, value: i64) -> usize
-    requires { ⌜ at + 36 ≤ length (now out) ⌝ }
-    ensures { λ r. ⌜ Wrote (now (out .entry)) at (refusedText number detail value) (now (out .exit)) r × (r ≤ at + 36) ⌝ }
-{
-    let mut next = text::put(out, at, b"refused\t");
-    next = put_field(out, next, number);
-    next = put_field(out, next, detail);
-    text::put_signed(out, next, value)
-}
 
 // Each word, and a tab.
 fn put_words(out: &mut [u8], at: usize, words: [u16; 11], count: usize) -> usize
@@ -54,7 +36,7 @@ fn put_encoded(out: &mut [u8], at: usize, e: Encoded) -> usize
         let words = e.words;
         return put_words(out, at, words, e.count);
     }
-    let next = put_refusal(out, at, e.number, e.detail, e.value);
+    let next = lines::put_refusal(out, at, e.number, e.detail, e.value);
     text::put_byte(out, next, b'\t')
 }
 
@@ -66,7 +48,7 @@ fn put_measured(out: &mut [u8], at: usize, m: Measured) -> usize
     if m.number == 0 {
         return text::put_decimal(out, at, m.size as u64);
     }
-    put_refusal(out, at, m.number, m.detail, m.value)
+    lines::put_refusal(out, at, m.number, m.detail, m.value)
 }
 
 // The words, => and the size.
@@ -80,21 +62,13 @@ fn put_result(out: &mut [u8], at: usize, e: Encoded, m: Measured) -> usize
     text::put_byte(out, next, b'\n')
 }
 
-fn put_not_in_form(out: &mut [u8], at: usize) -> usize
-    requires { ⌜ at + 37 ≤ length (now out) ⌝ }
-    ensures { λ r. ⌜ Wrote (now (out .entry)) at notInForm (now (out .exit)) r × (r ≤ at + 37) ⌝ }
-{
-    let next = put_refusal(out, at, 7, 0, 0);
-    text::put_byte(out, next, b'\n')
-}
-
 fn put_built(out: &mut [u8], at: usize, built: Built, address: u32) -> usize
     requires { ⌜ at + 95 ≤ length (now out) ⌝ }
     ensures { λ r. ⌜ Wrote (now (out .entry)) at (builtText built address) (now (out .exit)) r × (r ≤ at + 95) ⌝ }
 {
     match built {
         Built::Instruction(i) => put_result(out, at, m68k::encode(i, address), m68k::size(i)),
-        Built::NotInForm => put_not_in_form(out, at),
+        Built::NotInForm => lines::put_not_in_form(out, at),
     }
 }
 
@@ -107,7 +81,7 @@ fn put_numbers(out: &mut [u8], at: usize, numbers: Numbers) -> usize
     if address.ok {
         put_built(out, at, numeric::build(numbers, 1), address.value)
     } else {
-        put_not_in_form(out, at)
+        lines::put_not_in_form(out, at)
     }
 }
 
@@ -132,19 +106,13 @@ pub fn answer(line: &[u8], out: &mut [u8], at: usize) -> usize
     if n.ok {
         put_numbers(out, at, numbers_in(n))
     } else {
-        put_not_in_form(out, at)
+        lines::put_not_in_form(out, at)
     }
-}
-
-// The next place in the text, and how many bytes were written.
-pub struct Step {
-    pub next: usize,
-    pub count: usize,
 }
 
 // The answers to the lines from a place on, while the buffer has room.
 pub fn answers(text: &[u8], from: usize, out: &mut [u8]) -> Step
-    ensures { λ r. ⌜ Answered (now (text .entry)) from (now (out .entry)) (now (out .exit)) r ⌝ }
+    ensures { λ r. ⌜ Answered answerOf 128 (now (text .entry)) from (now (out .entry)) (now (out .exit)) r ⌝ }
 {
     let mut next = from;
     let mut at: usize = 0;

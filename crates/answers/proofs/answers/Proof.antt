@@ -5,21 +5,22 @@ use mathlib.Core.List.{_++_}
 use Prim.Native.Nat.{_+_, _*_, _-_, _≤_}
 use native.Mathlib.Omega.{arith}
 use lib.ListN.{length, take, drop}
-use Rattle.answers.specs.Answers.{answersOf, linesOf, stepOver, stepOf}
-use Rattle.answers.specs.AnswerLaws.{wrote}
-use Rattle.answers.specs.AnswersLaws.{answers-next, take-on, drop-on, step-start, step-on, step-full, step-end}
+use Rattle.lines.specs.Lines.{answersOf, linesOf, stepOver, stepOf}
+use Rattle.answers.specs.Answer.{answerOf}
+use Rattle.lines.specs.WroteLaws.{wrote}
+use Rattle.lines.specs.LinesLaws.{answers-next, take-on, drop-on, step-start, step-on, step-full, step-end}
 
 abbrev Inv-loop : tie.InvT-loop
 Inv-loop text from out₀ next₀ at₀ out next at =
     (at ≤ length out₀) × (length out ≡ length out₀) × (from ≤ next) × (at ≤ 95 * (next - from))
-    × (drop at out ≡ drop at out₀) × (answersOf (drop from text) ≡ take at out ++ answersOf (drop next text))
-    × (stepOf text from (length out₀) ≡ stepOver (linesOf (drop next text)) next (length out₀) at)
+    × (drop at out ≡ drop at out₀) × (answersOf answerOf (drop from text) ≡ take at out ++ answersOf answerOf (drop next text))
+    × (stepOf answerOf 128 text from (length out₀) ≡ stepOver answerOf 128 (linesOf (drop next text)) next (length out₀) at)
 
 abbrev μ-loop : tie.MeasureT-loop
 μ-loop text from out₀ next₀ at₀ out next at = length text - next
 
 loop-holds : tie.Need-loop-holds Inv-loop μ-loop
-loop-holds c = (omega arith, refl, omega arith, omega arith, refl, refl, step-start _ _ _)
+loop-holds c = (omega arith, refl, omega arith, omega arith, refl, refl, step-start answerOf 128 _ _ _)
 
 sub-if1 : tie.Need-sub-if1 Inv-loop μ-loop
 sub-if1 c = omega arith
@@ -32,7 +33,7 @@ returns c =
     let l = c .before .before .loop in
     let a = c .before .before .before .before .before .args in
     record {
-      step = sym (l .inv .6 ∙ step-full (linesOf (drop (l .next) (a .text .now))) (l .next) (length (a .out .now)) (l .at) (omega arith));
+      step = sym (l .inv .6 ∙ step-full answerOf 128 (linesOf (drop (l .next) (a .text .now))) (l .next) (length (a .out .now)) (l .at) (omega arith));
       all = l .inv .5;
       rest = l .inv .4;
       room = l .inv .0;
@@ -68,17 +69,17 @@ loop-again c =
     let text = a .text .now in
     let r = c .before .before .answer .ensures in
     let w = wrote (r .0, r .1) in
-    let here = answersOf (drop (l .next) text) in
-    let past = answersOf (drop (e .result + 1) text) in
-    let line = answers-next text (l .next) (e .result) (omega arith) (e .ensures .0) in
-    let more = take-on (answersOf (drop (a .from) text)) here past (l .inv .5) line w (omega arith) in (
+    let here = answersOf answerOf (drop (l .next) text) in
+    let past = answersOf answerOf (drop (e .result + 1) text) in
+    let line = answers-next answerOf text (l .next) (e .result) (omega arith) (e .ensures .0) in
+    let more = take-on (answersOf answerOf (drop (a .from) text)) here past (l .inv .5) line w (omega arith) in (
       omega arith,
       omega arith,
       omega arith,
       omega arith,
       drop-on (a .out .now) (l .inv .4) w (omega arith),
       more,
-      l .inv .6 ∙ step-on text (l .next) (e .result) (length (a .out .now)) (l .at) (c .before .before .answer .result) (omega arith) (e .ensures .0) (e .ensures .1) (omega arith) (r .0),
+      l .inv .6 ∙ step-on answerOf 128 text (l .next) (e .result) (length (a .out .now)) (l .at) (c .before .before .answer .result) (omega arith) (e .ensures .0) (e .ensures .1) (omega arith) (r .0),
     )
 
 same-length-2 : tie.Need-same-length-2 Inv-loop μ-loop
@@ -89,7 +90,7 @@ returns-2 c =
     let l = c .before .loop in
     let a = c .before .before .before .before .args in
     record {
-      step = sym (l .inv .6 ∙ step-end (a .text .now) (l .next) (length (a .out .now)) (l .at) (omega arith));
+      step = sym (l .inv .6 ∙ step-end answerOf 128 (a .text .now) (l .next) (length (a .out .now)) (l .at) (omega arith));
       all = l .inv .5;
       rest = l .inv .4;
       room = l .inv .0;

@@ -5,7 +5,7 @@ use native.Mathlib.Omega.{arith}
 use mir.Facts.{toZ-ofZ}
 use mir.Syntax.{w64}
 use borrow.Author.Tests.{eq-eqb, ne-eqb}
-use Rattle.answers.specs.AnswerLaws.{wrote, wrote-then}
+use Rattle.lines.specs.WroteLaws.{wrote, wrote-then}
 
 put-words-requires : tie.Need-put-words-requires
 put-words-requires c κs = search needs

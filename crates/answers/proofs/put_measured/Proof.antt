@@ -4,7 +4,7 @@ use Rattle.answers.proofs.put_measured.Tie as tie
 use native.Mathlib.Omega.{arith}
 use borrow.Author.Tests.{eq-eqb, ne-eqb}
 use Rattle.text.specs.WrittenLaws.{decimal-20}
-use Rattle.answers.specs.AnswerLaws.{wrote}
+use Rattle.lines.specs.WroteLaws.{wrote}
 use mir.Facts.{toZ-ofZ}
 use mir.Syntax.{w64}
 

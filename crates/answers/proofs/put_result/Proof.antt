@@ -3,7 +3,7 @@ use Rattle.answers.proofs.put_result.Statement.{statement}
 use Rattle.answers.proofs.put_result.Tie as tie
 use native.Mathlib.Omega.{arith}
 use Rattle.answers.specs.Answer.{resultText}
-use Rattle.answers.specs.AnswerLaws.{wrote, wrote-then}
+use Rattle.lines.specs.WroteLaws.{wrote, wrote-then}
 
 put-encoded-requires : tie.Need-put-encoded-requires
 put-encoded-requires c κs = search needs

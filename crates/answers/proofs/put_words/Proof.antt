@@ -4,8 +4,10 @@ use mathlib.Core.Path.{_≡_, refl}
 use Prim.Native.Nat.{_+_, _*_, _-_, _≤_}
 use native.Mathlib.Omega.{arith}
 use lib.ListN.{length, take}
-use Rattle.answers.specs.Answer.{Wrote, wordsText}
-use Rattle.answers.specs.AnswerLaws.{wrote, wrote-none, wrote-then, words-next}
+use Rattle.lines.specs.Wrote.{Wrote}
+use Rattle.answers.specs.Answer.{wordsText}
+use Rattle.lines.specs.WroteLaws.{wrote, wrote-none, wrote-then}
+use Rattle.answers.specs.AnswerLaws.{words-next}
 
 abbrev Inv-loop : tie.InvT-loop
 Inv-loop out₀ at count words next₀ i₀ out next i =

@@ -1,8 +1,8 @@
 use borrow.Author.Needs.{needs}
-use Rattle.answers.proofs.put_not_in_form.Statement.{statement}
-use Rattle.answers.proofs.put_not_in_form.Tie as tie
+use Rattle.lines.proofs.put_not_in_form.Statement.{statement}
+use Rattle.lines.proofs.put_not_in_form.Tie as tie
 use native.Mathlib.Omega.{arith}
-use Rattle.answers.specs.AnswerLaws.{wrote, wrote-then}
+use Rattle.lines.specs.WroteLaws.{wrote, wrote-then}
 
 put-refusal-requires : tie.Need-put-refusal-requires
 put-refusal-requires c κs = search needs

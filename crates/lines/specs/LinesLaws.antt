@@ -9,9 +9,9 @@ use lib.Seq.{take-at, drop-at, drop-drop}
 use lib.Dec.{eqb}
 use Rattle.text.specs.Parts.{before, partEnd, onto}
 use Rattle.text.specs.PartLaws.{part-is}
-use Rattle.answers.specs.Answer.{Wrote, answerOf}
+use Rattle.lines.specs.Wrote.{Wrote}
 use borrow.Author.Tests.{lt-ltb, le-ltb}
-use Rattle.answers.specs.Answers.{linesOf, answersTo, answersOf, stepOver, stepOf}
+use Rattle.lines.specs.Lines.{linesOf, answersTo, answersOf, stepOver, stepOf}
 
 lines-first : (b : ℕ) (bs : List ℕ) → linesOf (b ∷ bs) ≡ before 10 (b ∷ bs) ∷ linesOf (drop (suc (length (before 10 (b ∷ bs)))) (b ∷ bs))
 lines-first b [] = go (eqb b 10)
@@ -37,44 +37,46 @@ drop-all [] (suc n) h = refl
 drop-all (b ∷ bs) zero h = absurd (omega arith)
 drop-all (b ∷ bs) (suc n) h = drop-all bs n (omega arith)
 
-answers-first : (l : List ℕ) → 0 < length l → answersOf l ≡ answerOf (before 10 l) ++ answersOf (drop (suc (length (before 10 l))) l)
-unfolding answersOf
-answers-first [] h = absurd (omega arith)
-answers-first (b ∷ bs) h = ap answersTo (lines-first b bs)
-
--- the line that begins at `from`, and those past it
-pub answers-next : (text : List ℕ) (from e : ℕ) → from < length text → e ≡ partEnd 10 text from
-    → answersOf (drop from text) ≡ answerOf (take (e - from) (drop from text)) ++ answersOf (drop (e + 1) text)
-answers-next text from e h g =
-    let q : from + suc (length (before 10 (drop from text))) ≡ e + 1 = omega arith in
-    rw (part-is 10 text from e g, answers-first (drop from text) (omega (arith, length-drop from text)), drop-drop (suc (length (before 10 (drop from text)))) from text, q)
-
 pub lines-next : (text : List ℕ) (from e : ℕ) → from < length text → e ≡ partEnd 10 text from
     → linesOf (drop from text) ≡ take (e - from) (drop from text) ∷ linesOf (drop (e + 1) text)
 lines-next text from e h g =
     let q : from + suc (length (before 10 (drop from text))) ≡ e + 1 = omega arith in
     rw (part-is 10 text from e g, lines-of (drop from text) (omega (arith, length-drop from text)), drop-drop (suc (length (before 10 (drop from text)))) from text, q)
 
--- the walk goes on by one line, or stops
-pub step-on : (text : List ℕ) (from e room at r : ℕ) → from < length text → e ≡ partEnd 10 text from → e ≤ length text → 128 ≤ room - at
-    → r ≡ at + length (answerOf (take (e - from) (drop from text)))
-    → stepOver (linesOf (drop from text)) from room at ≡ stepOver (linesOf (drop (e + 1) text)) (e + 1) room r
-step-on text from e room at r h g m k f =
-    let b : from ≤ e = omega arith in
-    let n : length (take (e - from) (drop from text)) ≡ e - from = rw (length-take, length-drop) (omega arith) in
-    let q : from + (e - from) + 1 ≡ e + 1 = omega arith in
-    rw (lines-next text from e h g, le-ltb (room - at) 128 k, n, q, f)
+module _ (answer : List ℕ → List ℕ) where
+  answers-first : (l : List ℕ) → 0 < length l → answersOf answer l ≡ answer (before 10 l) ++ answersOf answer (drop (suc (length (before 10 l))) l)
+  unfolding answersOf
+  answers-first [] h = absurd (omega arith)
+  answers-first (b ∷ bs) h = ap (answersTo answer) (lines-first b bs)
 
-pub step-start : (text : List ℕ) (from room : ℕ) → stepOf text from room ≡ stepOver (linesOf (drop from text)) from room 0
-unfolding stepOf
-step-start text from room = refl
+  -- the line that begins at `from`, and those past it
+  pub answers-next : (text : List ℕ) (from e : ℕ) → from < length text → e ≡ partEnd 10 text from
+      → answersOf answer (drop from text) ≡ answer (take (e - from) (drop from text)) ++ answersOf answer (drop (e + 1) text)
+  answers-next text from e h g =
+      let q : from + suc (length (before 10 (drop from text))) ≡ e + 1 = omega arith in
+      rw (part-is 10 text from e g, answers-first (drop from text) (omega (arith, length-drop from text)), drop-drop (suc (length (before 10 (drop from text)))) from text, q)
 
-pub step-full : (ls : List (List ℕ)) (from room at : ℕ) → room - at < 128 → stepOver ls from room at ≡ record { next = from; count = at }
-step-full [] from room at h = refl
-step-full (l ∷ ls) from room at h = rw (lt-ltb (room - at) 128 h)
+  -- the walk goes on by one line, or stops
+  module _ (need : ℕ) where
+    pub step-on : (text : List ℕ) (from e room at r : ℕ) → from < length text → e ≡ partEnd 10 text from → e ≤ length text → need ≤ room - at
+        → r ≡ at + length (answer (take (e - from) (drop from text)))
+        → stepOver answer need (linesOf (drop from text)) from room at ≡ stepOver answer need (linesOf (drop (e + 1) text)) (e + 1) room r
+    step-on text from e room at r h g m k f =
+        let b : from ≤ e = omega arith in
+        let n : length (take (e - from) (drop from text)) ≡ e - from = rw (length-take, length-drop) (omega arith) in
+        let q : from + (e - from) + 1 ≡ e + 1 = omega arith in
+        rw (lines-next text from e h g, le-ltb (room - at) need k, n, q, f)
 
-pub step-end : (text : List ℕ) (from room at : ℕ) → length text ≤ from → stepOver (linesOf (drop from text)) from room at ≡ record { next = from; count = at }
-step-end text from room at h = rw (drop-all text from h)
+    pub step-start : (text : List ℕ) (from room : ℕ) → stepOf answer need text from room ≡ stepOver answer need (linesOf (drop from text)) from room 0
+    unfolding stepOf
+    step-start text from room = refl
+
+    pub step-full : (ls : List (List ℕ)) (from room at : ℕ) → room - at < need → stepOver answer need ls from room at ≡ record { next = from; count = at }
+    step-full [] from room at h = refl
+    step-full (l ∷ ls) from room at h = rw (lt-ltb (room - at) need h)
+
+    pub step-end : (text : List ℕ) (from room at : ℕ) → length text ≤ from → stepOver answer need (linesOf (drop from text)) from room at ≡ record { next = from; count = at }
+    step-end text from room at h = rw (drop-all text from h)
 
 -- a line's answer in its places
 module _ {buf out t : List ℕ} {at r : ℕ} (w : Wrote buf at t out r) (h : r ≤ length buf) where

@@ -1,8 +1,8 @@
 use borrow.Author.Needs.{needs}
-use Rattle.answers.proofs.put_field.Statement.{statement}
-use Rattle.answers.proofs.put_field.Tie as tie
+use Rattle.lines.proofs.put_field.Statement.{statement}
+use Rattle.lines.proofs.put_field.Tie as tie
 use native.Mathlib.Omega.{arith}
-use Rattle.answers.specs.AnswerLaws.{wrote, wrote-then, byte-digits}
+use Rattle.lines.specs.WroteLaws.{wrote, wrote-then, byte-digits}
 
 put-decimal-requires : tie.Need-put-decimal-requires
 put-decimal-requires c κs = search needs

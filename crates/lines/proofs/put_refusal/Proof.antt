@@ -1,11 +1,11 @@
 use borrow.Author.Needs.{needs}
-use Rattle.answers.proofs.put_refusal.Statement.{statement}
-use Rattle.answers.proofs.put_refusal.Tie as tie
+use Rattle.lines.proofs.put_refusal.Statement.{statement}
+use Rattle.lines.proofs.put_refusal.Tie as tie
 use native.Mathlib.Omega.{arith}
 use mir.Facts.{toZ-ofZ}
 use mir.Syntax.{w64}
-use Rattle.answers.specs.Answer.{refusedText}
-use Rattle.answers.specs.AnswerLaws.{wrote, wrote-then, signed-20}
+use Rattle.lines.specs.Wrote.{refusedText}
+use Rattle.lines.specs.WroteLaws.{wrote, wrote-then, signed-20}
 
 slice-aggregate-put : tie.Need-slice-aggregate-put
 slice-aggregate-put c = search needs

@@ -1,0 +1,4 @@
+pub mod Wrote
+pub mod WroteLaws
+pub mod Lines
+pub mod LinesLaws
