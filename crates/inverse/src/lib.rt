@@ -1,0 +1,1 @@
+// Laws only: what the reader reads is what the encoder writes.

@@ -1,0 +1,13 @@
+pub mod Tree
+pub mod At
+pub mod Number
+pub mod Operand
+pub mod Layout
+pub mod Plain
+pub mod LeftOut
+pub mod Map
+pub mod Operation
+pub mod Layouts
+pub mod Formed
+pub mod Read
+pub mod Depth

@@ -1,0 +1,117 @@
+-- What the fields of an operation word name (the manual, section 4, each instruction's format).
+use Prim.Native.Nat.{ℕ, _-_, _/_, _%_}
+use mathlib.Core.Bool.{Bool, _&&_, _||_}
+use mathlib.Core.List.{[], _∷_}
+use lib.Dec.{eqb, ltb}
+use lib.ListN.{getD}
+use Rattle.isa.specs.declared.Size.{Size}
+use Rattle.isa.specs.declared.Size.the-variants.{Byte, Word, Long}
+use Rattle.isa.specs.declared.Sign.{Sign}
+use Rattle.isa.specs.declared.Sign.the-variants.{Signed, Unsigned}
+use Rattle.isa.specs.declared.TargetDirection.{TargetDirection}
+use Rattle.isa.specs.declared.TargetDirection.the-variants.{ToMemory, FromMemory}
+use Rattle.isa.specs.declared.ShiftDirection.{ShiftDirection}
+use Rattle.isa.specs.declared.ShiftDirection.the-variants.{Right, Left}
+use Rattle.isa.specs.declared.FieldValue.{FieldValue}
+use Rattle.isa.specs.declared.FieldValue.the-variants as value
+use Rattle.isa.specs.declared.BitFieldOperation.{BitFieldOperation}
+use Rattle.isa.specs.declared.BitFieldOperation.the-variants.{Test, ExtractUnsigned, Change, ExtractSigned, Clear, FindFirstOne, Set, Insert}
+use Rattle.isa.specs.declared.TrapOperand.{TrapOperand}
+use Rattle.isa.specs.declared.TrapOperand.the-variants as trap
+use Rattle.isa.specs.declared.RegisterOperand.the-variants.{Data}
+use Rattle.isa.specs.declared.Operand.{Operand}
+use Rattle.isa.specs.declared.Operand.the-variants.{Immediate, Register, PreIndirect}
+use Rattle.isa.specs.declared.RegisterOperation.{RegisterOperation}
+use Rattle.isa.specs.declared.RegisterOperation.the-variants.{ADDA, SUBA, CMPA}
+use Rattle.isa.specs.declared.PairOperation.{PairOperation}
+use Rattle.isa.specs.declared.PairOperation.the-variants.{ADD, SUB, ADDX, SUBX, OR, AND}
+use Rattle.isa.specs.declared.ImmediateOperation.{ImmediateOperation}
+use Rattle.isa.specs.declared.ImmediateOperation.the-variants.{ADDI, SUBI, ANDI, ORI, EORI, CMPI}
+use Rattle.isa.specs.declared.StatusOperation.{StatusOperation}
+use Rattle.isa.specs.declared.StatusOperation.the-variants.{ANDItoSR, ORItoSR, EORItoSR}
+use Rattle.isa.specs.declared.ConditionCodeOperation.{ConditionCodeOperation}
+use Rattle.isa.specs.declared.ConditionCodeOperation.the-variants.{ANDItoCCR, ORItoCCR, EORItoCCR}
+use Rattle.isa.specs.declared.UnsizedOneOperation.{UnsizedOneOperation}
+use Rattle.isa.specs.declared.UnsizedOneOperation.the-variants.{JSR, JMP, TAS, MOVEtoCCR, MOVEfromCCR, MOVEtoSR, MOVEfromSR}
+use Rattle.isa.specs.declared.UnsizedPairOperation.{UnsizedPairOperation}
+use Rattle.isa.specs.declared.UnsizedPairOperation.the-variants.{BTST, BCLR, BSET, BCHG}
+use Rattle.isa.specs.declared.OneOperation.{OneOperation}
+use Rattle.isa.specs.declared.OneOperation.the-variants.{CLR, NEG, NEGX, NOT, TST}
+use Rattle.isa.specs.declared.ShiftOperation.{ShiftOperation}
+use Rattle.isa.specs.declared.ShiftOperation.the-variants.{ASd, ROd, LSd, ROXd}
+use Rattle.isa.specs.ExtensionWord.{pick}
+
+-- the size field: 00 byte, 01 word, 10 long
+abbrev pub sizeAt : ℕ → Size
+sizeAt k = getD (Byte ∷ Word ∷ Long ∷ []) k Byte
+
+-- the lines 0001, 0010 and 0011 of MOVE
+abbrev pub moveSize : ℕ → Size
+moveSize line = getD (Byte ∷ Byte ∷ Long ∷ Word ∷ []) line Byte
+
+abbrev pub signAt : ℕ → Sign
+signAt k = pick (eqb k 1) Signed Unsigned
+
+-- bits 11 to 9 of ORI, ANDI, SUBI, ADDI, EORI and CMPI
+abbrev pub immediateAt : ℕ → ImmediateOperation
+immediateAt x = getD (ORI ∷ ANDI ∷ SUBI ∷ ADDI ∷ CMPI ∷ EORI ∷ CMPI ∷ []) x CMPI
+
+-- ORI, ANDI and EORI have forms to CCR and SR, where an immediate destination would stand
+abbrev pub toStatus : ℕ → ℕ → ℕ → Bool
+toStatus x opmode ea = eqb ea 60 && ltb opmode 2 && (ltb x 2 || eqb x 5)
+
+abbrev pub conditionCodeAt : ℕ → ConditionCodeOperation
+conditionCodeAt x = getD (ORItoCCR ∷ ANDItoCCR ∷ []) x EORItoCCR
+
+abbrev pub statusAt : ℕ → StatusOperation
+statusAt x = getD (ORItoSR ∷ ANDItoSR ∷ []) x EORItoSR
+
+abbrev pub bitAt : ℕ → UnsizedPairOperation
+bitAt k = getD (BTST ∷ BCHG ∷ BCLR ∷ BSET ∷ []) k BTST
+
+abbrev pub toMemoryAt : ℕ → TargetDirection
+toMemoryAt k = pick (eqb k 1) ToMemory FromMemory
+
+abbrev pub oneAt : ℕ → OneOperation
+oneAt x = getD (NEGX ∷ CLR ∷ NEG ∷ NOT ∷ []) x TST
+
+abbrev pub unsizedAt : ℕ → ℕ → UnsizedOneOperation
+unsizedAt x opmode = pick (eqb opmode 2) JSR (getD (MOVEfromSR ∷ MOVEfromCCR ∷ MOVEtoCCR ∷ MOVEtoSR ∷ JMP ∷ TAS ∷ []) x JMP)
+
+-- a count of 1 to 8, 8 coded 0
+abbrev pub countAt : ℕ → ℕ
+countAt x = pick (eqb x 0) 8 x
+
+abbrev pub pairAt : ℕ → PairOperation
+pairAt line = getD (OR ∷ SUB ∷ OR ∷ OR ∷ AND ∷ ADD ∷ []) (line - 8) OR
+
+abbrev pub extendAt : ℕ → PairOperation
+extendAt line = pick (eqb line 9) SUBX ADDX
+
+abbrev pub addressAt : ℕ → RegisterOperation
+addressAt line = getD (ADDA ∷ SUBA ∷ ADDA ∷ CMPA ∷ ADDA ∷ ADDA ∷ []) (line - 8) ADDA
+
+-- Dy or -(Ay), which bit 3 says
+abbrev pub eitherAt : ℕ → ℕ → Operand
+eitherAt ea k = pick (ltb ea 8) (Register (Data k)) (PreIndirect k)
+
+abbrev pub shiftAt : ℕ → ShiftOperation
+shiftAt k = getD (ASd ∷ LSd ∷ ROXd ∷ ROd ∷ []) k ASd
+
+abbrev pub directionAt : ℕ → ShiftDirection
+directionAt k = pick (eqb k 1) Left Right
+
+-- the count of a shift in bits 11 to 9: a register where i/r says so
+abbrev pub shiftCount : ℕ → ℕ → Operand
+shiftCount ea x = pick (eqb (ea / 32) 1) (Register (Data x)) (Immediate (countAt x))
+
+-- bits 10 to 8 of a bit-field instruction
+abbrev pub bitFieldAt : ℕ → BitFieldOperation
+bitFieldAt k = getD (Test ∷ ExtractUnsigned ∷ Change ∷ ExtractSigned ∷ Clear ∷ FindFirstOne ∷ Set ∷ Insert ∷ []) k Test
+
+abbrev pub valueAt : ℕ → FieldValue
+valueAt n = pick (eqb (n / 32) 1) (value.Register (n % 8)) (value.Immediate (n % 32))
+
+-- the operand of TRAPcc: 010 a word, 011 a long, 100 none
+abbrev pub trapAt : ℕ → ℕ → TrapOperand
+trapAt ea v = pick (eqb ea 58) (trap.Word (v % 65536)) (pick (eqb ea 59) (trap.Long v) trap.None)

@@ -1,0 +1,1 @@
+// Laws alone: the reader against the encoder, instruction by instruction.
