@@ -1,4 +1,4 @@
-// The encoder's entry points: from an instruction and an address to words, to bytes, and to a size.
+// The entry points: from an instruction and an address to words, to bytes and to a size, and from words and an address to an instruction.
 ghost use mathlib.Core.Path.{_≡_};
 ghost use mathlib.Core.Bool.{true, false};
 ghost use mathlib.Core.List.{_++_};
@@ -7,9 +7,11 @@ ghost use lib.ListN.{length, take, drop};
 ghost use Rattle.isa.specs.Encode.{encodedAs, refusalOf, wordsOf, encodeOf, sizeOf, bytesOf, lentOf, bytesIn};
 ghost use Rattle.state.specs.Laws.{finished};
 ghost use Rattle.m68k.specs.Laws.{measured};
+ghost use Rattle.opcode.specs.Read.{readOf};
 use isa::Encoded;
 use isa::Instruction;
 use isa::Measured;
+use opcode::Reading;
 use state::Encoder;
 
 // The words, or the refusal without words.
@@ -116,4 +118,11 @@ pub fn encode_bytes(instruction: Instruction, address: u32, lent: &mut [u8]) -> 
     let words = e.words;
     put_bytes(lent, words, count);
     measure(e)
+}
+
+// The instruction that words at an address begin with, in plain form, and its length in bytes.
+pub fn read(words: &[u16], address: u32) -> Reading
+    ensures { λ r. ⌜ r ≡ readOf (now (words .entry)) address ⌝ }
+{
+    reader::read(words, address)
 }

@@ -1,0 +1,60 @@
+use borrow.Author.Needs.{needs}
+use mathlib.Core.Path.{_∙_}
+use Prim.Native.Nat.{_/_, _%_}
+use denote.Ref.{now}
+use Rattle.opcode.specs.Tree.{runAt}
+use Rattle.opcode.specs.Map.{shapeOf}
+use Rattle.opcode.specs.Layout.{fieldsTree}
+use Rattle.opcode.specs.Layouts.{layoutOf}
+use Rattle.reader.specs.ReadAt.{formed-as, followingAt}
+use Rattle.reader.proofs.read_word.Statement.{statement}
+use Rattle.reader.proofs.read_word.Tie as tie
+
+cast-line : tie.Need-cast-line
+cast-line c = search needs
+
+cast-x : tie.Need-cast-x
+cast-x c = search needs
+
+cast-opmode : tie.Need-cast-opmode
+cast-opmode c = search needs
+
+cast-ea : tie.Need-cast-ea
+cast-ea c = search needs
+
+shape-requires : tie.Need-shape-requires
+shape-requires c κs = search needs
+
+layout-requires : tie.Need-layout-requires
+layout-requires c κs = search needs
+
+follow-requires : tie.Need-follow-requires
+follow-requires c κs = search needs
+
+formed-requires : tie.Need-formed-requires
+formed-requires c κs = search needs
+
+returns : tie.Need-returns
+unfolding followingAt
+returns c =
+    let a = c .before .before .before .before .before .args in
+    let w = a .w in
+    let s = shapeOf (w / 64) in
+    let t = runAt (fieldsTree (layoutOf s (w / 4096) (w / 512 % 8) (w / 64 % 8) (w % 64))) (a .address) (now (a .words)) 1 in
+    c .formed .ensures
+    ∙ rw (c .before .follow .ensures, c .before .before .layout .ensures, c .before .before .before .shape .ensures)
+    (formed-as (a .address) s (w / 4096) (w / 512 % 8) (w / 64 % 8) (w % 64) t)
+
+pub read-word-spec : {M : Type 1} → statement M
+read-word-spec =
+    tie.close
+    (tie.spec
+    cast-line
+    cast-x
+    cast-opmode
+    cast-ea
+    shape-requires
+    layout-requires
+    follow-requires
+    formed-requires
+    returns)
