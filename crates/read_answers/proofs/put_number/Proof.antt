@@ -1,0 +1,31 @@
+use Rattle.text.specs.WrittenLaws.{decimal-20}
+use Rattle.lines.specs.WroteLaws.{wrote, wrote-then}
+use native.Mathlib.Omega.{arith}
+use borrow.Author.Needs.{needs}
+use Rattle.read_answers.proofs.put_number.Statement.{statement}
+use Rattle.read_answers.proofs.put_number.Tie as tie
+
+put-sign-requires : tie.Need-put-sign-requires
+put-sign-requires c κs = search needs
+
+put-decimal-requires : tie.Need-put-decimal-requires
+put-decimal-requires c κs = search needs
+
+put-byte-requires : tie.Need-put-byte-requires
+put-byte-requires c κs = omega (arith, decimal-20 (c .before .before .before .before .before .before .before .before .before .before .args .magnitude) (omega arith))
+
+same-length : tie.Need-same-length
+same-length c = search needs
+
+returns : tie.Need-returns
+returns c =
+    let a = c .before .before .before .before .before .before .before .before .before .before .before .before .before .args in
+    let d = decimal-20 (a .magnitude) (omega arith) in
+    let sign = c .before .before .before .before .before .before .before .before .before .before .put-sign .ensures .0 in
+    let number = wrote (c .before .before .before .before .before .before .put-decimal .ensures) in
+    (wrote-then (wrote-then sign number (omega arith)) (wrote (c .before .before .put-byte .ensures)) (omega arith), omega arith)
+
+pub put-number-spec : {M : Type 1} → statement M
+put-number-spec =
+    tie.close
+    (tie.spec put-sign-requires put-decimal-requires put-byte-requires same-length returns)

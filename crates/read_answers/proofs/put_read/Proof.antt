@@ -1,0 +1,48 @@
+use Rattle.read_answers.specs.Put.{putText}
+use Rattle.text.specs.WrittenLaws.{decimal-20}
+use Rattle.lines.specs.WroteLaws.{wrote, wrote-then}
+use native.Mathlib.Omega.{arith}
+use borrow.Author.Needs.{needs}
+use Rattle.read_answers.proofs.put_read.Statement.{statement}
+use Rattle.read_answers.proofs.put_read.Tie as tie
+
+put-numbers-requires : tie.Need-put-numbers-requires
+put-numbers-requires c κs = search needs
+
+slice-aggregate-put : tie.Need-slice-aggregate-put
+slice-aggregate-put c = search needs
+
+put-requires : tie.Need-put-requires
+put-requires c κs = search needs
+
+put-decimal-requires : tie.Need-put-decimal-requires
+put-decimal-requires c κs = search needs
+
+put-byte-requires : tie.Need-put-byte-requires
+put-byte-requires c κs = omega (arith, decimal-20 (c .before .before .before .before .before .before .before .before .before .before .before .before .before .before .before .args .bytes) (omega arith))
+
+same-length : tie.Need-same-length
+same-length c = search needs
+
+returns : tie.Need-returns
+unfolding putText
+returns c =
+    let a = c .before .before .before .before .before .before .before .before .before .before .before .before .before .before .before .before .before .before .args in
+    let d = decimal-20 (a .bytes) (omega arith) in
+    let numbers = c .before .before .before .before .before .before .before .before .before .before .before .before .before .before .before .put-numbers .ensures .0 in
+    let arrow = wrote (c .before .before .before .before .before .before .before .before .before .before .put .ensures) in
+    let size = wrote (c .before .before .before .before .before .before .put-decimal .ensures) in
+    let end = wrote (c .before .before .put-byte .ensures) in
+    (wrote-then (wrote-then (wrote-then numbers arrow (omega arith)) size (omega arith)) end (omega arith), omega arith)
+
+pub put-read-spec : {M : Type 1} → statement M
+put-read-spec =
+    tie.close
+    (tie.spec
+    put-numbers-requires
+    slice-aggregate-put
+    put-requires
+    put-decimal-requires
+    put-byte-requires
+    same-length
+    returns)

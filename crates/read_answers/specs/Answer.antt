@@ -1,0 +1,40 @@
+-- What is printed for a line: the numbers of the instruction that its words read as, `=>` and the length in bytes, or a refusal.
+use mathlib.Core.Bool.{cond}
+use mathlib.Core.List.{List, [], _∷_, _++_}
+use Prim.Native.Nat.{ℕ}
+use lib.IntN.{ℤ, pos}
+use lib.ListN.{take}
+use Rattle.text.specs.Written.{decimalOf, signedOf}
+use Rattle.lines.specs.Wrote.{tab, refusedText, notInForm}
+use Rattle.numeric.specs.Form.{numbersOf}
+use Rattle.opcode.specs.declared.Reading.{Reading}
+use Rattle.opcode.specs.declared.Reading.the-variants.{Read, Short, Nothing}
+use Rattle.opcode.specs.Read.{readOf, readingNumber}
+use Rattle.runs.specs.declared.Run.{Run}
+use Rattle.runs.specs.Run.{runOf}
+
+-- each number, and a tab
+abbrev pub numbersText : List ℤ → List ℕ
+numbersText [] = []
+numbersText (z ∷ zs) = signedOf z ++ tab ++ numbersText zs
+
+-- the numbers, => and the length
+unfoldable pub readText : List ℤ → ℕ → List ℕ
+readText zs n = numbersText zs ++ (61 ∷ 62 ∷ 9 ∷ []) ++ decimalOf n ++ (10 ∷ [])
+
+-- refused⇥number⇥0⇥0
+abbrev pub refusalText : ℕ → List ℕ
+refusalText number = refusedText number 0 (pos 0) ++ (10 ∷ [])
+
+abbrev pub readingText : Reading → List ℕ
+readingText (Read i n) = readText (numbersOf i) n
+readingText Short = refusalText (readingNumber Short)
+readingText Nothing = refusalText (readingNumber Nothing)
+
+-- for a run that is in the form
+unfoldable pub runText : Run → List ℕ
+runText r = readingText (readOf (take (r .count) (r .words)) (r .address))
+
+-- for a line
+unfoldable pub readAnswerOf : List ℕ → List ℕ
+readAnswerOf line = let r = runOf line in cond (r .ok) (runText r) notInForm

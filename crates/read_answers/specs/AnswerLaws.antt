@@ -1,0 +1,96 @@
+-- Laws of what is printed. Assumes nothing.
+use mathlib.Core.Path.{_≡_, refl, sym, ap, _∙_}
+use mathlib.Core.Bool.{Bool, true, false, cond}
+use mathlib.Core.List.{List, [], _∷_, _++_, map, append-assoc, append-nil, map-append}
+use Prim.Native.Nat.{ℕ, zero, suc, _+_, _≤_, _<_}
+use native.Mathlib.Omega.{arith}
+use native.Mathlib.Numerals.{add-one}
+use lib.IntN.{ℤ, pos, negsuc, natAbs}
+use lib.ListN.{length, take, getD, List·getD-map}
+use lib.Seq.{take-suc, take-length}
+use Rattle.isa.specs.declared.Instruction.{Instruction}
+use Rattle.text.specs.Written.{decimalOf, signedOf}
+use Rattle.lines.specs.Wrote.{tab, notInForm}
+use Rattle.fields.specs.declared.Numbers.{Numbers}
+use Rattle.fields.specs.Form.{Entry, unsigned, numberOf, isNegative, pad, numbersFrom}
+use Rattle.numeric.specs.Form.{formOf, numbersOf}
+use Rattle.numeric.specs.RoundTrip.{form-length}
+use Rattle.runs.specs.declared.Run.{Run}
+use Rattle.runs.specs.Run.{runOf}
+use Rattle.runs.specs.RunLaws.{run-count, run-places}
+use Rattle.read_answers.specs.Answer.{numbersText, readText, runText, readAnswerOf}
+use Rattle.read_answers.specs.Put.{numberText, firstNumbers, putText}
+
+cond-true : (t : Bool) (a b : List ℕ) → t ≡ true → cond t a b ≡ a
+cond-true t a b e = rw e
+
+cond-false : (t : Bool) (a b : List ℕ) → t ≡ false → cond t a b ≡ b
+cond-false t a b e = rw e
+
+-- one number more
+pub first-next : (ns : Numbers) (i : ℕ) → firstNumbers ns (i + 1) ≡ firstNumbers ns i ++ numberText (getD (ns .negative) i false) (getD (ns .magnitude) i 0)
+first-next ns i = rw add-one
+
+number-text : (z : ℤ) → numberText (isNegative z) (natAbs z) ≡ signedOf z ++ tab
+number-text (pos n) = refl
+number-text (negsuc n) = refl
+
+getD-pad : {A : Type 0} (n : ℕ) (d : A) (xs : List A) (k : ℕ) → k < n → getD (pad n d xs) k d ≡ getD xs k d
+getD-pad zero d xs k h = absurd (omega arith)
+getD-pad (suc n) d [] zero h = refl
+getD-pad (suc n) d [] (suc k) h = getD-pad n d [] k (omega arith)
+getD-pad (suc n) d (x ∷ xs) zero h = refl
+getD-pad (suc n) d (x ∷ xs) (suc k) h = getD-pad n d xs k (omega arith)
+
+text-more : (zs : List ℤ) (z : ℤ) → numbersText (zs ++ (z ∷ [])) ≡ numbersText zs ++ (signedOf z ++ tab)
+text-more [] z = append-nil (signedOf z ++ tab)
+text-more (y ∷ zs) z =
+    ap (λ (t : List ℕ). signedOf y ++ tab ++ t) (text-more zs z) ∙ sym (append-assoc (signedOf y ++ tab) (numbersText zs) (signedOf z ++ tab))
+
+-- entry k as it is held
+module _ (es : List Entry) (k : ℕ) (h : k < 24) where
+  held : numberText (getD (numbersFrom es .negative) k false) (getD (numbersFrom es .magnitude) k 0) ≡ signedOf (numberOf (getD es k (unsigned 0 0))) ++ tab
+  unfolding numbersFrom
+  held =
+      (λ i. numberText (n i) (m i)) ∙ number-text (numberOf (getD es k (unsigned 0 0)))
+    where
+      n : getD (pad 24 false (map (λ e. isNegative (numberOf e)) es)) k false ≡ isNegative (numberOf (getD es k (unsigned 0 0)))
+      n = getD-pad 24 false (map (λ e. isNegative (numberOf e)) es) k h ∙ List·getD-map (λ e. isNegative (numberOf e)) es k (unsigned 0 0)
+
+      m : getD (pad 24 0 (map (λ e. natAbs (numberOf e)) es)) k 0 ≡ natAbs (numberOf (getD es k (unsigned 0 0)))
+      m = getD-pad 24 0 (map (λ e. natAbs (numberOf e)) es) k h ∙ List·getD-map (λ e. natAbs (numberOf e)) es k (unsigned 0 0)
+
+first-text : (es : List Entry) (k : ℕ) → k ≤ length es → k ≤ 24 → firstNumbers (numbersFrom es) k ≡ numbersText (map numberOf (take k es))
+first-text es zero h g = refl
+first-text es (suc k) h g =
+    let d = unsigned 0 0 in
+    rw (first-text es k (omega arith) (omega arith), held es k (omega arith), take-suc es k d h, map-append numberOf (take k es) (getD es k d ∷ []))
+    (sym (text-more (map numberOf (take k es)) (numberOf (getD es k d))))
+
+count-is : (es : List Entry) → numbersFrom es .count ≡ length es
+unfolding numbersFrom
+count-is es = refl
+
+all-text : (es : List Entry) → length es ≤ 24 → firstNumbers (numbersFrom es) (numbersFrom es .count) ≡ numbersText (map numberOf es)
+all-text es h =
+    ap (firstNumbers (numbersFrom es)) (count-is es) ∙ first-text es (length es) (omega arith) h
+    ∙ ap (λ (l : List Entry). numbersText (map numberOf l)) (take-length es)
+
+pub put-text : (i : Instruction) (ns : Numbers) (n : ℕ) → ns ≡ numbersFrom (formOf i) → putText ns n ≡ readText (numbersOf i) n
+unfolding putText readText numbersOf
+put-text i ns n e =
+    ap (λ (t : List ℕ). t ++ (61 ∷ 62 ∷ 9 ∷ []) ++ decimalOf n ++ (10 ∷ []))
+    (ap (λ (m : Numbers). firstNumbers m (m .count)) e ∙ all-text (formOf i) (omega (arith, form-length i)))
+
+-- ---- the form
+module _ (line : List ℕ) (r : Run) (e : r ≡ runOf line) where
+  pub answer-yes : r .ok ≡ true → readAnswerOf line ≡ runText r
+  unfolding readAnswerOf
+  answer-yes h = cond-true (runOf line .ok) _ _ (rw (sym e) h) ∙ rw e
+
+  pub answer-no : r .ok ≡ false → readAnswerOf line ≡ notInForm
+  unfolding readAnswerOf
+  answer-no h = cond-false (runOf line .ok) _ _ (rw (sym e) h)
+
+  pub run-room : (r .count ≤ 16) × (r .count ≤ length (r .words))
+  run-room = rw e (run-count line, omega (arith, run-count line, run-places line))

@@ -1,0 +1,5 @@
+pub mod Answer
+pub mod Put
+pub mod AnswerLaws
+pub mod Examples
+pub mod Whole

@@ -1,0 +1,49 @@
+-- The answer speaks of all the words of a line, though only the first 16 are kept.
+use mathlib.Core.Path.{_≡_, refl, ap, _∙_}
+use mathlib.Core.Bool.{Bool, true, false, cond, _&&_}
+use mathlib.Core.List.{List, [], _∷_}
+use Prim.Native.Nat.{ℕ}
+use lib.ListN.{take}
+use Rattle.text.specs.Parts.{fields}
+use Rattle.text.specs.Number.{numberOf}
+use Rattle.text.specs.Numbers.{magnitudeOf}
+use Rattle.lines.specs.Wrote.{notInForm}
+use Rattle.opcode.specs.Read.{readOf}
+use Rattle.reads.specs.Kept.{read-kept}
+use Rattle.runs.specs.Run.{isAddress, allWords, wordsIn, keptRun, noRun, runIn, runOf}
+use Rattle.runs.specs.RunLaws.{kept-words}
+use Rattle.read_answers.specs.Answer.{readingText, runText, readAnswerOf}
+
+-- the fields of a line: an address, then words
+abbrev pub answerTo : List (List ℕ) → List ℕ
+answerTo [] = notInForm
+answerTo (f ∷ fs) = cond (isAddress (numberOf f) && allWords fs) (readingText (readOf (wordsIn fs) (magnitudeOf (numberOf f)))) notInForm
+
+kept-address : (a : ℕ) (ws : List ℕ) → readOf (take 16 ws) (keptRun a ws .address) ≡ readOf ws a
+unfolding keptRun
+kept-address a ws = read-kept ws a
+
+kept-text : (a : ℕ) (ws : List ℕ) → runText (keptRun a ws) ≡ readingText (readOf ws a)
+unfolding runText
+kept-text a ws = ap readingText (ap (λ (us : List ℕ). readOf us (keptRun a ws .address)) (kept-words a ws) ∙ kept-address a ws)
+
+kept-ok : (a : ℕ) (ws : List ℕ) → cond (keptRun a ws .ok) (runText (keptRun a ws)) notInForm ≡ runText (keptRun a ws)
+unfolding keptRun
+kept-ok a ws = refl
+
+no-text : cond (noRun .ok) (runText noRun) notInForm ≡ notInForm
+unfolding noRun
+no-text = refl
+
+text-if : (t : Bool) (a : ℕ) (ws : List ℕ)
+    → cond (cond t (keptRun a ws) noRun .ok) (runText (cond t (keptRun a ws) noRun)) notInForm ≡ cond t (readingText (readOf ws a)) notInForm
+text-if true a ws = kept-ok a ws ∙ kept-text a ws
+text-if false a ws = no-text
+
+answer-if : (fs : List (List ℕ)) → cond (runIn fs .ok) (runText (runIn fs)) notInForm ≡ answerTo fs
+answer-if [] = no-text
+answer-if (f ∷ fs) = text-if (isAddress (numberOf f) && allWords fs) (magnitudeOf (numberOf f)) (wordsIn fs)
+
+pub answer-whole : (line : List ℕ) → readAnswerOf line ≡ answerTo (fields line)
+unfolding readAnswerOf runOf
+answer-whole line = answer-if (fields line)

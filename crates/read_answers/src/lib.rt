@@ -1,0 +1,118 @@
+// The answer to a line of an address and words, written into a lent buffer.
+ghost use mathlib.Core.Path.{_≡_};
+ghost use Prim.Native.Nat.{_+_, _≤_};
+ghost use lib.ListN.{length};
+ghost use Rattle.text.specs.Written.{placed};
+ghost use Rattle.lines.specs.Wrote.{Wrote};
+ghost use Rattle.lines.specs.Lines.{Answered};
+ghost use Rattle.read_answers.specs.Answer.{refusalText, readingText, runText, readAnswerOf};
+ghost use Rattle.read_answers.specs.Put.{signText, numberText, firstNumbers, putText};
+use fields::Numbers;
+use lines::Step;
+use opcode::Reading;
+use runs::Run;
+
+fn put_sign(out: &mut [u8], at: usize, negative: bool) -> usize
+    requires { ⌜ at + 1 ≤ length (now out) ⌝ }
+    ensures { λ r. ⌜ Wrote (now (out .entry)) at (signText negative) (now (out .exit)) r × (r ≤ at + 1) ⌝ }
+{
+    if negative {
+        return text::put_byte(out, at, b'-');
+    }
+    at
+}
+
+// A number and a tab.
+fn put_number(out: &mut [u8], at: usize, negative: bool, magnitude: u64) -> usize
+    requires { ⌜ at + 22 ≤ length (now out) ⌝ }
+    ensures { λ r. ⌜ Wrote (now (out .entry)) at (numberText negative magnitude) (now (out .exit)) r × (r ≤ at + 22) ⌝ }
+{
+    let mut next = put_sign(out, at, negative);
+    next = text::put_decimal(out, next, magnitude);
+    text::put_byte(out, next, b'\t')
+}
+
+// At most 17 numbers of at most 22 bytes.
+fn put_numbers(out: &mut [u8], at: usize, numbers: Numbers) -> usize
+    requires { ⌜ (at + 374 ≤ length (now out)) × (numbers .count ≤ 17) ⌝ }
+    ensures { λ r. ⌜ Wrote (now (out .entry)) at (firstNumbers numbers (numbers .count)) (now (out .exit)) r × (r ≤ at + 374) ⌝ }
+{
+    let count = numbers.count;
+    let mut next = at;
+    let mut i: usize = 0;
+    while i < count {
+        next = put_number(out, next, numbers.negative[i], numbers.magnitude[i]);
+        i += 1;
+    }
+    next
+}
+
+// The numbers, => and the length.
+fn put_read(out: &mut [u8], at: usize, numbers: Numbers, bytes: u32) -> usize
+    requires { ⌜ (at + 398 ≤ length (now out)) × (numbers .count ≤ 17) ⌝ }
+    ensures { λ r. ⌜ Wrote (now (out .entry)) at (putText numbers bytes) (now (out .exit)) r × (r ≤ at + 398) ⌝ }
+{
+    let mut next = put_numbers(out, at, numbers);
+    next = text::put(out, next, b"=>\t");
+    next = text::put_decimal(out, next, bytes as u64);
+    text::put_byte(out, next, b'\n')
+}
+
+// A refusal with no detail and no value.
+fn put_refused(out: &mut [u8], at: usize, number: u8) -> usize
+    requires { ⌜ at + 37 ≤ length (now out) ⌝ }
+    ensures { λ r. ⌜ Wrote (now (out .entry)) at (refusalText number) (now (out .exit)) r × (r ≤ at + 37) ⌝ }
+{
+    let next = lines::put_refusal(out, at, number, 0, 0);
+    text::put_byte(out, next, b'\n')
+}
+
+fn put_reading(out: &mut [u8], at: usize, reading: Reading) -> usize
+    requires { ⌜ at + 398 ≤ length (now out) ⌝ }
+    ensures { λ r. ⌜ Wrote (now (out .entry)) at (readingText reading) (now (out .exit)) r × (r ≤ at + 398) ⌝ }
+{
+    match reading {
+        Reading::Read(i, n) => put_read(out, at, numbered::numbers(i), n),
+        Reading::Short => put_refused(out, at, 5),
+        Reading::Nothing => put_refused(out, at, 6),
+    }
+}
+
+fn put_run(out: &mut [u8], at: usize, run: Run) -> usize
+    requires { ⌜ (at + 398 ≤ length (now out)) × (run .count ≤ 16) × (run .count ≤ length (run .words)) ⌝ }
+    ensures { λ r. ⌜ Wrote (now (out .entry)) at (runText run) (now (out .exit)) r × (r ≤ at + 398) ⌝ }
+{
+    let words = run.words;
+    let count = run.count;
+    put_reading(out, at, m68k::read(&words[..count], run.address))
+}
+
+// The answer to a line, from place `at` on; the next place.
+pub fn answer(line: &[u8], out: &mut [u8], at: usize) -> usize
+    requires { ⌜ at + 398 ≤ length (now out) ⌝ }
+    ensures { λ r. ⌜ (r ≡ at + length (readAnswerOf (now (line .entry)))) × (now (out .exit) ≡ placed (now (out .entry)) at (readAnswerOf (now (line .entry)))) × (r ≤ at + 398) ⌝ }
+{
+    let run = runs::read_run(line);
+    if run.ok {
+        put_run(out, at, run)
+    } else {
+        lines::put_not_in_form(out, at)
+    }
+}
+
+// The answers to the lines from a place on, while the buffer has room.
+pub fn answers(text: &[u8], from: usize, out: &mut [u8]) -> Step
+    ensures { λ r. ⌜ Answered readAnswerOf 512 (now (text .entry)) from (now (out .entry)) (now (out .exit)) r ⌝ }
+{
+    let mut next = from;
+    let mut at: usize = 0;
+    while next < text.len() {
+        if out.len() - at < 512 {
+            return Step { next, count: at };
+        }
+        let e = text::line_end(text, next);
+        at = answer(&text[next..e], out, at);
+        next = e + 1;
+    }
+    Step { next, count: at }
+}

@@ -1,0 +1,4 @@
+pub mod Run
+pub mod Step
+pub mod RunLaws
+pub mod Examples
