@@ -10,6 +10,8 @@ mod reasons;
 mod tables;
 #[path = "build/text.rs"]
 mod text;
+#[path = "build/writers.rs"]
+mod writers;
 
 use std::path::{Path, PathBuf};
 use std::{env, fs};
@@ -30,6 +32,8 @@ fn main() {
     let fields = declarations::all(&text::without_comments(&encode));
     write(&out, "schema_tables.rs", &tables::schema(&types));
     write(&out, "readers.rs", &tables::readers(&types));
+    write(&out, "writers.rs", &writers::writers(&types));
+    write(&out, "operands.rs", &writers::operand_changer(&types));
     write(&out, "field_numbers.rs", &tables::field_numbers(&fields));
     write(&out, "reason_texts.rs", &reasons::table(&encode));
 }

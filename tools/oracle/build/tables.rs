@@ -14,7 +14,7 @@ const NUMBERS: [(&str, &str); 7] = [
     ("ExtensionWord", "ExtensionWord"),
 ];
 
-fn by_hand(name: &str) -> bool {
+pub fn by_hand(name: &str) -> bool {
     NUMBERS.iter().any(|(number, _)| *number == name)
 }
 

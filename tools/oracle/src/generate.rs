@@ -40,7 +40,7 @@ impl Iterator for Lines {
     }
 }
 
-fn random_address(random: &mut Random) -> u32 {
+pub fn random_address(random: &mut Random) -> u32 {
     match random.below(10) {
         0..=3 => random.pick(&ADDRESSES),
         4..=6 => random.next() as u32 & 0xFFFF_FFFE,

@@ -1,6 +1,7 @@
-//! Compares an encoder with the Rust original. README.md says how.
+//! Compares an encoder and a reader with the Rust original. README.md says how.
 
 mod answer;
+mod batch;
 mod compare;
 mod coverage;
 mod draft;
@@ -14,10 +15,12 @@ mod malformed;
 mod manual;
 mod numeric;
 mod random;
+mod reading;
 mod replay;
 mod schema;
 mod systematic;
 mod values;
+mod written;
 
 use std::error::Error;
 use std::io::{self, BufWriter, Read, Write};
@@ -26,7 +29,9 @@ use std::{env, fs};
 
 const USAGE: &str =
     "oracle generate SEED COUNT | list SEED COUNT | answer | compare A B | coverage | manual
-       | replay PROGRAM SEED COUNT | places | reasons";
+       | replay PROGRAM SEED COUNT | places | reasons
+       | read-answer | read-list SEED | read-replay PROGRAM SEED TAILS | read-back PROGRAM SEED COUNT
+       | read-decode PROGRAM SEED TAILS | read-objdump PROGRAM SEED TAILS";
 
 fn main() -> ExitCode {
     let arguments: Vec<String> = env::args().skip(1).collect();
@@ -46,20 +51,42 @@ fn run(arguments: &[&str]) -> Result<usize, Box<dyn Error>> {
     match arguments {
         ["generate", seed, count] => generate(seed.parse()?, count.parse()?)?,
         ["list", seed, count] => list::write(seed.parse()?, count.parse()?, &mut output())?,
-        ["answer"] => answer()?,
+        ["answer"] => answer(answer::answer_line)?,
         ["compare", first, second] => return compare(first, second),
         ["coverage"] => coverage::report(&input()?),
         ["manual"] => return Ok(manual::check()),
-        ["replay", program, seed, count] => {
-            let comparison = replay::replay(program, seed.parse()?, count.parse()?)?;
-            comparison.report();
-            return Ok(comparison.different);
+        [command, program, seed, count] => {
+            return against(command, program, seed.parse()?, count.parse()?)
         }
         ["places"] => places(),
         ["reasons"] => reasons(),
+        ["read-answer"] => answer(reading::answer::answer_line)?,
+        ["read-list", seed] => reading::list::write(seed.parse()?, &mut output())?,
         _ => return Err(USAGE.into()),
     }
     Ok(0)
+}
+
+/// Runs a command that asks a program.
+fn against(command: &str, program: &str, seed: u64, count: usize) -> Result<usize, Box<dyn Error>> {
+    match command {
+        "replay" => different(replay::replay(program, seed, count)?),
+        "read-replay" => different(reading::sweep::replay(program, seed, count)?),
+        "read-back" => different(reading::back::replay(program, seed, count)?),
+        "read-decode" => unexplained(reading::decoder::compare(program, seed, count)?),
+        "read-objdump" => unexplained(reading::objdump::compare(program, seed, count)?),
+        _ => Err(USAGE.into()),
+    }
+}
+
+fn different(comparison: compare::Comparison) -> Result<usize, Box<dyn Error>> {
+    comparison.report();
+    Ok(comparison.different)
+}
+
+fn unexplained(classes: reading::classes::Classes) -> Result<usize, Box<dyn Error>> {
+    classes.report();
+    Ok(classes.unexplained)
 }
 
 fn output() -> BufWriter<io::Stdout> {
@@ -80,10 +107,10 @@ fn generate(seed: u64, count: usize) -> io::Result<()> {
     output.flush()
 }
 
-fn answer() -> io::Result<()> {
+fn answer(answer_line: fn(&[u8]) -> String) -> io::Result<()> {
     let mut output = output();
     for line in answer::lines(&input()?) {
-        writeln!(output, "{}", answer::answer_line(line))?;
+        writeln!(output, "{}", answer_line(line))?;
     }
     output.flush()
 }
@@ -92,8 +119,7 @@ fn compare(first: &str, second: &str) -> Result<usize, Box<dyn Error>> {
     let (first, second) = (fs::read(first)?, fs::read(second)?);
     let mut comparison = compare::Comparison::default();
     comparison.lists(&[], &answer::lines(&first), &answer::lines(&second));
-    comparison.report();
-    Ok(comparison.different)
+    different(comparison)
 }
 
 /// The instructions by their places in the numeric form.

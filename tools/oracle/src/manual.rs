@@ -1,8 +1,9 @@
-//! Worked encodings written down by hand: the text, the line and the answer.
+//! Worked encodings and readings written down by hand: the text, the line and the answer.
 
-use crate::answer::answer_line;
+use crate::{answer, reading};
 
 const MANUAL: &str = include_str!("../manual.txt");
+const READING: &str = include_str!("../reading.txt");
 
 pub struct Example {
     pub text: &'static str,
@@ -10,9 +11,19 @@ pub struct Example {
     pub answer: &'static str,
 }
 
-/// The examples in order; a line that begins with `;` is a remark.
+/// The encodings in order.
 pub fn examples() -> Vec<Example> {
-    let kept = MANUAL
+    read(MANUAL)
+}
+
+/// The readings in order.
+pub fn readings() -> Vec<Example> {
+    read(READING)
+}
+
+/// The examples of a text; a line that begins with `;` is a remark.
+fn read(text: &'static str) -> Vec<Example> {
+    let kept = text
         .lines()
         .filter(|line| !line.is_empty() && !line.starts_with(';'));
     kept.map(|line| {
@@ -25,11 +36,15 @@ pub fn examples() -> Vec<Example> {
     .collect()
 }
 
-/// Checks every example against the original; gives how many differ.
+/// Checks every example; gives how many differ.
 pub fn check() -> usize {
-    let examples = examples();
+    differing("encodings", &examples(), answer::answer_line)
+        + differing("readings", &readings(), reading::answer::answer_line)
+}
+
+fn differing(what: &str, examples: &[Example], answer_line: fn(&[u8]) -> String) -> usize {
     let mut different = 0;
-    for example in &examples {
+    for example in examples {
         let answer = answer_line(example.line.as_bytes());
         if answer != example.answer {
             different += 1;
@@ -39,6 +54,6 @@ pub fn check() -> usize {
             );
         }
     }
-    println!("{} examples, {different} different", examples.len());
+    println!("{} {what}, {different} different", examples.len());
     different
 }

@@ -97,7 +97,7 @@ impl<'l> Numbers<'l> {
 }
 
 /// A decimal number below 2^64 with no leading zero.
-fn digits(token: &[u8]) -> Option<u64> {
+pub fn digits(token: &[u8]) -> Option<u64> {
     if token.is_empty() || (token.len() > 1 && token[0] == b'0') {
         return None;
     }

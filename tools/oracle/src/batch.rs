@@ -1,0 +1,73 @@
+//! Lines given to a program in batches.
+
+use std::io::{self, Write};
+use std::process::{Command, Stdio};
+use std::thread;
+
+use crate::answer::lines;
+
+/// The program takes up to 1 MiB of input a run.
+const MOST: usize = 1_000_000;
+
+const MISSING: &[u8] = b"<no line>";
+
+/// Gives lines to a program; each comes to `check` with its note and its
+/// answer.
+pub struct Batches<'p, N, F> {
+    program: &'p str,
+    input: Vec<u8>,
+    notes: Vec<N>,
+    check: F,
+}
+
+impl<'p, N, F: FnMut(&[u8], N, &[u8])> Batches<'p, N, F> {
+    pub fn new(program: &'p str, check: F) -> Self {
+        Batches {
+            program,
+            input: Vec::new(),
+            notes: Vec::new(),
+            check,
+        }
+    }
+
+    pub fn push(&mut self, line: &[u8], note: N) -> io::Result<()> {
+        if self.input.len() + line.len() >= MOST {
+            self.run()?;
+        }
+        self.input.extend_from_slice(line);
+        self.input.push(b'\n');
+        self.notes.push(note);
+        Ok(())
+    }
+
+    pub fn finish(mut self) -> io::Result<()> {
+        self.run()
+    }
+
+    fn run(&mut self) -> io::Result<()> {
+        let input = std::mem::take(&mut self.input);
+        let output = output_of(self.program, input.clone())?;
+        let (asked, found) = (lines(&input), lines(&output));
+        if found.len() > asked.len() {
+            let counts = format!("{} lines for {}", found.len(), asked.len());
+            return Err(io::Error::other(counts));
+        }
+        for (at, note) in self.notes.drain(..).enumerate() {
+            (self.check)(asked[at], note, found.get(at).unwrap_or(&MISSING));
+        }
+        Ok(())
+    }
+}
+
+fn output_of(program: &str, input: Vec<u8>) -> io::Result<Vec<u8>> {
+    let mut child = Command::new(program)
+        .stdin(Stdio::piped())
+        .stdout(Stdio::piped())
+        .spawn()?;
+    let mut stdin = child.stdin.take().expect("the input is piped");
+    let writer = thread::spawn(move || stdin.write_all(&input));
+    let output = child.wait_with_output()?;
+    // A program that stops reading early gives too few answers, which counts.
+    drop(writer.join());
+    Ok(output.stdout)
+}

@@ -1,0 +1,82 @@
+//! Accepted instructions through encode.rs and then through a program: their
+//! plain form comes back. The judge has no part in it.
+
+use std::io;
+
+use super::answer::text;
+use super::judge::Reading;
+use super::plain::plain;
+use super::run::Run;
+use super::tails::mixed;
+use crate::answer::answer;
+use crate::batch::Batches;
+use crate::compare::Comparison;
+use crate::generate;
+use crate::instructions::{BranchSize, Instruction};
+use crate::numeric::placed;
+use crate::random::Random;
+
+/// The most words behind an instruction.
+const BEHIND: u64 = 3;
+
+/// An instruction's words with some behind them, and the reading due.
+pub struct Due {
+    pub run: Run,
+    pub instruction: Instruction,
+    pub bytes: usize,
+}
+
+impl Due {
+    pub fn answer(&self) -> String {
+        text(Reading::Read(self.instruction, self.bytes))
+    }
+}
+
+/// What the line of the numeric form calls for, if `encode` accepts it and
+/// the reading does not leave it out.
+pub fn due(line: &str, random: &mut Random) -> Option<Due> {
+    let placed = placed(line.as_bytes())?;
+    let answer = answer(&placed);
+    let (Ok(mut words), Ok(bytes)) = (answer.words, answer.size) else {
+        return None;
+    };
+    if left_out(&placed.instruction, placed.address) {
+        return None;
+    }
+    words.extend(mixed(random.below(BEHIND + 1) as usize, random));
+    Some(Due {
+        run: Run {
+            address: placed.address,
+            words,
+        },
+        instruction: plain(placed.instruction),
+        bytes: bytes as usize,
+    })
+}
+
+fn left_out(instruction: &Instruction, address: u32) -> bool {
+    let before_next = address.wrapping_add(1);
+    match instruction {
+        Instruction::IllegalWord(_) | Instruction::SIMHALT => true,
+        Instruction::BRA(target, BranchSize::Short)
+        | Instruction::BSR(target, BranchSize::Short)
+        | Instruction::Bcc(target, _, BranchSize::Short) => *target == before_next,
+        _ => false,
+    }
+}
+
+/// Compares the accepted ones of `count` generated lines.
+pub fn replay(program: &str, seed: u64, count: usize) -> io::Result<Comparison> {
+    let mut comparison = Comparison::default();
+    let mut batches = Batches::new(program, |asked: &[u8], expected: String, found: &[u8]| {
+        comparison.line(asked, expected.as_bytes(), found)
+    });
+    let mut random = Random::new(seed);
+    for line in generate::lines(seed).take(count) {
+        if let Some(due) = due(&line, &mut random) {
+            batches.push(due.run.line().as_bytes(), due.answer())?;
+        }
+    }
+    batches.finish()?;
+    Ok(comparison)
+}

@@ -1,0 +1,213 @@
+//! The runs of the stored list.
+
+use std::cmp::Reverse;
+use std::collections::{BTreeMap, HashSet};
+
+use super::back::due;
+use super::judge::{read, Reading, MOST_WORDS};
+use super::run::Run;
+use super::tails::{mixed, tail, LENGTH};
+use crate::answer::answer;
+use crate::generate::{self, random_address};
+use crate::manual;
+use crate::numeric::placed;
+use crate::random::Random;
+use crate::values::ADDRESSES;
+use crate::written::place;
+
+/// One first word in so many is sampled; odd, so that all low bits come.
+const STEP: usize = 13;
+
+/// How many kinds of tail are used in turn.
+const TAILS: usize = 12;
+
+/// Generated lines looked through, and the instructions of a variant kept.
+const GENERATED: usize = 60_000;
+const KEPT: usize = 14;
+
+/// Of the kept ones, those of which every beginning is taken.
+const CUT: usize = 5;
+
+/// Words after the first in which a bit is changed.
+const CHANGED_WORDS: usize = 2;
+
+/// Runs with an unused bit set.
+const UNUSED: usize = 600;
+
+/// The words of the worked encodings.
+pub fn worked() -> Vec<Run> {
+    let examples = manual::examples().into_iter();
+    examples
+        .filter_map(|example| {
+            let placed = placed(example.line.as_bytes())?;
+            let words = answer(&placed).words.ok()?;
+            Some(Run {
+                address: placed.address,
+                words,
+            })
+        })
+        .collect()
+}
+
+/// A first word of each of the 1,024 entries of the reader's table.
+pub fn groups(random: &mut Random) -> Vec<Run> {
+    (0..1024u16)
+        .map(|group| {
+            let low = random.below(64) as u16;
+            with_tail(group << 6 | low, group as usize, random)
+        })
+        .collect()
+}
+
+pub fn first_words(random: &mut Random) -> Vec<Run> {
+    (0..=u16::MAX)
+        .step_by(STEP)
+        .enumerate()
+        .map(|(number, first)| with_tail(first, number, random))
+        .collect()
+}
+
+fn with_tail(first: u16, number: usize, random: &mut Random) -> Run {
+    let mut words = [vec![first], tail(number % TAILS, random)].concat();
+    words.truncate(random.between(3, LENGTH as i128 + 1) as usize);
+    Run {
+        address: random_address(random),
+        words,
+    }
+}
+
+/// Accepted instructions of every variant, and what is made of their words.
+#[derive(Default)]
+pub struct Encoded {
+    pub alone: Vec<Run>,
+    /// With some words behind.
+    pub behind: Vec<Run>,
+    /// Every proper beginning.
+    pub beginnings: Vec<Run>,
+    /// With one bit after the first word changed.
+    pub changed: Vec<Run>,
+}
+
+pub fn encoded(seed: u64, random: &mut Random) -> Encoded {
+    let mut made = Encoded::default();
+    for of_variant in by_variant(seed, random).values() {
+        let kept = spread(of_variant, KEPT);
+        let cut = kept.iter().take(CUT);
+        made.beginnings.extend(cut.flat_map(|run| beginnings(run)));
+        for (number, run) in kept.iter().enumerate() {
+            match number % 2 {
+                0 => made.alone.push((*run).clone()),
+                _ => made.behind.push(followed(run, random)),
+            }
+        }
+        let shortest = of_variant.iter().rev().find(|run| run.words.len() > 1);
+        made.changed.extend(shortest.into_iter().flat_map(changed));
+    }
+    made
+}
+
+/// The words of the accepted generated instructions by variant, those with the
+/// most words first, none twice.
+fn by_variant(seed: u64, random: &mut Random) -> BTreeMap<usize, Vec<Run>> {
+    let mut seen = HashSet::new();
+    let mut found: BTreeMap<usize, Vec<Run>> = BTreeMap::new();
+    let lines = generate::lines(seed).take(GENERATED);
+    for mut due in lines.filter_map(|line| due(&line, random)) {
+        due.run.words.truncate(due.bytes / 2);
+        if seen.insert(due.run.words.clone()) {
+            let of_variant = found.entry(place(&due.instruction)).or_default();
+            of_variant.push(due.run);
+        }
+    }
+    for runs in found.values_mut() {
+        runs.sort_by_key(|run| Reverse(run.words.len()));
+    }
+    found
+}
+
+/// About `count` of the runs, evenly spread, with one of each length.
+fn spread(runs: &[Run], count: usize) -> Vec<&Run> {
+    let step = runs.len().div_ceil(count);
+    let kept = runs.iter().enumerate().filter(|(at, run)| {
+        let first_of_length = *at == 0 || runs[at - 1].words.len() != run.words.len();
+        at % step == 0 || first_of_length
+    });
+    kept.map(|(_, run)| run).collect()
+}
+
+fn followed(run: &Run, random: &mut Random) -> Run {
+    let length = random.between(1, 3) as usize;
+    Run {
+        address: run.address,
+        words: [run.words.clone(), mixed(length, random)].concat(),
+    }
+}
+
+fn beginnings(run: &Run) -> impl Iterator<Item = Run> + '_ {
+    (1..run.words.len()).map(|length| Run {
+        address: run.address,
+        words: run.words[..length].to_vec(),
+    })
+}
+
+fn changed(run: &Run) -> impl Iterator<Item = Run> + '_ {
+    let last = run.words.len().min(CHANGED_WORDS + 1);
+    let bits = (1..last).flat_map(|at| (0..16).map(move |bit| (at, bit)));
+    bits.map(|(at, bit)| {
+        let mut run = run.clone();
+        run.words[at] ^= 1 << bit;
+        run
+    })
+}
+
+/// Words that read but for one bit, whole and cut after the word with the bit.
+pub fn unused(random: &mut Random) -> Vec<Run> {
+    let mut found = Vec::new();
+    while found.len() < UNUSED {
+        let first = random.next() as u16;
+        let number = random.below(TAILS as u64) as usize;
+        let address = random_address(random);
+        let mut words = [vec![first], tail(number, random)].concat();
+        let Reading::Read(_, bytes) = read(&words[..MOST_WORDS], address) else {
+            continue;
+        };
+        if bytes == 2 {
+            continue;
+        }
+        let at = random.between(1, bytes as i128 / 2 - 1) as usize;
+        words[at] ^= 1 << random.below(16);
+        for length in [bytes / 2, at + 1] {
+            let words = words[..length].to_vec();
+            if read(&words, address) == Reading::Nothing {
+                found.push(Run { address, words });
+            }
+        }
+    }
+    found
+}
+
+/// Words whose reading depends on the address, at every address of the list:
+/// none at all, branches, DBcc, d16(PC), d8(PC,Xn) and full words from the PC.
+pub fn placed_words() -> Vec<Run> {
+    let words: [&[u16]; 12] = [
+        &[],
+        &[0x6000, 0xFFFE],
+        &[0x607F],
+        &[0x6180],
+        &[0x67FF, 0x8000, 0x0000],
+        &[0x51C8, 0x7FFF],
+        &[0x41FA, 0x8000],
+        &[0x41FB, 0x0080],
+        &[0x41FB, 0x0280],
+        &[0x41FB, 0x0110],
+        &[0x41FB, 0x0120, 0x8000],
+        &[0x41FB, 0x0190],
+    ];
+    let at_every_address = |words: &[u16]| {
+        ADDRESSES.map(|address| Run {
+            address,
+            words: words.to_vec(),
+        })
+    };
+    words.iter().copied().flat_map(at_every_address).collect()
+}
