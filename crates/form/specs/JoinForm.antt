@@ -1,0 +1,59 @@
+-- A line and its fields: each from the other. Assumes nothing.
+use Prim.Native.Nat.{ℕ, _<_}
+use mathlib.Core.Path.{_≡_, refl, sym, ap, _∙_}
+use mathlib.Core.Bool.{Bool, true, false, cond, not}
+use mathlib.Core.List.{List, [], _∷_, _++_}
+use native.Mathlib.Omega.{arith}
+use lib.Dec.{eqb}
+use lib.ListN.{length}
+use borrow.Author.Tests.{eqb-true, not-true}
+use Rattle.text.specs.Parts.{onto, parts, fields}
+use Rattle.form.specs.Spell.{joined}
+use Rattle.form.specs.NumberForm.{both}
+use Rattle.form.specs.NameForm.{noTab}
+
+joined-onto : (b : ℕ) (ps : List (List ℕ)) → joined (onto b ps) ≡ b ∷ joined ps
+joined-onto b [] = refl
+joined-onto b (p ∷ []) = refl
+joined-onto b (p ∷ (q ∷ ps)) = refl
+
+joined-none : (ps : List (List ℕ)) → 0 < length ps → joined ([] ∷ ps) ≡ 9 ∷ joined ps
+joined-none [] h = absurd (omega arith)
+joined-none (p ∷ ps) h = refl
+
+onto-some : (b : ℕ) (ps : List (List ℕ)) → 0 < length (onto b ps)
+onto-some b [] = omega arith
+onto-some b (p ∷ ps) = omega arith
+
+parts-some : (t : List ℕ) → 0 < length (parts 9 t)
+parts-some [] = omega arith
+parts-some (b ∷ bs) = go (eqb b 9)
+  where
+    go : (t : Bool) → 0 < length (cond t ([] ∷ parts 9 bs) (onto b (parts 9 bs)))
+    go true = omega arith
+    go false = onto-some b (parts 9 bs)
+
+pub joined-fields : (t : List ℕ) → joined (fields t) ≡ t
+joined-fields [] = refl
+joined-fields (b ∷ bs) = go (eqb b 9) refl (joined-fields bs)
+  where
+    go : (t : Bool) → eqb b 9 ≡ t → joined (parts 9 bs) ≡ bs → joined (cond t ([] ∷ parts 9 bs) (onto b (parts 9 bs))) ≡ b ∷ bs
+    go true e h = let q : 9 ≡ b = sym (eqb-true b 9 e) in joined-none (parts 9 bs) (parts-some bs) ∙ (λ i. q i ∷ h i)
+    go false e h = joined-onto b (parts 9 bs) ∙ ap (λ (l : List ℕ). b ∷ l) h
+
+-- no field holds a tab
+abbrev pub NoTabs : List (List ℕ) → Type 0
+NoTabs [] = Unit {0}
+NoTabs (f ∷ fs) = (noTab f ≡ true) × NoTabs fs
+
+parts-last : (f : List ℕ) → noTab f ≡ true → parts 9 f ≡ f ∷ []
+parts-last [] e = refl
+parts-last (b ∷ bs) e = let t = both (not (eqb b 9)) (noTab bs) e in rw (not-true (eqb b 9) (t .0), parts-last bs (t .1))
+
+parts-next : (f r : List ℕ) → noTab f ≡ true → parts 9 (f ++ (9 ∷ r)) ≡ f ∷ parts 9 r
+parts-next [] r e = refl
+parts-next (b ∷ bs) r e = let t = both (not (eqb b 9)) (noTab bs) e in rw (not-true (eqb b 9) (t .0), parts-next bs r (t .1))
+
+pub fields-joined : (f : List ℕ) (fs : List (List ℕ)) → NoTabs (f ∷ fs) → fields (joined (f ∷ fs)) ≡ f ∷ fs
+fields-joined f [] h = parts-last f (h .0)
+fields-joined f (g ∷ fs) h = parts-next f (joined (g ∷ fs)) (h .0) ∙ ap (λ (l : List (List ℕ)). f ∷ l) (fields-joined g fs (h .1))

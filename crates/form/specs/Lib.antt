@@ -1,0 +1,12 @@
+pub mod Names
+pub mod Grammar
+pub mod Line
+pub mod Spell
+pub mod Made
+pub mod NumberForm
+pub mod NameForm
+pub mod JoinForm
+pub mod FieldForm
+pub mod LineForm
+pub mod InForm
+pub mod EveryLine

@@ -1,0 +1,22 @@
+// The form of a sheet's line.
+
+// What a field of a line is: a number, a line's name, either, or a variant's name of a type.
+pub enum Kind {
+    Number,
+    Target,
+    Place,
+    Size,
+    TargetDirection,
+    RegisterOperand,
+    AddressWidth,
+    Condition,
+    BranchSize,
+    ShiftDirection,
+    Sign,
+    BitFieldOperation,
+    FieldValue,
+    TrapOperand,
+    RegisterChoice,
+    Operand,
+    Instruction,
+}

@@ -1,0 +1,194 @@
+-- Demand 3 (01, "Following"): after any choices the two followers of an accepted sheet are together.
+use Prim.Native.Nat.{ℕ, zero, suc, pred, _+_, _*_, _-_, _/_, _%_, _^_, _≤_, _<_}
+use mathlib.Core.Path.{_≡_, refl, sym, ap, _∙_, subst}
+use mathlib.Core.Bool.{Bool, true, false}
+use mathlib.Core.List.{List, [], _∷_, _++_}
+use native.Mathlib.Omega.{arith}
+use lib.ListN.{length, take, getD, replicate}
+use lib.Seq.{take-at}
+use Rattle.isa.specs.declared.Measured.{Measured}
+use Rattle.isa.specs.declared.Instruction.{Instruction}
+use Rattle.isa.specs.Item as item
+use Rattle.isa.specs.Encode as encode
+use Rattle.isa.specs.Encode.{itemsOf, wordsOf, refusalOf, encodeOf, measuredAs, sizeOf}
+use Rattle.numeric.specs.declared.Built.{Built}
+use Rattle.numeric.specs.declared.Built.the-variants as built
+use Rattle.form.specs.Made.{madeOf}
+use Rattle.opcode.specs.declared.Reading.the-variants.{Read}
+use Rattle.opcode.specs.Plain.{plain}
+use Rattle.opcode.specs.Read.{readOf}
+use Rattle.inverse.specs.Facts.{words-count}
+use Rattle.reads.specs.Statements as reads
+use Rattle.reads.specs.ReaderLaws.{complete}
+use Rattle.listing.specs.Sheet.{linesIn, counted, total, addressIn, encodedAs, lineEncoded}
+use Rattle.listing.specs.Translate.{fine, startIn, countIn, addressesIn, imageIn, verdictOf}
+use Rattle.listing.specs.Follow.{Next, on, to, either, stop, nextOf, target, lineAt, addressOf, countOf, instructionIn, plainLine, named, Together, byLines, byWords}
+use Rattle.listing.specs.Follows.{Aims, Within, wordsAt, LineStands, AllStand, address-is, address-next, together}
+use Rattle.listing.specs.Verdicts.{Accepted, accepted}
+use Rattle.listing.specs.Turned.{Bounded, Aimed}
+use Rattle.listing.specs.Renamed.{AimedAt}
+use Rattle.listing.specs.Sizes.{size-moved}
+use Rattle.listing.specs.Lawful.{instruction-typed, next-plain, Even, not-left-out, Alike, same, go-to, go-either, next-moved}
+use Rattle.listing.specs.Made.{LineMade, line-made}
+
+-- ---- verdicts of the encoder
+encoded-fine : (v : item.Verdict) (ws : List ℕ) → encode.encodedAs v ws .number ≡ 0 → v ≡ item.fine
+encoded-fine item.fine ws h = refl
+encoded-fine item.malformed ws h = absurd (omega arith)
+encoded-fine (item.outOfRange f z) ws h = absurd (omega arith)
+encoded-fine (item.noEncoding r) ws h = absurd (omega arith)
+
+measured-size : (v : item.Verdict) (k : ℕ) → measuredAs v k .number ≡ 0 → measuredAs v k .size ≡ k
+measured-size item.fine k h = refl
+measured-size item.malformed k h = absurd (omega arith)
+measured-size (item.outOfRange f z) k h = absurd (omega arith)
+measured-size (item.noEncoding r) k h = absurd (omega arith)
+
+-- the words that count
+taken : (v : item.Verdict) (ws : List ℕ) → v ≡ item.fine → take (encode.encodedAs v ws .count) (encode.encodedAs v ws .words) ≡ ws
+taken v ws e = rw e (take-at ws (replicate {A = ℕ} (11 - length ws) 0) (length ws) refl)
+
+-- ---- targets
+module _ {n : ℕ} (y : (ℕ → ℕ) → Instruction) where
+  aims-of : {x z : Next} → Alike x z → AimedAt n x y → (t : ℕ) → (Aimed n (λ f. target (nextOf (y f))) → target z ≡ t) → Aims z t
+  aims-of (same on) a t h = tt
+  aims-of (same (to u)) a t h = h a
+  aims-of (same (either u)) a t h = h a
+  aims-of (same stop) a t h = tt
+  aims-of (go-to u v) a t h = h a
+  aims-of (go-either u v) a t h = h a
+
+  within-of : {x z : Next} → Alike x z → AimedAt n x y → (t : ℕ) → (Aimed n (λ f. target (nextOf (y f))) → (1 ≤ t) × (t ≤ n)) → Within z n t
+  within-of (same on) a t h = tt
+  within-of (same (to u)) a t h = h a
+  within-of (same (either u)) a t h = h a
+  within-of (same stop) a t h = tt
+  within-of (go-to u v) a t h = h a
+  within-of (go-either u v) a t h = h a
+
+  even-of : {x z : Next} → Alike x z → AimedAt n x y → (Aimed n (λ f. target (nextOf (y f))) → target z % 2 ≡ 0) → Even z
+  even-of (same on) a h = tt
+  even-of (same (to u)) a h = h a
+  even-of (same (either u)) a h = h a
+  even-of (same stop) a h = tt
+  even-of (go-to u v) a h = h a
+  even-of (go-either u v) a h = h a
+
+-- ---- counts of lines
+total-take : (m : ℕ) (ls : List (List ℕ)) (k : ℕ) → total m (take k ls) ≤ total m ls
+total-take m [] zero = omega arith
+total-take m [] (suc k) = omega arith
+total-take m (l ∷ ls) zero = omega arith
+total-take m (l ∷ ls) (suc k) = omega (arith, total-take m ls k)
+
+total-some : (m : ℕ) (ls : List (List ℕ)) → ((j : ℕ) → j < length ls → 1 ≤ counted m (getD ls j [])) → length ls ≤ total m ls
+total-some m [] h = omega arith
+total-some m (l ∷ ls) h = omega (arith, h 0 (omega arith), total-some m ls (λ j q. h (suc j) (omega arith)))
+
+-- what the encoder lays down: at least one word, and as many at every address
+pub record Lays : Type 0 where
+  pub least : (i : Instruction) (a : ℕ) → 1 ≤ item.countOf (itemsOf i a)
+  pub steady : (i : Instruction) (a b : ℕ) → item.countOf (itemsOf i a) ≡ item.countOf (itemsOf i b)
+
+module _ (lays : Lays) (text : List ℕ) (places room : ℕ) (ok : Accepted text places room) where
+  line-at : (n : ℕ) → 1 ≤ n → n ≤ countIn text → LineMade (countIn text) (lineAt text n)
+  line-at n h g = line-made (countIn text) (lineAt text n) (ok .sized n h g)
+
+  size-is : (i : Instruction) → sizeOf i .number ≡ 0 → (a : ℕ) → sizeOf i .size / 2 ≡ length (wordsOf i a)
+  unfolding sizeOf
+  size-is i h a =
+      omega (arith, measured-size (refusalOf false i 0) (2 * length (wordsOf i 0)) h, words-count (itemsOf i 0), words-count (itemsOf i a), lays .steady i a 0)
+
+  count-some : (n : ℕ) → 1 ≤ n → n ≤ countIn text → 1 ≤ countOf text n
+  count-some n h g =
+      let l = line-at n h g in
+      omega (arith, l .counts, size-is (l .first) (l .number) 0, words-count (itemsOf (l .first) 0), lays .least (l .first) 0)
+
+  -- ---- names are made numbers of 32 bits
+  names-bounded : Bounded (countIn text) (λ k. k)
+  names-bounded k h g =
+      omega (arith, ok .ends, total-some (countIn text) (linesIn text) (λ j q. count-some (suc j) (omega arith) (omega arith)))
+
+  address-low : (n : ℕ) → 1 ≤ n → n ≤ countIn text → addressOf text n < 2 ^ 32
+  address-low n h g =
+      omega (arith, ok .ends, count-some n h g, address-next text n h g, total-take (countIn text) (linesIn text) (pred (n + 1)))
+
+  address-even : (n : ℕ) → addressOf text n % 2 ≡ 0
+  address-even n = omega (arith, ok .even)
+
+  abbrev A : ℕ → ℕ
+  A k = addressIn (addressesIn text) k
+
+  addresses-bounded : Bounded (countIn text) A
+  addresses-bounded k h g = subst (λ (x : ℕ). x < 2 ^ 32) (sym (address-is text k h g)) (address-low k h g)
+
+  module _ (n : ℕ) (h : 1 ≤ n) (g : n ≤ countIn text) (l : LineMade (countIn text) (lineAt text n)) where
+    abbrev i : Instruction
+    i = l .made A
+
+    abbrev a : ℕ
+    a = addressOf text n
+
+    made : madeOf A (lineAt text n) ≡ built.Instruction i
+    made = l .makes A addresses-bounded
+
+    number-zero : encodeOf i a .number ≡ 0
+    unfolding lineEncoded
+    number-zero = subst (λ (b : Built). encodedAs b a .number ≡ 0) made (ok .encoded n h g)
+
+    is-fine : refusalOf true i a ≡ item.fine
+    unfolding encodeOf
+    is-fine = encoded-fine (refusalOf true i a) (wordsOf i a) number-zero
+
+    words-are : wordsAt text n ≡ wordsOf i a
+    unfolding lineEncoded encodeOf
+    words-are = ap (λ (b : Built). take (encodedAs b a .count) (encodedAs b a .words)) made ∙ taken (refusalOf true i a) (wordsOf i a) is-fine
+
+    counts-are : length (wordsOf i a) ≡ countOf text n
+    counts-are =
+        let e = size-moved (l .follows .0 A) in
+        sym (size-is i (ap (λ (m : Measured). m .number) (sym e) ∙ l .number) a) ∙ ap (λ (m : Measured). m .size / 2) (sym e) ∙ sym (l .counts)
+
+    plain-is : plainLine text n ≡ plain i
+    plain-is = ap (λ (b : Built). plain (instructionIn b)) made
+
+    next-is : nextOf (plainLine text n) ≡ nextOf i
+    next-is = ap nextOf plain-is ∙ next-plain i
+
+    named-is : named text n ≡ target (nextOf (l .made (λ k. k)))
+    named-is = ap (λ (b : Built). target (nextOf (instructionIn b))) (l .makes (λ k. k) names-bounded)
+
+    abbrev Target : Type 0
+    Target = Aimed (countIn text) (λ f. target (nextOf (l .made f)))
+
+    target-is : Target → target (nextOf i) ≡ addressOf text (named text n)
+    target-is (m, p, q, e) = e A ∙ address-is text m p q ∙ ap (addressOf text) (sym (named-is ∙ e (λ k. k)))
+
+    target-even : Target → target (nextOf i) % 2 ≡ 0
+    target-even t = ap (λ (k : ℕ). k % 2) (target-is t) ∙ address-even (named text n)
+
+    target-within : Target → (1 ≤ named text n) × (named text n ≤ countIn text)
+    target-within (m, p, q, e) = subst (λ (k : ℕ). (1 ≤ k) × (k ≤ countIn text)) (sym (named-is ∙ e (λ k. k))) (p, q)
+
+    line-accepted : reads.Accepted a i
+    line-accepted =
+        (instruction-typed i (l .inside A addresses-bounded), is-fine, not-left-out (l .follows .0 A) a (address-even n) (even-of (l .made) (next-moved (l .follows .0 A)) (l .follows .1) target-even))
+
+    line-stands : LineStands text n
+    line-stands =
+        record {
+          some = count-some n h g;
+          counts = ap (λ (ws : List ℕ). length ws) words-are ∙ counts-are;
+          reads-back = λ rest. ap (λ (ws : List ℕ). readOf (ws ++ rest) a) words-are ∙ complete a i rest line-accepted
+              ∙ ap (λ (j : Instruction). Read j (2 * length (wordsOf i a))) (sym plain-is) ∙ ap (λ (k : ℕ). Read (plainLine text n) (2 * k)) counts-are;
+          aims = subst (λ (x : Next). Aims x (addressOf text (named text n))) (sym next-is) (aims-of (l .made) (next-moved (l .follows .0 A)) (l .follows .1) (addressOf text (named text n)) target-is);
+          within = subst (λ (x : Next). Within x (countIn text) (named text n)) (sym next-is) (within-of (l .made) (next-moved (l .follows .0 A)) (l .follows .1) (named text n) target-within);
+        }
+
+  pub all-stand : AllStand text
+  all-stand = record { lines-some = ok .lines-some; each = λ n h g. line-stands n h g (line-at n h g) }
+
+-- DEMAND 3
+pub demand-3-from : Lays → (text : List ℕ) (places room : ℕ) → verdictOf text places room ≡ fine
+    → (choices : List Bool) → Together text (imageIn text) (byLines text choices) (byWords (startIn text) (imageIn text) choices)
+demand-3-from lays text places room e choices = together text (all-stand lays text places room (accepted text places room e)) choices
