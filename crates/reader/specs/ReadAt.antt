@@ -9,7 +9,7 @@ use Rattle.opcode.specs.declared.Shape.{Shape}
 use Rattle.opcode.specs.declared.Fields.{Fields}
 use Rattle.opcode.specs.declared.Reading.{Reading}
 use Rattle.opcode.specs.declared.Reading.the-variants.{Short, Nothing}
-use Rattle.opcode.specs.Tree.{Tree, ret, fail, more, run, Out, got, short, none, At, found, ended, refused, runAt}
+use Rattle.opcode.specs.Tree.{Tree, ret, fail, more, run, Out, got, short, none, At, runAt}
 use Rattle.opcode.specs.Map.{shapeAt, shapeOf}
 use Rattle.opcode.specs.Layout.{fieldsTree}
 use Rattle.opcode.specs.Layouts.{layoutOf}
@@ -25,21 +25,13 @@ use Rattle.inverse.specs.TreeLaws.{after, run-bind, run-at, atOf}
 use Rattle.reads.specs.FormedLaws.{Flat, formed-flat}
 
 -- at most 13 words are read, so a place modulo 16 is the place
-abbrev pub formedAt : ℕ → Shape → ℕ → ℕ → ℕ → ℕ → At Fields → Reading
-formedAt a s line x opmode ea (found f n) = readAs (formed a s line x opmode ea (f .value) (f .source) (f .destination)) (2 * (n % 16))
-formedAt a s line x opmode ea ended = Short
-formedAt a s line x opmode ea refused = Nothing
-
--- the same of what `follow` answers
 abbrev pub formedAs : ℕ → Shape → ℕ → ℕ → ℕ → ℕ → Followed → Reading
 formedAs a s line x opmode ea (Got f n) = readAs (formed a s line x opmode ea (f .value) (f .source) (f .destination)) (2 * (n % 16))
 formedAs a s line x opmode ea follow.Short = Short
 formedAs a s line x opmode ea follow.Nothing = Nothing
 
-pub formed-as : (a : ℕ) (s : Shape) (line x opmode ea : ℕ) (r : At Fields) → formedAs a s line x opmode ea (followed r) ≡ formedAt a s line x opmode ea r
-formed-as a s line x opmode ea (found f n) = refl
-formed-as a s line x opmode ea ended = refl
-formed-as a s line x opmode ea refused = refl
+abbrev pub formedAt : ℕ → Shape → ℕ → ℕ → ℕ → ℕ → At Fields → Reading
+formedAt a s line x opmode ea r = formedAs a s line x opmode ea (followed r)
 
 -- the words behind the operation word w of a run
 unfoldable pub followingAt : ℕ → List ℕ → ℕ → Reading

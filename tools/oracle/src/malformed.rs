@@ -92,9 +92,14 @@ pub fn raw_lines() -> impl Iterator<Item = &'static [u8]> {
 /// `line` with one byte put in, taken out or changed; it may still be in the
 /// form.
 pub fn spoiled(line: &str, random: &mut Random) -> Vec<u8> {
+    spoiled_by(b"0123456789\t\t-- +\rx", line, random)
+}
+
+/// The same with a byte of `alphabet`.
+pub fn spoiled_by(alphabet: &[u8], line: &str, random: &mut Random) -> Vec<u8> {
     let mut bytes = line.as_bytes().to_vec();
     let at = random.below(bytes.len() as u64) as usize;
-    let byte = random.pick(b"0123456789\t\t-- +\rx");
+    let byte = random.pick(alphabet);
     match random.below(3) {
         0 => bytes.insert(at, byte),
         1 => bytes[at] = byte,

@@ -1,12 +1,6 @@
 use borrow.Author.Needs.{needs}
 use mathlib.Core.Path.{_∙_}
-use Prim.Native.Nat.{_/_, _%_}
-use denote.Ref.{now}
-use Rattle.opcode.specs.Tree.{runAt}
-use Rattle.opcode.specs.Map.{shapeOf}
-use Rattle.opcode.specs.Layout.{fieldsTree}
-use Rattle.opcode.specs.Layouts.{layoutOf}
-use Rattle.reader.specs.ReadAt.{formed-as, followingAt}
+use Rattle.reader.specs.ReadAt.{followingAt}
 use Rattle.reader.proofs.read_word.Statement.{statement}
 use Rattle.reader.proofs.read_word.Tie as tie
 
@@ -37,13 +31,7 @@ formed-requires c κs = search needs
 returns : tie.Need-returns
 unfolding followingAt
 returns c =
-    let a = c .before .before .before .before .before .args in
-    let w = a .w in
-    let s = shapeOf (w / 64) in
-    let t = runAt (fieldsTree (layoutOf s (w / 4096) (w / 512 % 8) (w / 64 % 8) (w % 64))) (a .address) (now (a .words)) 1 in
-    c .formed .ensures
-    ∙ rw (c .before .follow .ensures, c .before .before .layout .ensures, c .before .before .before .shape .ensures)
-    (formed-as (a .address) s (w / 4096) (w / 512 % 8) (w / 64 % 8) (w % 64) t)
+    c .formed .ensures ∙ rw (c .before .follow .ensures, c .before .before .layout .ensures, c .before .before .before .shape .ensures)
 
 pub read-word-spec : {M : Type 1} → statement M
 read-word-spec =

@@ -1,5 +1,6 @@
 //! Lines that are not in the form of a run, each against one rule.
 
+use crate::malformed::spoiled_by;
 use crate::random::Random;
 
 const LINES: [&[u8]; 76] = [
@@ -106,13 +107,5 @@ pub fn raw_lines() -> impl Iterator<Item = &'static [u8]> {
 /// `line` with one byte put in, taken out or changed; it may still be in the
 /// form.
 pub fn spoiled(line: &str, random: &mut Random) -> Vec<u8> {
-    let mut bytes = line.as_bytes().to_vec();
-    let at = random.below(bytes.len() as u64) as usize;
-    let byte = random.pick(b"0123456789ABCDEFabcdefGg\t\t\t- \rx");
-    match random.below(3) {
-        0 => bytes.insert(at, byte),
-        1 => bytes[at] = byte,
-        _ => drop(bytes.remove(at)),
-    }
-    bytes
+    spoiled_by(b"0123456789ABCDEFabcdefGg\t\t\t- \rx", line, random)
 }
