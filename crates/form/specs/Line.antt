@@ -32,11 +32,11 @@ abbrev pub isName : List ℕ → Bool
 isName [] = false
 isName (b ∷ bs) = eqb b 64
 
-abbrev pub same : List ℕ → List ℕ → Bool
-same [] [] = true
-same [] (y ∷ ys) = false
-same (x ∷ xs) [] = false
-same (x ∷ xs) (y ∷ ys) = eqb x y && same xs ys
+abbrev pub equal : List ℕ → List ℕ → Bool
+equal [] [] = true
+equal [] (y ∷ ys) = false
+equal (x ∷ xs) [] = false
+equal (x ∷ xs) (y ∷ ys) = eqb x y && equal xs ys
 
 abbrev pub isNone : List ℕ → Bool
 isNone [] = true
@@ -45,7 +45,7 @@ isNone (b ∷ bs) = false
 -- the place of a name among names, from k on; no name is empty
 abbrev pub placeFrom : ℕ → List ℕ → List (List ℕ) → Said
 placeFrom k f [] = nothing
-placeFrom k f (n ∷ ns) = cond (same f n && not (isNone f)) (plainly false k) (placeFrom (suc k) f ns)
+placeFrom k f (n ∷ ns) = cond (equal f n && not (isNone f)) (plainly false k) (placeFrom (suc k) f ns)
 
 abbrev pub asVariant : Kind → List ℕ → Said
 asVariant k f = placeFrom 0 f (map bytes (namesOf k))

@@ -1,15 +1,16 @@
 -- The instruction that a line makes, each line's name made a number.
 use Prim.Native.Nat.{ℕ}
-use mathlib.Core.Bool.{Bool, true, false}
+use mathlib.Core.Bool.{Bool, true, false, _&&_}
 use mathlib.Core.List.{List, [], _∷_, map}
-use lib.ListN.{length}
+use lib.Dec.{leb}
+use lib.ListN.{length, getD}
 use lib.IntN.{natAbs}
 use Rattle.fields.specs.declared.Numbers.{Numbers}
 use Rattle.fields.specs.Form.{isNegative, pad}
 use Rattle.numeric.specs.declared.Built.{Built}
 use Rattle.numeric.specs.declared.Built.the-variants as built
 use Rattle.numeric.specs.Build.{buildOf}
-use Rattle.form.specs.Line.{Said, Parsed, says, no, lineOf}
+use Rattle.form.specs.Line.{Said, plainly, naming, nothing, Parsed, says, no, lineOf}
 use Rattle.form.specs.Spell.{numberAs}
 
 unfoldable pub numbersAs : (ℕ → ℕ) → List Said → Numbers
@@ -27,3 +28,21 @@ madeAs f no = built.NotInForm
 
 unfoldable pub madeOf : (ℕ → ℕ) → List ℕ → Built
 madeOf f line = madeAs f (lineOf line)
+
+-- `@` names an instruction line
+abbrev pub names : ℕ → Said → Bool
+names n (plainly negative k) = true
+names n (naming k) = leb 1 k && leb k n
+names n nothing = true
+
+abbrev pub namesAll : ℕ → List Said → Bool
+namesAll n [] = true
+namesAll n (v ∷ vs) = names n v && namesAll n vs
+
+abbrev pub namesIn : ℕ → Parsed → Bool
+namesIn n (says vs) = namesAll n vs
+namesIn n no = true
+
+-- the address of the line that a number names
+abbrev pub addressIn : List ℕ → ℕ → ℕ
+addressIn addresses k = getD (0 ∷ addresses) k 0

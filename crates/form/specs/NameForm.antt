@@ -10,7 +10,7 @@ use borrow.Author.Tests.{eqb-true, ltb-true, ltb-false}
 use Rattle.form.specs.declared.Kind.{Kind}
 use Rattle.form.specs.declared.Kind.the-variants as kind
 use Rattle.form.specs.Names.{bytes, namesOf}
-use Rattle.form.specs.Line.{Said, plainly, naming, nothing, same, isNone, placeFrom, asVariant}
+use Rattle.form.specs.Line.{Said, plainly, naming, nothing, equal, isNone, placeFrom, asVariant}
 use Rattle.form.specs.NumberForm.{both}
 
 -- no byte is a tab
@@ -18,14 +18,14 @@ abbrev pub noTab : List ℕ → Bool
 noTab [] = true
 noTab (b ∷ bs) = not (eqb b 9) && noTab bs
 
-same-is : (f g : List ℕ) → same f g ≡ true → f ≡ g
-same-is [] [] e = refl
-same-is [] (y ∷ ys) e = absurd (false≢true e)
-same-is (x ∷ xs) [] e = absurd (false≢true e)
-same-is (x ∷ xs) (y ∷ ys) e =
-    let t = both (eqb x y) (same xs ys) e in
+equal-is : (f g : List ℕ) → equal f g ≡ true → f ≡ g
+equal-is [] [] e = refl
+equal-is [] (y ∷ ys) e = absurd (false≢true e)
+equal-is (x ∷ xs) [] e = absurd (false≢true e)
+equal-is (x ∷ xs) (y ∷ ys) e =
+    let t = both (eqb x y) (equal xs ys) e in
     let h : x ≡ y = eqb-true x y (t .0) in
-    let r : xs ≡ ys = same-is xs ys (t .1) in
+    let r : xs ≡ ys = equal-is xs ys (t .1) in
     λ i. h i ∷ r i
 
 some-is : (f : List ℕ) → not (isNone f) ≡ true → 0 < length f
@@ -42,13 +42,13 @@ pub record Place (k : ℕ) (f : List ℕ) (ns : List (List ℕ)) (v : Said) : Ty
 
 pub place-is : (k : ℕ) (f : List ℕ) (ns : List (List ℕ)) (v : Said) → placeFrom k f ns ≡ v → (v ≡ nothing → ⊥) → Place k f ns v
 place-is k f [] v e h = absurd (h (sym e))
-place-is k f (n ∷ ns) v e h = go (same f n && not (isNone f)) refl e (λ q. place-is (suc k) f ns v q h)
+place-is k f (n ∷ ns) v e h = go (equal f n && not (isNone f)) refl e (λ q. place-is (suc k) f ns v q h)
   where
-    go : (t : Bool) → same f n && not (isNone f) ≡ t → cond t (plainly false k) (placeFrom (suc k) f ns) ≡ v → (placeFrom (suc k) f ns ≡ v → Place (suc k) f ns v) → Place k f (n ∷ ns) v
+    go : (t : Bool) → equal f n && not (isNone f) ≡ t → cond t (plainly false k) (placeFrom (suc k) f ns) ≡ v → (placeFrom (suc k) f ns ≡ v → Place (suc k) f ns v) → Place k f (n ∷ ns) v
     go true t q next =
-        let b = both (same f n) (not (isNone f)) t in
+        let b = both (equal f n) (not (isNone f)) t in
         let z : k ≡ k + 0 = omega arith in
-        record { at = 0; says = sym q ∙ ap (plainly false) z; here = omega arith; name = same-is f n (b .0); some = some-is f (b .1) }
+        record { at = 0; says = sym q ∙ ap (plainly false) z; here = omega arith; name = equal-is f n (b .0); some = some-is f (b .1) }
     go false t q next =
         let p = next q in
         let z : suc k + p .at ≡ k + suc (p .at) = omega arith in

@@ -13,14 +13,14 @@ use Rattle.isa.specs.Encode as encode
 use Rattle.isa.specs.Encode.{itemsOf, wordsOf, refusalOf, encodeOf, measuredAs, sizeOf}
 use Rattle.numeric.specs.declared.Built.{Built}
 use Rattle.numeric.specs.declared.Built.the-variants as built
-use Rattle.form.specs.Made.{madeOf}
+use Rattle.form.specs.Made.{madeOf, addressIn}
 use Rattle.opcode.specs.declared.Reading.the-variants.{Read}
 use Rattle.opcode.specs.Plain.{plain}
 use Rattle.opcode.specs.Read.{readOf}
 use Rattle.inverse.specs.Facts.{words-count}
 use Rattle.reads.specs.Statements as reads
 use Rattle.reads.specs.ReaderLaws.{complete}
-use Rattle.listing.specs.Sheet.{linesIn, counted, total, addressIn, encodedAs, lineEncoded}
+use Rattle.listing.specs.Sheet.{linesIn, counted, total, encodedAs, lineEncoded}
 use Rattle.listing.specs.Translate.{fine, startIn, countIn, addressesIn, imageIn, verdictOf}
 use Rattle.listing.specs.Follow.{Next, on, to, either, stop, nextOf, target, lineAt, addressOf, countOf, instructionIn, plainLine, named, Together, byLines, byWords}
 use Rattle.listing.specs.Follows.{Aims, Within, wordsAt, LineStands, AllStand, address-is, address-next, together}

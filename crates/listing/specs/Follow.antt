@@ -21,8 +21,8 @@ use Rattle.opcode.specs.declared.Reading.{Reading}
 use Rattle.opcode.specs.declared.Reading.the-variants.{Read, Short, Nothing}
 use Rattle.opcode.specs.Plain.{plain}
 use Rattle.opcode.specs.Read.{readOf}
-use Rattle.form.specs.Made.{madeOf}
-use Rattle.listing.specs.Sheet.{linesIn, counted, total, addressIn}
+use Rattle.form.specs.Made.{madeOf, addressIn}
+use Rattle.listing.specs.Sheet.{linesIn, counted, total}
 use Rattle.listing.specs.Translate.{startIn, countIn, addressesIn}
 
 -- where an instruction in plain form goes: on to what stands after it, to a target, to a target if taken and else on, or nowhere

@@ -18,10 +18,10 @@ use Rattle.numeric.specs.RoundTrip.{build-numbers}
 use Rattle.form.specs.declared.Kind.the-variants as kind
 use Rattle.form.specs.Line.{Said, says, lineOf}
 use Rattle.form.specs.Spell.{numberAs, Fits}
-use Rattle.form.specs.Made.{numbersAs, madeAs, madeOf}
+use Rattle.form.specs.Made.{numbersAs, madeAs, madeOf, namesAll, namesIn}
 use Rattle.form.specs.LineForm.{line-spelled}
 use Rattle.form.specs.InForm.{form-sound}
-use Rattle.listing.specs.Sheet.{namesAll, namesIn, sizedAs, sizedOf, counted}
+use Rattle.listing.specs.Sheet.{sizedAs, sizedOf, counted}
 use Rattle.listing.specs.Turned.{Spelt, Bounded, Turned}
 use Rattle.listing.specs.Renamed.{Follows, entries, instruction-turned}
 

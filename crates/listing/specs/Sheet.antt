@@ -17,8 +17,8 @@ use Rattle.lines.specs.Lines.{linesOf}
 use Rattle.numeric.specs.declared.Built.{Built}
 use Rattle.numeric.specs.declared.Built.the-variants as built
 use Rattle.form.specs.Names.{bytes}
-use Rattle.form.specs.Line.{Said, plainly, naming, nothing, Parsed, says, no, same, lineOf}
-use Rattle.form.specs.Made.{madeAs, madeOf}
+use Rattle.form.specs.Line.{equal, lineOf}
+use Rattle.form.specs.Made.{addressIn, namesIn, madeOf}
 use Rattle.listing.specs.declared.Listed.{Listed}
 
 -- the number of line feeds, and the last byte
@@ -51,28 +51,14 @@ abbrev pub startAs : Number → Start
 startAs (number.Is negative n) = cond (not negative && ltb n (2 ^ 32)) (at n) notInForm
 startAs number.No = notInForm
 
-abbrev pub startIn : List (List ℕ) → Start
-startIn [] = notInForm
-startIn (f ∷ []) = notInForm
-startIn (f ∷ (g ∷ [])) = cond (same f (bytes "START")) (startAs (numberOf g)) notInForm
-startIn (f ∷ (g ∷ (h ∷ fs))) = notInForm
+abbrev pub startFields : List (List ℕ) → Start
+startFields [] = notInForm
+startFields (f ∷ []) = notInForm
+startFields (f ∷ (g ∷ [])) = cond (equal f (bytes "START")) (startAs (numberOf g)) notInForm
+startFields (f ∷ (g ∷ (h ∷ fs))) = notInForm
 
 abbrev pub startOf : List ℕ → Start
-startOf line = startIn (fields line)
-
--- `@` names an instruction line
-abbrev pub names : ℕ → Said → Bool
-names n (plainly negative k) = true
-names n (naming k) = leb 1 k && leb k n
-names n nothing = true
-
-abbrev pub namesAll : ℕ → List Said → Bool
-namesAll n [] = true
-namesAll n (v ∷ vs) = names n v && namesAll n vs
-
-abbrev pub namesIn : ℕ → Parsed → Bool
-namesIn n (says vs) = namesAll n vs
-namesIn n no = true
+startOf line = startFields (fields line)
 
 -- a line of a sheet of n lines: 7, then 8, then as `size` refuses it with `@` as 0
 abbrev pub turned : ℕ → Measured
@@ -98,10 +84,6 @@ total n (l ∷ ls) = counted n l + total n ls
 abbrev pub addressesFrom : ℕ → ℕ → List (List ℕ) → List ℕ
 addressesFrom n a [] = []
 addressesFrom n a (l ∷ ls) = a ∷ addressesFrom n (a + 2 * counted n l) ls
-
--- the address of the line that a number names
-abbrev pub addressIn : List ℕ → ℕ → ℕ
-addressIn addresses k = getD (0 ∷ addresses) k 0
 
 -- a line encoded at its address, its names made addresses
 abbrev pub encodedAs : Built → ℕ → Encoded

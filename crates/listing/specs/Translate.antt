@@ -7,6 +7,7 @@ use lib.ListN.{length, drop, getD, take, replicate}
 use lib.IntN.{ℤ, pos}
 use Rattle.isa.specs.declared.Measured.{Measured}
 use Rattle.isa.specs.declared.Encoded.{Encoded}
+use Rattle.form.specs.Line.{equal}
 use Rattle.listing.specs.declared.Listed.{Listed}
 use Rattle.listing.specs.Sheet.{isSheet, startLine, linesIn, Start, at, notInForm, startOf, sizedOf, counted, total, addressesFrom, lineEncoded}
 
@@ -113,12 +114,6 @@ scratchOf text scratch image = scratchAs (verdictOf text (length scratch) (lengt
 abbrev pub isFine : Verdict → Bool
 isFine fine = true
 isFine (refused number line detail value) = false
-
-abbrev pub equal : List ℕ → List ℕ → Bool
-equal [] [] = true
-equal [] (y ∷ ys) = false
-equal (x ∷ xs) [] = false
-equal (x ∷ xs) (y ∷ ys) = eqb x y && equal xs ys
 
 unfoldable pub same : List ℕ → List ℕ → Bool
 same s t =

@@ -13,7 +13,7 @@ use Rattle.form.specs.Grammar.{fieldsOf}
 use Rattle.form.specs.Line.{Said, plainly, naming, nothing}
 use Rattle.form.specs.Spell.{numberAs, Variant, Suits, Fits}
 use Rattle.inverse.specs.Facts.{and-true, leb-is, leb-true}
-use Rattle.listing.specs.Sheet.{names, namesAll}
+use Rattle.form.specs.Made.{names, namesAll}
 
 -- the entries' numbers are what the fields say
 abbrev pub Spelt : (ℕ → ℕ) → List Said → List Entry → Type 0

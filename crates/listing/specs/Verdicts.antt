@@ -14,7 +14,7 @@ use Rattle.text.specs.Parts.{fields, onto}
 use Rattle.text.specs.Number.{numberOf}
 use Rattle.lines.specs.Lines.{linesOf}
 use Rattle.form.specs.Names.{bytes}
-use Rattle.form.specs.Line.{same}
+use Rattle.form.specs.Line.{equal}
 use Rattle.inverse.specs.Facts.{and-true, ltb-is, leb-is, eqb-eq}
 use Rattle.listing.specs.Sheet.{isSheet, feeds, last, startLine, linesIn, Start, at, notInForm, startAs, startOf, sizedOf, counted, total, lineEncoded}
 use Rattle.listing.specs.Sheet as sheet
@@ -46,10 +46,10 @@ named-low : (b : Bool) (k : Number) → startNumber (cond b (startAs k) notInFor
 named-low true k = as-low k
 named-low false k = omega arith
 
-fields-low : (fs : List (List ℕ)) → startNumber (sheet.startIn fs) < 2 ^ 32
+fields-low : (fs : List (List ℕ)) → startNumber (sheet.startFields fs) < 2 ^ 32
 fields-low [] = omega arith
 fields-low (f ∷ []) = omega arith
-fields-low (f ∷ (g ∷ [])) = named-low (same f (bytes "START")) (numberOf g)
+fields-low (f ∷ (g ∷ [])) = named-low (equal f (bytes "START")) (numberOf g)
 fields-low (f ∷ (g ∷ (h ∷ fs))) = omega arith
 
 -- a start is of 32 bits
