@@ -3,6 +3,7 @@ pub mod Grammar
 pub mod Line
 pub mod Spell
 pub mod Made
+pub mod Entries
 pub mod NumberForm
 pub mod NameForm
 pub mod JoinForm
