@@ -4,10 +4,3 @@ pub mod Line
 pub mod Spell
 pub mod Made
 pub mod Entries
-pub mod NumberForm
-pub mod NameForm
-pub mod JoinForm
-pub mod FieldForm
-pub mod LineForm
-pub mod InForm
-pub mod EveryLine

@@ -1,12 +1,3 @@
 pub mod Sheet
 pub mod Translate
 pub mod Follow
-pub mod Follows
-pub mod Verdicts
-pub mod Turned
-pub mod Renamed
-pub mod Sizes
-pub mod Lawful
-pub mod Made
-pub mod Demand
-pub mod Demand3

@@ -6,12 +6,12 @@ use mathlib.Core.List.{List}
 use lib.ListN.{take, drop}
 use Rattle.isa.specs.Encode.{itemsOf}
 use Rattle.m68k.specs.Lays.{instruction-lays, alike-count}
 use Rattle.listing.specs.Sheet.{linesIn, total}
 use Rattle.listing.specs.Translate.{fine, startIn, countIn, imageIn, verdictOf}
 use Rattle.listing.specs.Follow.{Together, byLines, byWords, countOf}
-use Rattle.listing.specs.Follows.{wordsAt, each-stands}
-use Rattle.listing.specs.Verdicts.{accepted}
-use Rattle.listing.specs.Demand.{Lays, all-stand, demand-3-from}
+use Rattle.following.specs.Follows.{wordsAt, each-stands}
+use Rattle.following.specs.Verdicts.{accepted}
+use Rattle.following.specs.Demand.{Lays, all-stand, demand-3-from}
 
 lays : Lays
 lays =

@@ -59,7 +59,7 @@ use Rattle.isa.specs.Bits.{bitParts, dynamicParts, staticParts, bitFieldParts, 
 use Rattle.isa.specs.Control.{branchParts, bccParts, dbccParts, sccParts}
 use Rattle.isa.specs.System.{movesParts, casParts}
 use Rattle.isa.specs.Instruction.{registerParts, transferParts, pairParts, wordParts, unsizedRegisterParts, unsizedOneParts, unsizedPairParts, oneParts, branchesParts, packsParts}
-use Rattle.listing.specs.Renamed.{Retarget, unmoved, displaced, indexed, Moved, intoRegister, movem, transfer, pair, quick, moveq, immediateInto, wordIntoData, swap, exg, unsizedIntoRegister, unsizedOne, unsizedPair, ext, oneOperand, bcc, scc, dbcc, branch, link, unlk, shift, vector, status, conditionCode, moveusp, raw, alone, rtd, movec, trapcc, mull, pack, cas, cas2, bf, divl}
+use Rattle.following.specs.Renamed.{Retarget, unmoved, displaced, indexed, Moved, intoRegister, movem, transfer, pair, quick, moveq, immediateInto, wordIntoData, swap, exg, unsizedIntoRegister, unsizedOne, unsizedPair, ext, oneOperand, bcc, scc, dbcc, branch, link, unlk, shift, vector, status, conditionCode, moveusp, raw, alone, rtd, movec, trapcc, mull, pack, cas, cas2, bf, divl}
 
 -- items behind others
 tail-size : (xs ys zs : List Item) → failure false ys ≡ failure false zs → length (wordsIn ys) ≡ length (wordsIn zs)

@@ -20,16 +20,16 @@ use Rattle.opcode.specs.Read.{readOf}
 use Rattle.inverse.specs.Facts.{words-count}
 use Rattle.reads.specs.Statements as reads
 use Rattle.reads.specs.ReaderLaws.{complete}
 use Rattle.listing.specs.Sheet.{linesIn, counted, total, encodedAs, lineEncoded}
 use Rattle.listing.specs.Translate.{fine, startIn, countIn, addressesIn, imageIn, verdictOf}
 use Rattle.listing.specs.Follow.{Next, on, to, either, stop, nextOf, target, lineAt, addressOf, countOf, instructionIn, plainLine, named, Together, byLines, byWords}
-use Rattle.listing.specs.Follows.{Aims, Within, wordsAt, LineStands, AllStand, address-is, address-next, together}
-use Rattle.listing.specs.Verdicts.{Accepted, accepted}
-use Rattle.listing.specs.Turned.{Bounded, Aimed}
-use Rattle.listing.specs.Renamed.{AimedAt}
-use Rattle.listing.specs.Sizes.{size-moved}
-use Rattle.listing.specs.Lawful.{instruction-typed, next-plain, Even, not-left-out, Alike, same, go-to, go-either, next-moved}
-use Rattle.listing.specs.Made.{LineMade, line-made}
+use Rattle.following.specs.Follows.{Aims, Within, wordsAt, LineStands, AllStand, address-is, address-next, together}
+use Rattle.following.specs.Verdicts.{Accepted, accepted}
+use Rattle.following.specs.Turned.{Bounded, Aimed}
+use Rattle.following.specs.Renamed.{AimedAt}
+use Rattle.following.specs.Sizes.{size-moved}
+use Rattle.following.specs.Lawful.{instruction-typed, next-plain, Even, not-left-out, Alike, same, go-to, go-either, next-moved}
+use Rattle.following.specs.Made.{LineMade, line-made}
 
 -- ---- verdicts of the encoder
 encoded-fine : (v : item.Verdict) (ws : List ℕ) → encode.encodedAs v ws .number ≡ 0 → v ≡ item.fine

@@ -16,11 +16,11 @@ use Rattle.numeric.specs.Build.{buildOf}
 use Rattle.numeric.specs.Form.{formOf, numbersOf}
 use Rattle.numeric.specs.FormLaws.{build-sound}
 use Rattle.numeric.specs.RoundTrip.{build-numbers}
 use Rattle.form.specs.Line.{Said, nothing, Parsed, says, no, lineOf}
 use Rattle.form.specs.Spell.{numberAs, spell, Line}
 use Rattle.form.specs.Made.{numbersAs, madeAs, madeOf}
-use Rattle.form.specs.NumberForm.{both}
-use Rattle.form.specs.LineForm.{line-spelled, spelled-line}
+use Rattle.spelling.specs.NumberForm.{both}
+use Rattle.spelling.specs.LineForm.{line-spelled, spelled-line}
 
 getD-pad : {A : Type 0} (n : ℕ) (d : A) (xs : List A) (k : ℕ) → k < n → getD (pad n d xs) k d ≡ getD xs k d
 getD-pad zero d xs k h = absurd (omega arith)

@@ -11,13 +11,13 @@ use Rattle.text.specs.declared.Number.{Number}
 use Rattle.text.specs.declared.Number.the-variants as number
 use Rattle.text.specs.Number.{isDigit, allDigits, value, plain, numberOf}
 use Rattle.text.specs.Written.{decimalOf}
 use Rattle.form.specs.declared.Kind.{Kind}
 use Rattle.form.specs.declared.Kind.the-variants as kind
 use Rattle.form.specs.Names.{bytes, namesOf}
 use Rattle.form.specs.Line.{Said, plainly, naming, nothing, asNumber, asName, isName, asVariant, said}
 use Rattle.form.specs.Spell.{signText, numberText, nameText, spelled, Written, Named, Either, Variant, Suits}
-use Rattle.form.specs.NumberForm.{both, digit, decimal-plain, decimal-value, plain-digits, plain-decimal, number-form, number-back}
-use Rattle.form.specs.NameForm.{noTab, Place, place-is, name-back, name-tabs}
+use Rattle.spelling.specs.NumberForm.{both, digit, decimal-plain, decimal-value, plain-digits, plain-decimal, number-form, number-back}
+use Rattle.spelling.specs.NameForm.{noTab, Place, place-is, name-back, name-tabs}
 
 -- digits are no tab and no `@`
 digits-tabs : (l : List ℕ) → allDigits l ≡ true → noTab l ≡ true

@@ -72,16 +72,16 @@ use Rattle.fields.specs.Form.{Entry, unsigned, signed, numberOf, inside, Inside
 use Rattle.numeric.specs.Form.{placeOf, formOf, numbersOf, registerOperationPlace, transferOperationPlace, pairOperationPlace, quickOperationPlace, immediateOperationPlace, wordOperationPlace, unsizedRegisterOperationPlace, unsizedOneOperationPlace, unsizedPairOperationPlace, oneOperationPlace, shiftOperationPlace, packOperationPlace, branchOperationPlace, linkOperationPlace, statusOperationPlace, conditionCodeOperationPlace, vectorOperationPlace, rawOperationPlace, plainOperationPlace}
 use Rattle.numeric.specs.Form as numeric
 use Rattle.numeric.specs.declared.Built.the-variants as built
 use Rattle.form.specs.declared.Kind.{Kind}
 use Rattle.form.specs.declared.Kind.the-variants as kind
 use Rattle.form.specs.Names.{bytes, namesOf}
 use Rattle.form.specs.Grammar.{fieldsOf}
 use Rattle.form.specs.Line.{Said, plainly, naming, nothing}
 use Rattle.form.specs.Spell.{numberAs, Suits, Variant, Fits, following, spell, Line}
 use Rattle.form.specs.Made.{madeOf}
-use Rattle.form.specs.NumberForm.{both}
-use Rattle.form.specs.NameForm.{all, below}
-use Rattle.form.specs.InForm.{form-complete}
+use Rattle.spelling.specs.NumberForm.{both}
+use Rattle.spelling.specs.NameForm.{all, below}
+use Rattle.spelling.specs.InForm.{form-complete}
 
 -- the target of an operand: its number, or a line's name
 pub data Mark : Type 0 where

@@ -74,8 +74,8 @@ use Rattle.form.specs.Names.{bytes, namesOf}
 use Rattle.form.specs.Grammar.{instructionFields}
 use Rattle.form.specs.Line.{Said, plainly, naming, nothing}
 use Rattle.opcode.specs.LeftOut.{rawLeftOut, haltLeftOut}
 use Rattle.listing.specs.Follow.{Next, on, to, either, stop, nextOf, jumps, statusNext, rawNext, plainNext, target}
-use Rattle.listing.specs.Turned.{Input, Turned, Turns, Constant, thence, number-turns, variant-turns, Aimed, target-turns, place-turns, chosen, nothing-turns}
+use Rattle.following.specs.Turned.{Input, Turned, Turns, Constant, thence, number-turns, variant-turns, Aimed, target-turns, place-turns, chosen, nothing-turns}
 
 -- an operand whose target is another
 pub data Retarget : Operand → Operand → Type 0 where

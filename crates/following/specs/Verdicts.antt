@@ -16,11 +16,11 @@ use Rattle.lines.specs.Lines.{linesOf}
 use Rattle.form.specs.Names.{bytes}
 use Rattle.form.specs.Line.{equal}
 use Rattle.inverse.specs.Facts.{and-true, ltb-is, leb-is, eqb-eq}
 use Rattle.listing.specs.Sheet.{isSheet, feeds, last, startLine, linesIn, Start, at, notInForm, startAs, startOf, sizedOf, counted, total, lineEncoded}
 use Rattle.listing.specs.Sheet as sheet
 use Rattle.listing.specs.Translate.{Verdict, fine, refused, orElse, unless, startVerdict, startNumber, asVerdict, sizesVerdict, rangesVerdict, startIn, countIn, addressesIn, needIn, verdictOf}
 use Rattle.listing.specs.Follow.{lineAt, addressOf}
-use Rattle.listing.specs.Follows.{further}
+use Rattle.following.specs.Follows.{further}
 
 refused-not : {C : Type 0} {number line detail : ℕ} {value : ℤ} → refused number line detail value ≡ fine → C
 refused-not e = let z : _≡_ {A = ℕ} 0 1 = cc in absurd (omega arith)

@@ -7,11 +7,11 @@ use native.Mathlib.Omega.{arith}
 use lib.Dec.{eqb, ltb}
 use lib.ListN.{length, getD}
 use borrow.Author.Tests.{eqb-true, ltb-true, ltb-false}
 use Rattle.form.specs.declared.Kind.{Kind}
 use Rattle.form.specs.declared.Kind.the-variants as kind
 use Rattle.form.specs.Names.{bytes, namesOf}
 use Rattle.form.specs.Line.{Said, plainly, naming, nothing, equal, isNone, placeFrom, asVariant}
-use Rattle.form.specs.NumberForm.{both}
+use Rattle.spelling.specs.NumberForm.{both}
 
 -- no byte is a tab
 abbrev pub noTab : List ℕ → Bool

@@ -19,11 +19,11 @@ use Rattle.form.specs.declared.Kind.the-variants as kind
 use Rattle.form.specs.Line.{Said, says, lineOf}
 use Rattle.form.specs.Spell.{numberAs, Fits}
 use Rattle.form.specs.Made.{numbersAs, madeAs, madeOf, namesAll, namesIn}
-use Rattle.form.specs.LineForm.{line-spelled}
-use Rattle.form.specs.InForm.{form-sound}
+use Rattle.spelling.specs.LineForm.{line-spelled}
+use Rattle.spelling.specs.InForm.{form-sound}
 use Rattle.listing.specs.Sheet.{sizedAs, sizedOf, counted}
-use Rattle.listing.specs.Turned.{Spelt, Bounded, Turned}
-use Rattle.listing.specs.Renamed.{Follows, entries, instruction-turned}
+use Rattle.following.specs.Turned.{Spelt, Bounded, Turned}
+use Rattle.following.specs.Renamed.{Follows, entries, instruction-turned}
 
 -- ---- what `sizedOf` accepts
 record Sized (b : Built) (named : Bool) : Type 0 where

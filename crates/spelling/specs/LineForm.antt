@@ -5,13 +5,13 @@ use mathlib.Core.Bool.{Bool}
 use mathlib.Core.List.{List, [], _∷_, _++_}
 use native.Mathlib.Omega.{arith}
 use Rattle.text.specs.Parts.{fields}
 use Rattle.form.specs.declared.Kind.{Kind}
 use Rattle.form.specs.declared.Kind.the-variants as kind
 use Rattle.form.specs.Grammar.{fieldsOf}
 use Rattle.form.specs.Line.{Said, plainly, naming, nothing, said, Parsed, says, no, with, after, lineFrom, lineOf}
 use Rattle.form.specs.Spell.{spelled, Suits, following, Fits, fieldsFrom, joined, spell}
-use Rattle.form.specs.FieldForm.{said-spelled, spelled-said, no-tab, suits-some}
-use Rattle.form.specs.JoinForm.{NoTabs, joined-fields, fields-joined}
+use Rattle.spelling.specs.FieldForm.{said-spelled, spelled-said, no-tab, suits-some}
+use Rattle.spelling.specs.JoinForm.{NoTabs, joined-fields, fields-joined}
 
 -- a field said, then the others
 said-on : (k : Kind) (ks : List Kind) (fs : List (List ℕ)) (v : Said) (vs : List Said) → Suits k v → lineFrom (following k v ++ ks) fs ≡ says vs

@@ -8,9 +8,9 @@ use lib.Dec.{eqb}
 use lib.ListN.{length}
 use borrow.Author.Tests.{eqb-true, not-true}
 use Rattle.text.specs.Parts.{onto, parts, fields}
 use Rattle.form.specs.Spell.{joined}
-use Rattle.form.specs.NumberForm.{both}
-use Rattle.form.specs.NameForm.{noTab}
+use Rattle.spelling.specs.NumberForm.{both}
+use Rattle.spelling.specs.NameForm.{noTab}
 
 joined-onto : (b : ℕ) (ps : List (List ℕ)) → joined (onto b ps) ≡ b ∷ joined ps
 joined-onto b [] = refl

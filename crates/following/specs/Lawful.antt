@@ -23,9 +23,9 @@ use Rattle.inverse.specs.Facts.{leb-is, as-fits32, Lt, lt?, less, notLess}
 use Rattle.opcode.specs.Plain.{plain}
 use Rattle.opcode.specs.LeftOut.{isMinusOne, branchLeftOut, leftOut}
 use Rattle.reads.specs.Statements.{TypedTrap, TypedInstruction}
 use Rattle.listing.specs.Follow.{Next, on, to, either, stop, nextOf}
-use Rattle.listing.specs.Turned.{inside-parts}
-use Rattle.listing.specs.Renamed.{entries, Moved, intoRegister, movem, transfer, pair, quick, moveq, immediateInto, wordIntoData, swap, exg, unsizedIntoRegister, unsizedOne, unsizedPair, ext, oneOperand, bcc, scc, dbcc, branch, link, unlk, shift, vector, status, conditionCode, moveusp, raw, alone, rtd, movec, trapcc, mull, pack, cas, cas2, bf, divl}
+use Rattle.following.specs.Turned.{inside-parts}
+use Rattle.following.specs.Renamed.{entries, Moved, intoRegister, movem, transfer, pair, quick, moveq, immediateInto, wordIntoData, swap, exg, unsizedIntoRegister, unsizedOne, unsizedPair, ext, oneOperand, bcc, scc, dbcc, branch, link, unlk, shift, vector, status, conditionCode, moveusp, raw, alone, rtd, movec, trapcc, mull, pack, cas, cas2, bf, divl}
 
 -- ---- numbers inside their types
 fits-i32 : (z : ℤ) → isI32 z ≡ true → Fits32 z

@@ -1,0 +1,9 @@
+pub mod Follows
+pub mod Verdicts
+pub mod Turned
+pub mod Renamed
+pub mod Sizes
+pub mod Lawful
+pub mod Made
+pub mod Demand
+pub mod Demand3

@@ -1,0 +1,7 @@
+pub mod NumberForm
+pub mod NameForm
+pub mod JoinForm
+pub mod FieldForm
+pub mod LineForm
+pub mod InForm
+pub mod EveryLine
