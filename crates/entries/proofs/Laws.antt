@@ -55,7 +55,6 @@ module _ (e : Entries) (t s : Bool) (n : ℕ) where
   unfolding placedEntry
   no-room h = cond-false (e .ok && ltb (e .count) 24) _ _ h
 
--- a place more
 and-assoc : (a b c : Bool) → a && (b && c) ≡ (a && b) && c
 and-assoc true b c = refl
 and-assoc false b c = refl
@@ -64,6 +63,7 @@ and-true : (a : Bool) → a && true ≡ a
 and-true true = refl
 and-true false = refl
 
+-- a place more
 module _ (n : ℕ) (ts : List Bool) (ks : List ℕ) where
   pub names-next : (all : Bool) (i : ℕ) → i < length ts → i < length ks
       → all && namesEach n (drop i ts) (drop i ks) ≡ (all && namesOne n (getD ts i false) (getD ks i 0)) && namesEach n (drop (i + 1) ts) (drop (i + 1) ks)

@@ -28,7 +28,7 @@ capped-cases P k low high = go (leb k 4096) refl
     go true e = low
     go false e = high (leb-false k 4096 e)
 
--- such a number names no line
+-- a number above 4,096 names no line
 module _ (n : ℕ) (few : n ≤ 4096) where
   names-capped : (k : ℕ) → leb 1 (capped k) && leb (capped k) n ≡ leb 1 k && leb k n
   names-capped k =
@@ -103,7 +103,7 @@ fits-signed (k ∷ ks) (v ∷ vs) h = (suits-signed k v (h .0), fits-signed (fol
 pub line-signed : (line : List ℕ) (vs : List Said) → lineOf line ≡ says vs → AllSigned vs
 line-signed line vs e = fits-signed (kind.Instruction ∷ []) vs (spelled-line line vs e .0)
 
--- and has no address
+-- a number above 4,096 has no address
 module _ (addresses : List ℕ) (few : length addresses ≤ 4096) where
   address-beyond : (k : ℕ) → 4096 < k → addressIn addresses k ≡ 0
   address-beyond k h = List·getD-eq-default (0 ∷ addresses) 0 {n = k} (omega arith)
