@@ -18,6 +18,7 @@ mod random;
 mod reading;
 mod replay;
 mod schema;
+mod sheet;
 mod systematic;
 mod values;
 mod written;
@@ -31,7 +32,8 @@ const USAGE: &str =
     "oracle generate SEED COUNT | list SEED COUNT | answer | compare A B | coverage | manual
        | replay PROGRAM SEED COUNT | places | reasons
        | read-answer | read-list SEED | read-replay PROGRAM SEED TAILS | read-back PROGRAM SEED COUNT
-       | read-decode PROGRAM SEED TAILS | read-objdump PROGRAM SEED TAILS";
+       | read-decode PROGRAM SEED TAILS | read-objdump PROGRAM SEED TAILS
+       | sheet-answer | sheet-one";
 
 fn main() -> ExitCode {
     let arguments: Vec<String> = env::args().skip(1).collect();
@@ -62,6 +64,8 @@ fn run(arguments: &[&str]) -> Result<usize, Box<dyn Error>> {
         ["reasons"] => reasons(),
         ["read-answer"] => answer(reading::answer::answer_line)?,
         ["read-list", seed] => reading::list::write(seed.parse()?, &mut output())?,
+        ["sheet-answer"] => sheet::answer::answer_list(&input()?, &mut output())?,
+        ["sheet-one"] => sheet::answer::answer_one(input()?, &mut output())?,
         _ => return Err(USAGE.into()),
     }
     Ok(0)
