@@ -63,6 +63,11 @@ impl<'t> Line<'t> {
     /// The instruction at `address`, each `@` as `named` says; `None` where a
     /// number is not in the form.
     pub fn placed(&self, address: u32, named: impl Fn(usize) -> u32) -> Option<Placed> {
+        placed(&self.numeric(address, named))
+    }
+
+    /// The line of the numeric form.
+    pub fn numeric(&self, address: u32, named: impl Fn(usize) -> u32) -> Vec<u8> {
         let mut numeric = address.to_string().into_bytes();
         for entry in &self.entries {
             numeric.push(b'\t');
@@ -72,7 +77,7 @@ impl<'t> Line<'t> {
                 Entry::Name(name) => numeric.extend(named(*name).to_string().bytes()),
             }
         }
-        placed(&numeric)
+        numeric
     }
 }
 

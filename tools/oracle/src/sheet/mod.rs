@@ -2,7 +2,16 @@
 //! translator with the judge.
 
 pub mod answer;
+mod cases;
+mod generate;
 mod judge;
 mod line;
+pub mod list;
+mod made;
 pub mod manual;
-pub mod record;
+mod record;
+pub mod replay;
+mod spoil;
+#[cfg(test)]
+mod tests;
+pub mod whole;
