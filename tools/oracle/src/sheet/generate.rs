@@ -33,27 +33,20 @@ pub fn draft_of(line: &str) -> Draft {
     Draft::of_line(&numeric)
 }
 
-/// Lines of many words in a short text, and lines that name a line: wide
-/// sheets, in which a word does not reach from end to end.
-const WIDE: [&str; 12] = [
-    DENSE,
-    DENSE,
-    DENSE,
-    SHORT,
-    SHORT,
-    SHORT,
-    SHORT,
-    SHORT,
+/// Eight words in 30 bytes, and two words in 6.
+pub const DENSE: &str = "ORI\t0\tExtended\t0\t307\t0\t0\tLong";
+pub const SHORT: &str = "RTD\t0";
+
+/// Lines of a wide sheet, in which a word does not reach from end to end.
+const WIDE: usize = 3_850;
+
+/// Those of its lines that name a line.
+const NAMING: [&str; 4] = [
     "BRA\t@1\tWord",
     "Bcc\t@1\tEqual\tWord",
     "DBcc\tData\t1\t@1\tFalse",
     "PEA\tPcDisplacement\t@1",
 ];
-const WIDE_LINES: usize = 4_090;
-
-/// Eight words in 30 bytes, and two words in 6.
-pub const DENSE: &str = "ORI\t0\tExtended\t0\t307\t0\t0\tLong";
-pub const SHORT: &str = "RTD\t0";
 
 /// One sheet in so many is wide.
 const RARE: u64 = 400;
@@ -70,8 +63,12 @@ pub fn sheet(random: &mut Random) -> Sheet {
 
 fn wide(random: &mut Random) -> Sheet {
     let mut sheet = Sheet::new(random.between(0, 0x4000_0000) as u32 * 2);
-    for _ in 0..WIDE_LINES {
-        sheet.push(draft_of(random.pick(&WIDE)));
+    for _ in 0..WIDE {
+        sheet.push(draft_of(match random.below(15) {
+            0..=5 => DENSE,
+            6..=13 => SHORT,
+            _ => random.pick(&NAMING),
+        }));
     }
     sheet
 }
@@ -133,7 +130,7 @@ pub fn record(random: &mut Random) -> Record {
 /// What is lent where `need` is needed: mostly enough.
 fn lent(need: usize, usual: usize, most: usize, random: &mut Random) -> usize {
     let lent = match random.below(60) {
-        0..=29 => usual,
+        0..=29 => usual.max(need),
         30..=41 => need,
         42..=47 => need + 1,
         48 => need.saturating_sub(1),

@@ -96,11 +96,13 @@ impl Sheet {
         self.lines.push(Made { draft, names });
     }
 
-    /// Names a line within reach for every branch, and for some operands.
+    /// Names a line within reach for every branch, for some operands, and for
+    /// those that are not accepted as they are.
     pub fn name_targets(&mut self, random: &mut Random) {
         for line in 0..self.lines.len() {
+            let accepted = accepts(&self.lines[line].draft.line());
             for (at, naming) in self.lines[line].targets() {
-                if naming == Naming::Only || random.chance(60) {
+                if naming == Naming::Only || random.chance(60) || !accepted {
                     let target = self.reachable(line, at, random);
                     self.name(line, at, target);
                 }

@@ -35,7 +35,9 @@ fn example(line: &'static str) -> Example {
 }
 
 fn spelled_out(text: &str) -> String {
-    text.replace('⇥', "\t").replace('¶', "\n")
+    text.replace('⇥', "\t")
+        .replace('␍', "\r")
+        .replace('¶', "\n")
 }
 
 /// Checks every example; gives how many differ.

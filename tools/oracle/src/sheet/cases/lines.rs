@@ -127,12 +127,28 @@ const NAMES: [&str; 42] = [
     "JMP\tPcDisplacement\t-1",
 ];
 
+/// Digits, tabs or letters in a long field or line.
+const LONG: usize = 5_000;
+
 pub fn all() -> Vec<Record> {
     let names = NAMES.iter().map(|line| second(line.as_bytes()));
-    outside().into_iter().chain(names).collect()
+    let long = long().map(|line| second(line.as_bytes()));
+    outside().into_iter().chain(names).chain(long).collect()
 }
 
 /// Lines that are not in the form.
 pub fn outside() -> Vec<Record> {
     LINES.into_iter().map(second).collect()
+}
+
+/// A name of no line, one that is no name, a number, fields and a variant.
+fn long() -> [String; 5] {
+    let digits = "1".repeat(LONG);
+    [
+        format!("BRA\t@{digits}\tWord"),
+        format!("BRA\t@{digits}x\tWord"),
+        format!("MOVEQ\t{digits}\tData\t0"),
+        format!("NOP{}", "\t".repeat(LONG)),
+        format!("NOP{}", "P".repeat(LONG)),
+    ]
 }
