@@ -1,4 +1,5 @@
-//! Compares an encoder and a reader with the Rust original. README.md says how.
+//! Compares an encoder, a reader and a sheet translator with the Rust original.
+//! README.md says how.
 
 mod answer;
 mod batch;
