@@ -7,7 +7,7 @@ use std::thread;
 use crate::answer::lines;
 
 /// The program takes up to 1 MiB of input a run.
-const MOST: usize = 1_000_000;
+pub const MOST: usize = 1_000_000;
 
 const MISSING: &[u8] = b"<no line>";
 
@@ -59,7 +59,8 @@ impl<'p, N, F: FnMut(&[u8], N, &[u8])> Batches<'p, N, F> {
     }
 }
 
-fn output_of(program: &str, input: Vec<u8>) -> io::Result<Vec<u8>> {
+/// What a program prints to an input.
+pub fn output_of(program: &str, input: Vec<u8>) -> io::Result<Vec<u8>> {
     let mut child = Command::new(program)
         .stdin(Stdio::piped())
         .stdout(Stdio::piped())

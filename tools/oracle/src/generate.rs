@@ -78,7 +78,7 @@ fn any_operands(place: usize, address: u32, random: &mut Random) -> Draft {
 }
 
 /// `base` with one number moved to an end of some range.
-fn at_end(base: &Draft, random: &mut Random) -> Draft {
+pub fn at_end(base: &Draft, random: &mut Random) -> Draft {
     let places = base.leaves();
     let mut changed = base.clone();
     if places.is_empty() {

@@ -1,4 +1,5 @@
-//! Compares an encoder and a reader with the Rust original. README.md says how.
+//! Compares an encoder, a reader and a sheet translator with the Rust original.
+//! README.md says how.
 
 mod answer;
 mod batch;
@@ -18,6 +19,7 @@ mod random;
 mod reading;
 mod replay;
 mod schema;
+mod sheet;
 mod systematic;
 mod values;
 mod written;
@@ -31,7 +33,9 @@ const USAGE: &str =
     "oracle generate SEED COUNT | list SEED COUNT | answer | compare A B | coverage | manual
        | replay PROGRAM SEED COUNT | places | reasons
        | read-answer | read-list SEED | read-replay PROGRAM SEED TAILS | read-back PROGRAM SEED COUNT
-       | read-decode PROGRAM SEED TAILS | read-objdump PROGRAM SEED TAILS";
+       | read-decode PROGRAM SEED TAILS | read-objdump PROGRAM SEED TAILS
+       | sheet-answer | sheet-one | sheet-list SEED | sheet-replay PROGRAM SEED COUNT
+       | sheet-whole | sheet-whole-source | sheet-whole-image | sheet-whole-time ROUNDS";
 
 fn main() -> ExitCode {
     let arguments: Vec<String> = env::args().skip(1).collect();
@@ -62,6 +66,13 @@ fn run(arguments: &[&str]) -> Result<usize, Box<dyn Error>> {
         ["reasons"] => reasons(),
         ["read-answer"] => answer(reading::answer::answer_line)?,
         ["read-list", seed] => reading::list::write(seed.parse()?, &mut output())?,
+        ["sheet-answer"] => sheet::answer::answer_list(&input()?, &mut output())?,
+        ["sheet-one"] => sheet::answer::answer_one(input()?, &mut output())?,
+        ["sheet-list", seed] => sheet::list::write(seed.parse()?, &mut output())?,
+        ["sheet-whole"] => output().write_all(sheet::whole::sheet().as_bytes())?,
+        ["sheet-whole-source"] => output().write_all(sheet::whole::source().as_bytes())?,
+        ["sheet-whole-image"] => output().write_all(&sheet::whole::image())?,
+        ["sheet-whole-time", rounds] => sheet::whole::time(rounds.parse()?),
         _ => return Err(USAGE.into()),
     }
     Ok(0)
@@ -75,6 +86,7 @@ fn against(command: &str, program: &str, seed: u64, count: usize) -> Result<usiz
         "read-back" => different(reading::back::replay(program, seed, count)?),
         "read-decode" => unexplained(reading::decoder::compare(program, seed, count)?),
         "read-objdump" => unexplained(reading::objdump::compare(program, seed, count)?),
+        "sheet-replay" => different(sheet::replay::replay(program, seed, count)?),
         _ => Err(USAGE.into()),
     }
 }

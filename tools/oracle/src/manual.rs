@@ -1,6 +1,6 @@
 //! Worked encodings and readings written down by hand: the text, the line and the answer.
 
-use crate::{answer, reading};
+use crate::{answer, reading, sheet};
 
 const MANUAL: &str = include_str!("../manual.txt");
 const READING: &str = include_str!("../reading.txt");
@@ -40,6 +40,7 @@ fn read(text: &'static str) -> Vec<Example> {
 pub fn check() -> usize {
     differing("encodings", &examples(), answer::answer_line)
         + differing("readings", &readings(), reading::answer::answer_line)
+        + sheet::manual::check()
 }
 
 fn differing(what: &str, examples: &[Example], answer_line: fn(&[u8]) -> String) -> usize {

@@ -72,6 +72,11 @@ pub fn is_operand(kind: &'static Type) -> bool {
     std::ptr::eq(kind, &OPERAND)
 }
 
+/// Whether these are the two places of `bool`.
+pub fn is_bool(variants: &'static [Variant]) -> bool {
+    std::ptr::eq(variants, self::variants(&BOOL))
+}
+
 /// Whether `kind` is an enum whose variants have no fields.
 pub fn is_plain_enum(kind: &'static Type) -> bool {
     let variants = variants(kind);

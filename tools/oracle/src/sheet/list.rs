@@ -1,0 +1,51 @@
+//! The stored list of sheets.
+
+use std::collections::HashSet;
+use std::io::{self, Write};
+use std::ops::RangeInclusive;
+
+use super::cases::{ends, instructions, large, lines, order, reach};
+use super::generate::record;
+use super::manual;
+use super::record::Record;
+use crate::random::Random;
+
+/// Random sheets: how many, of how many bytes.
+const RANDOM: [(usize, RangeInclusive<usize>); 2] = [(400, 1..=600), (20, 2_000..=10_000)];
+
+pub fn write(seed: u64, output: &mut impl Write) -> io::Result<()> {
+    for record in records(seed) {
+        record.write(output)?;
+    }
+    output.flush()
+}
+
+/// The records, none twice.
+pub fn records(seed: u64) -> Vec<Record> {
+    let mut random = Random::new(seed);
+    let worked = manual::examples().into_iter();
+    let all = [
+        worked.map(|example| example.record).collect(),
+        instructions::all(&mut random),
+        order::all(),
+        lines::all(),
+        ends::all(&mut random),
+        reach::all(),
+        large::all(),
+        sampled(&mut random),
+    ];
+    let mut seen = HashSet::new();
+    let mut all = all.concat();
+    all.retain(|record| seen.insert(record.clone()));
+    all
+}
+
+fn sampled(random: &mut Random) -> Vec<Record> {
+    let mut found = Vec::new();
+    for (count, bytes) in RANDOM {
+        let records = std::iter::repeat_with(|| record(random));
+        let fitting = records.filter(|record| bytes.contains(&record.text.len()));
+        found.extend(fitting.take(count));
+    }
+    found
+}
