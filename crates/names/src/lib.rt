@@ -2,7 +2,7 @@
 ghost use mathlib.Core.Path.{_≡_};
 ghost use Rattle.text.specs.Parts.{fields};
 ghost use Rattle.text.specs.Number.{numberOf};
-ghost use Rattle.form.specs.Line.{asNumber, asName, placeFrom, said};
+ghost use Rattle.form.specs.Line.{asNumber, asName, asVariant, placeFrom, said};
 ghost use Rattle.form.specs.Line as line;
 ghost use Rattle.form.specs.Entries.{valueOf};
 ghost use Rattle.form.specs.Entries as entries;
@@ -66,19 +66,14 @@ fn number(f: &[u8]) -> Value
     }
 }
 
-fn wide(b: u8) -> u64
-    ensures { λ r. ⌜ r ≡ b ⌝ }
-{
-    b as u64
-}
-
+// A line's number, 4,097 where it is more than 4,096.
 fn capped(n: u64) -> u64
     ensures { λ r. ⌜ r ≡ entries.capped n ⌝ }
 {
     if n <= 4096 { n } else { 4097 }
 }
 
-// The line whose number digits write.
+// The line whose number digits write, of any length.
 fn line_number(f: &[u8]) -> Value
     ensures { λ r. ⌜ r ≡ lineAfter 0 (now (f .entry)) ⌝ }
 {
@@ -92,12 +87,13 @@ fn line_number(f: &[u8]) -> Value
         if 57 < b {
             return Value::None;
         }
-        a = capped(a * 10 + wide(b - 48));
+        a = capped(a * 10 + (b - 48) as u64);
         i += 1;
     }
     Value::Line(a)
 }
 
+// `@` and a line's number.
 fn line_name(f: &[u8]) -> Value
     ensures { λ r. ⌜ r ≡ valueOf (asName (now (f .entry))) ⌝ }
 {
@@ -113,7 +109,7 @@ fn line_name(f: &[u8]) -> Value
     line_number(&f[1..])
 }
 
-// `@` and a line's number, or a number.
+// A line's name or a number.
 fn place(f: &[u8]) -> Value
     ensures { λ r. ⌜ r ≡ valueOf (said Kind.Place (now (f .entry))) ⌝ }
 {
@@ -124,6 +120,41 @@ fn place(f: &[u8]) -> Value
         return line_name(f);
     }
     number(f)
+}
+
+fn condition(f: &[u8]) -> Value
+    ensures { λ r. ⌜ r ≡ valueOf (asVariant Kind.Condition (now (f .entry))) ⌝ }
+{
+    find(
+        b"True\tFalse\tHigh\tLowOrSame\tCarryClear\tCarrySet\tNotEqual\tEqual\tOverflowClear\tOverflowSet\tPlus\t\
+          Minus\tGreaterThanOrEqual\tLessThan\tGreaterThan\tLessThanOrEqual",
+        f,
+    )
+}
+
+fn operand(f: &[u8]) -> Value
+    ensures { λ r. ⌜ r ≡ valueOf (asVariant Kind.Operand (now (f .entry))) ⌝ }
+{
+    find(
+        b"Immediate\tRegister\tIndirect\tPostIndirect\tPreIndirect\tIndirectDisplacement\tIndirectIndex\t\
+          PcDisplacement\tPcIndex\tExtended\tAbsolute",
+        f,
+    )
+}
+
+// IllegalWord and SIMHALT have no line: their places have no name.
+fn instruction(f: &[u8]) -> Value
+    ensures { λ r. ⌜ r ≡ valueOf (asVariant Kind.Instruction (now (f .entry))) ⌝ }
+{
+    find(
+        b"ADDA\tSUBA\tCMPA\tMOVEA\tMOVEM\tMOVE\tADD\tSUB\tADDX\tSUBX\tADDQ\tMOVEQ\tSUBQ\tADDI\tSUBI\tANDI\tORI\tEORI\t\
+          CMPI\tCMPM\tDIVx\tMULx\tSWAP\tCLR\tEXG\tLEA\tPEA\tNEG\tNEGX\tABCD\tSBCD\tNBCD\tEXT\tTST\tCMP\tBcc\tScc\t\
+          DBcc\tBRA\tLINK\tUNLK\tNOT\tOR\tAND\tEOR\tJSR\tASd\tROd\tLSd\tROXd\tBTST\tBCLR\tBSET\tBCHG\tJMP\tBSR\tTRAP\t\
+          RTE\tSTOP\tRESET\tMOVEUSP\tLINEA\tLINEF\tMOVEP\tMOVEtoCCR\tMOVEfromCCR\tMOVEtoSR\tMOVEfromSR\tANDItoCCR\t\
+          ORItoCCR\tEORItoCCR\tANDItoSR\tORItoSR\tEORItoSR\tTAS\tRTR\tCHK\tTRAPV\tILLEGAL\t\tRTS\tNOP\t\tRTD\tBKPT\t\
+          MOVEC\tMOVES\tCHKL\tLINKL\tTRAPcc\tMULL\tPACK\tUNPK\tCHK2\tCMP2\tCAS\tCAS2\tBF\tDIVL",
+        f,
+    )
 }
 
 // What a field of a kind says.
@@ -138,15 +169,18 @@ pub fn value(kind: Kind, f: &[u8]) -> Value
         Kind::TargetDirection => find(b"ToMemory\tFromMemory", f),
         Kind::RegisterOperand => find(b"Address\tData", f),
         Kind::AddressWidth => find(b"Word\tLong", f),
-        Kind::Condition => find(b"True\tFalse\tHigh\tLowOrSame\tCarryClear\tCarrySet\tNotEqual\tEqual\tOverflowClear\tOverflowSet\tPlus\tMinus\tGreaterThanOrEqual\tLessThan\tGreaterThan\tLessThanOrEqual", f),
+        Kind::Condition => condition(f),
         Kind::BranchSize => find(b"Short\tWord\tLong", f),
         Kind::ShiftDirection => find(b"Right\tLeft", f),
         Kind::Sign => find(b"Signed\tUnsigned", f),
-        Kind::BitFieldOperation => find(b"Test\tExtractUnsigned\tChange\tExtractSigned\tClear\tFindFirstOne\tSet\tInsert", f),
+        Kind::BitFieldOperation => find(
+            b"Test\tExtractUnsigned\tChange\tExtractSigned\tClear\tFindFirstOne\tSet\tInsert",
+            f,
+        ),
         Kind::FieldValue => find(b"Immediate\tRegister", f),
         Kind::TrapOperand => find(b"None\tWord\tLong", f),
         Kind::RegisterChoice => find(b"None\tSome", f),
-        Kind::Operand => find(b"Immediate\tRegister\tIndirect\tPostIndirect\tPreIndirect\tIndirectDisplacement\tIndirectIndex\tPcDisplacement\tPcIndex\tExtended\tAbsolute", f),
-        Kind::Instruction => find(b"ADDA\tSUBA\tCMPA\tMOVEA\tMOVEM\tMOVE\tADD\tSUB\tADDX\tSUBX\tADDQ\tMOVEQ\tSUBQ\tADDI\tSUBI\tANDI\tORI\tEORI\tCMPI\tCMPM\tDIVx\tMULx\tSWAP\tCLR\tEXG\tLEA\tPEA\tNEG\tNEGX\tABCD\tSBCD\tNBCD\tEXT\tTST\tCMP\tBcc\tScc\tDBcc\tBRA\tLINK\tUNLK\tNOT\tOR\tAND\tEOR\tJSR\tASd\tROd\tLSd\tROXd\tBTST\tBCLR\tBSET\tBCHG\tJMP\tBSR\tTRAP\tRTE\tSTOP\tRESET\tMOVEUSP\tLINEA\tLINEF\tMOVEP\tMOVEtoCCR\tMOVEfromCCR\tMOVEtoSR\tMOVEfromSR\tANDItoCCR\tORItoCCR\tEORItoCCR\tANDItoSR\tORItoSR\tEORItoSR\tTAS\tRTR\tCHK\tTRAPV\tILLEGAL\t\tRTS\tNOP\t\tRTD\tBKPT\tMOVEC\tMOVES\tCHKL\tLINKL\tTRAPcc\tMULL\tPACK\tUNPK\tCHK2\tCMP2\tCAS\tCAS2\tBF\tDIVL", f),
+        Kind::Operand => operand(f),
+        Kind::Instruction => instruction(f),
     }
 }

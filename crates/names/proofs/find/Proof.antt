@@ -9,10 +9,6 @@ use Rattle.form.specs.Entries.{valueOf}
 use Rattle.names.proofs.Laws.{place-none, place-start, place-here, place-later, place-end}
 use Rattle.names.proofs.find.Statement.{statement}
 use Rattle.names.proofs.find.Tie as tie
-use Rattle.names.proofs.find.Reads as reads
-use Rattle.names.proofs.find.Lts as lts
-use Rattle.names.proofs.equal.Reads as equal-reads
-use Rattle.text.proofs.field_end.Reads as field-end-reads
 
 abbrev Inv-loop : tie.InvT-loop
 Inv-loop names f place₀ from₀ place from =
@@ -21,39 +17,31 @@ Inv-loop names f place₀ from₀ place from =
 abbrev μ-loop : tie.MeasureT-loop
 μ-loop names f place₀ from₀ place from = length names + 1 - from
 
--- src/lib.rt:35:9
 returns : tie.Need-returns Inv-loop μ-loop
 returns c =
     let a = c .before .before .before .args in
     sym (ap valueOf (place-none (a .f .now) (c .if1 .taken) 0 (fields (a .names .now))))
 
--- src/lib.rt:39:5
 loop-holds : tie.Need-loop-holds Inv-loop μ-loop
 loop-holds c =
     let a = c .before .before .before .args in
     (omega arith, omega arith, place-start (a .names .now) (a .f .now))
 
--- src/lib.rt:40:13
 field-end-requires : tie.Need-field-end-requires Inv-loop μ-loop
 field-end-requires c κs = omega arith
 
--- src/lib.rt:41:21
 sub-equal : tie.Need-sub-equal Inv-loop μ-loop
 sub-equal c = omega arith
 
--- src/lib.rt:41:21
 part-equal-start : tie.Need-part-equal-start Inv-loop μ-loop
 part-equal-start c = omega arith
 
--- src/lib.rt:41:21
 part-equal-end : tie.Need-part-equal-end Inv-loop μ-loop
 part-equal-end c = omega arith
 
--- src/lib.rt:41:12
 equal-requires : tie.Need-equal-requires Inv-loop μ-loop
 equal-requires c κs = tt
 
--- src/lib.rt:42:13
 returns-2 : tie.Need-returns-2 Inv-loop μ-loop
 returns-2 c =
     let e = c .before .before .before .field-end in
@@ -62,32 +50,26 @@ returns-2 c =
     let t = sym (c .before .equal .ensures) ∙ c .if2 .taken in
     sym (ap valueOf (b .loop .inv .2 ∙ place-here (a .names .now) (a .f .now) (b .loop .place) (b .loop .from) (e .result) (omega arith) (e .ensures .0) (b .before .if1 .left) t))
 
--- src/lib.rt:47:9
 add-place : tie.Need-add-place Inv-loop μ-loop
 add-place c = omega arith
 
--- src/lib.rt:48:16
 add-from : tie.Need-add-from Inv-loop μ-loop
 add-from c = omega arith
 
--- src/lib.rt:39:5
 loop-less : tie.Need-loop-less Inv-loop μ-loop
 loop-less c = omega arith
 
--- src/lib.rt:39:5
 loop-again : tie.Need-loop-again Inv-loop μ-loop
 loop-again c =
     let e = c .before .before .before .field-end in
     let b = c .before .before .before .before .before in
     let a = b .before .before .before .before .args in
-    let t = sym (c .before .equal .ensures) ∙ c .if2 .left in
-    (
+    let t = sym (c .before .equal .ensures) ∙ c .if2 .left in (
       omega arith,
       omega arith,
       b .loop .inv .2 ∙ place-later (a .names .now) (a .f .now) (b .loop .place) (b .loop .from) (e .result) (omega arith) (e .ensures .0) (b .before .if1 .left) t,
     )
 
--- src/lib.rt:31:1
 returns-3 : tie.Need-returns-3 Inv-loop μ-loop
 returns-3 c =
     let b = c .before in

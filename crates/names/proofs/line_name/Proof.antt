@@ -4,47 +4,34 @@ use Rattle.names.proofs.Laws.{name-short, name-other, name-zeros, name-
 use borrow.Author.Needs.{needs}
 use Rattle.names.proofs.line_name.Statement.{statement}
 use Rattle.names.proofs.line_name.Tie as tie
-use Rattle.names.proofs.line_name.Reads as reads
-use Rattle.names.proofs.line_name.Lts as lts
-use Rattle.names.proofs.line_number.Reads as line-number-reads
 
--- src/lib.rt:105:9
 returns : tie.Need-returns
 returns c = sym (ap valueOf (name-short (c .before .before .args .f .now) (c .if1 .taken)))
 
--- src/lib.rt:107:8
 shared-slice-read-if2 : tie.Need-shared-slice-read-if2
 shared-slice-read-if2 c = search needs
 
--- src/lib.rt:108:9
 returns-2 : tie.Need-returns-2
 returns-2 c = sym (ap valueOf (name-other (c .before .before .before .before .args .f .now) (c .if2 .taken)))
 
--- src/lib.rt:110:9
 shared-slice-read-if3 : tie.Need-shared-slice-read-if3
 shared-slice-read-if3 c = search needs
 
--- src/lib.rt:111:9
 returns-3 : tie.Need-returns-3
 returns-3 c = sym (ap valueOf (name-zeros (c .before .before .before .before .before .before .args .f .now) (c .if3 .taken)))
 
--- src/lib.rt:113:17
 sub-line-number : tie.Need-sub-line-number
 sub-line-number c = search needs
 
--- src/lib.rt:113:17
 part-line-number-start : tie.Need-part-line-number-start
 part-line-number-start c = search needs
 
--- src/lib.rt:113:17
 part-line-number-end : tie.Need-part-line-number-end
 part-line-number-end c = search needs
 
--- src/lib.rt:113:5
 line-number-requires : tie.Need-line-number-requires
 line-number-requires c κs = search needs
 
--- src/lib.rt:101:1
 returns-4 : tie.Need-returns-4
 returns-4 c =
     let b = c .before .before .before .before in

@@ -1,15 +1,11 @@
 use mathlib.Core.Path.{_≡_, refl, sym, _∙_}
 use Prim.Native.Nat.{_+_, _*_, _-_, _≤_}
 use native.Mathlib.Omega.{arith}
-use lib.ListN.{length, drop}
+use lib.ListN.{length, drop, getD}
 use Rattle.names.specs.LineNumber.{lineAfter}
 use Rattle.names.proofs.Laws.{line-more, line-low, line-high, line-end, capped-fits}
 use Rattle.names.proofs.line_number.Statement.{statement}
 use Rattle.names.proofs.line_number.Tie as tie
-use Rattle.names.proofs.line_number.Reads as reads
-use Rattle.names.proofs.line_number.Lts as lts
-use Rattle.names.proofs.capped.Reads as capped-reads
-use Rattle.names.proofs.wide.Reads as wide-reads
 
 abbrev Inv-loop : tie.InvT-loop
 Inv-loop f a₀ i₀ a i = (i ≤ length f) × (a ≤ 4097) × (lineAfter 0 f ≡ lineAfter a (drop i f))
@@ -38,8 +34,8 @@ returns-2 c =
 mul-capped : tie.Need-mul-capped Inv-loop μ-loop
 mul-capped c = omega arith
 
-wide-requires : tie.Need-wide-requires Inv-loop μ-loop
-wide-requires c κs = tt
+cast-capped : tie.Need-cast-capped Inv-loop μ-loop
+cast-capped c = omega arith
 
 add-capped : tie.Need-add-capped Inv-loop μ-loop
 add-capped c = omega arith
@@ -55,10 +51,11 @@ loop-less c = omega arith
 
 loop-again : tie.Need-loop-again Inv-loop μ-loop
 loop-again c =
-    let b = c .before .before .before .before .before .before in
+    let b = c .before .before .before .before .before in
     let f = b .before .before .args .f .now in
+    let d = b .loop .a * 10 + (getD f (b .loop .i) 0 - 48) in
     let m = line-more f (b .loop .i) (b .loop .a) (omega arith) (omega arith) (omega arith) in
-    (omega arith, rw (c .capped .ensures) (capped-fits (b .loop .a * 10 + c .before .wide .result)), rw (c .capped .ensures, c .before .wide .ensures) (b .loop .inv .2 ∙ m))
+    (omega arith, rw (c .capped .ensures) (capped-fits d), rw (c .capped .ensures) (b .loop .inv .2 ∙ m))
 
 returns-3 : tie.Need-returns-3 Inv-loop μ-loop
 returns-3 c =
@@ -77,7 +74,7 @@ line-number-spec =
     returns
     returns-2
     mul-capped
-    wide-requires
+    cast-capped
     add-capped
     capped-requires
     add-i

@@ -5,27 +5,19 @@ use Rattle.form.specs.Entries.{valueOf}
 use borrow.Author.Needs.{needs}
 use Rattle.names.proofs.number.Statement.{statement}
 use Rattle.names.proofs.number.Tie as tie
-use Rattle.names.proofs.number.Reads as reads
-use Rattle.names.proofs.number.Lts as lts
-use Rattle.text.proofs.read_number.Reads as read-number-reads
 
--- src/lib.rt:56:9
 read-number-requires : tie.Need-read-number-requires
 read-number-requires c κs = search needs
 
--- src/lib.rt:59:13
 enum-known-n : tie.Need-enum-known-n
 enum-known-n c = search needs
 
--- src/lib.rt:65:23
 enum-told : tie.Need-enum-told
 enum-told c = search needs
 
--- src/lib.rt:53:1
 returns : tie.Need-returns
 returns c = ap (λ (n : Number). valueOf (asNumber n)) (sym (c .before .n .given .1) ∙ c .before .before .before .read-number .ensures)
 
--- src/lib.rt:53:1
 returns-2 : tie.Need-returns-2
 returns-2 c = search needs
 

@@ -4,32 +4,22 @@ use Rattle.names.proofs.Laws.{said-none, said-name, said-number}
 use borrow.Author.Needs.{needs}
 use Rattle.names.proofs.place.Statement.{statement}
 use Rattle.names.proofs.place.Tie as tie
-use Rattle.names.proofs.place.Reads as reads
-use Rattle.names.proofs.place.Lts as lts
-use Rattle.names.proofs.line_name.Reads as line-name-reads
-use Rattle.names.proofs.number.Reads as number-reads
 
--- src/lib.rt:121:9
 returns : tie.Need-returns
 returns c = sym (ap valueOf (said-none (c .before .before .args .f .now) (c .if1 .taken)))
 
--- src/lib.rt:123:8
 shared-slice-read-if2 : tie.Need-shared-slice-read-if2
 shared-slice-read-if2 c = search needs
 
--- src/lib.rt:124:9
 line-name-requires : tie.Need-line-name-requires
 line-name-requires c κs = search needs
 
--- src/lib.rt:124:9
 returns-2 : tie.Need-returns-2
 returns-2 c = c .line-name .ensures ∙ sym (ap valueOf (said-name (c .before .before .before .before .before .args .f .now) (c .before .if2 .taken)))
 
--- src/lib.rt:126:5
 number-requires : tie.Need-number-requires
 number-requires c κs = search needs
 
--- src/lib.rt:117:1
 returns-3 : tie.Need-returns-3
 returns-3 c = c .number .ensures ∙ sym (ap valueOf (said-number (c .before .before .before .before .before .args .f .now) (c .before .if2 .left)))
 
