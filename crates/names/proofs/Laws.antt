@@ -1,6 +1,6 @@
 -- Laws of what a field says, a byte or a name at a time. Assumes nothing.
 use mathlib.Core.Path.{_≡_, refl, sym, ap, _∙_}
-use mathlib.Core.Bool.{Bool, true, false, cond, not, _&&_}
+use mathlib.Core.Bool.{Bool, true, false, cond, not, _&&_, and-true, and-false}
 use mathlib.Core.List.{List, [], _∷_}
 use Prim.Native.Nat.{ℕ, suc, _+_, _*_, _-_, _≤_, _<_}
 use native.Mathlib.Omega.{arith}
@@ -14,9 +14,8 @@ use Rattle.text.specs.PartLaws.{partsFrom, parts-at, parts-start, parts-past, p
 use Rattle.text.specs.Number.{isDigit, allDigits, valueFrom, numberOf}
 use Rattle.text.specs.NumberLaws.{value-grows}
 use Rattle.form.specs.declared.Kind.the-variants as kind
-use Rattle.form.specs.declared.Value.{Value}
 use Rattle.form.specs.declared.Value.the-variants as value
-use Rattle.form.specs.Line.{Said, plainly, naming, nothing, equal, isNone, placeFrom, asName, asNumber, said}
+use Rattle.form.specs.Line.{plainly, naming, nothing, equal, isNone, placeFrom, asName, asNumber, said}
 use Rattle.form.specs.Entries.{capped, valueOf}
 use Rattle.names.specs.LineNumber.{lineAfter}
 
@@ -95,14 +94,6 @@ pub line-end : (f : List ℕ) (i a : ℕ) → length f ≤ i → a ≤ 4097 → 
 line-end f i a h g = rw (drop-of-length-le f h) (ap value.Line (capped-same a g))
 
 -- `@` and a number, by its first bytes
-and-false : (t : Bool) → t && false ≡ false
-and-false true = refl
-and-false false = refl
-
-and-true : (t : Bool) → t && true ≡ t
-and-true true = refl
-and-true false = refl
-
 and-first : (t u : Bool) → t && u ≡ true → t ≡ true
 and-first true u e = refl
 and-first false u e = e
@@ -122,11 +113,7 @@ name-zeros (b ∷ []) e = rw (and-false (eqb b 64))
 name-zeros (b ∷ (d ∷ [])) e = let z : _≡_ {A = ℕ} 0 1 = cc (and-false (eqb d 48)) in absurd (omega arith)
 name-zeros (b ∷ (d ∷ (x ∷ bs))) e = rw (and-first (eqb d 48) (ltb 2 (suc (suc (suc (length bs))))) e, and-false (eqb b 64))
 
--- a name and its line
-abbrev lineIf : Bool → ℕ → Value
-lineIf t n = cond t (value.Line (capped n)) value.None
-
-naming-if : (t : Bool) (n : ℕ) → valueOf (cond t (naming n) nothing) ≡ lineIf t n
+naming-if : (t : Bool) (n : ℕ) → valueOf (cond t (naming n) nothing) ≡ cond t (value.Line (capped n)) value.None
 naming-if true n = refl
 naming-if false n = refl
 
@@ -140,11 +127,11 @@ name-digits (b ∷ (d ∷ (x ∷ bs))) h e t =
     let n : eqb d 48 ≡ false = sym (and-true (eqb d 48)) ∙ rw (lt-ltb 2 (suc (suc (suc (length bs)))) (omega arith)) at t in
     rw (eq-eqb b 64 e, n, take-all (suc (suc (suc (length bs))) - 1) l (omega arith)) (naming-if (allDigits l) (valueFrom 0 l))
 
+-- the place of a name, a name at a time
 some : (f : List ℕ) → (length f ≡ 0 → ⊥) → not (isNone f) ≡ true
 some [] h = absurd (h refl)
 some (b ∷ bs) h = refl
 
--- the place of a name, a name at a time
 pub place-none : (f : List ℕ) → length f ≡ 0 → (k : ℕ) (ns : List (List ℕ)) → placeFrom k f ns ≡ nothing
 place-none [] h k [] = refl
 place-none [] h k (n ∷ ns) = rw (and-false (equal [] n)) (place-none [] h (suc k) ns)

@@ -11,6 +11,7 @@ use form::Kind;
 use form::Value;
 use text::Number;
 
+// Whether two texts are equal.
 pub fn equal(f: &[u8], g: &[u8]) -> bool
     ensures { λ r. ⌜ r ≡ line.equal (now (f .entry)) (now (g .entry)) ⌝ }
 {
@@ -50,6 +51,7 @@ fn find(names: &[u8], f: &[u8]) -> Value
     Value::None
 }
 
+// What a number's field says.
 fn number(f: &[u8]) -> Value
     ensures { λ r. ⌜ r ≡ valueOf (asNumber (numberOf (now (f .entry)))) ⌝ }
 {

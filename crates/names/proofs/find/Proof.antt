@@ -48,7 +48,8 @@ returns-2 c =
     let b = c .before .before .before .before .before in
     let a = b .before .before .before .before .args in
     let t = sym (c .before .equal .ensures) ∙ c .if2 .taken in
-    sym (ap valueOf (b .loop .inv .2 ∙ place-here (a .names .now) (a .f .now) (b .loop .place) (b .loop .from) (e .result) (omega arith) (e .ensures .0) (b .before .if1 .left) t))
+    let p = place-here (a .names .now) (a .f .now) (b .loop .place) (b .loop .from) (e .result) (omega arith) (e .ensures .0) (b .before .if1 .left) t in
+    sym (ap valueOf (b .loop .inv .2 ∙ p))
 
 add-place : tie.Need-add-place Inv-loop μ-loop
 add-place c = omega arith
@@ -64,11 +65,9 @@ loop-again c =
     let e = c .before .before .before .field-end in
     let b = c .before .before .before .before .before in
     let a = b .before .before .before .before .args in
-    let t = sym (c .before .equal .ensures) ∙ c .if2 .left in (
-      omega arith,
-      omega arith,
-      b .loop .inv .2 ∙ place-later (a .names .now) (a .f .now) (b .loop .place) (b .loop .from) (e .result) (omega arith) (e .ensures .0) (b .before .if1 .left) t,
-    )
+    let t = sym (c .before .equal .ensures) ∙ c .if2 .left in
+    let p = place-later (a .names .now) (a .f .now) (b .loop .place) (b .loop .from) (e .result) (omega arith) (e .ensures .0) (b .before .if1 .left) t in
+    (omega arith, omega arith, b .loop .inv .2 ∙ p)
 
 returns-3 : tie.Need-returns-3 Inv-loop μ-loop
 returns-3 c =
