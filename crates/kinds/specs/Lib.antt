@@ -1,0 +1,4 @@
+pub mod Packed
+pub mod Weight
+pub mod Next
+pub mod Few
