@@ -4,7 +4,7 @@ ghost use Prim.Native.Nat.{_%_, _^_, _<_};
 ghost use lib.ListN.{getD};
 ghost use Rattle.form.specs.Grammar.{fieldsOf};
 ghost use Rattle.kinds.specs.Packed.{packed, kindAt};
-ghost use Rattle.kinds.specs.Next.{nextOf, Room, Joined};
+ghost use Rattle.kinds.specs.Next.{nextOf, Holds, Joined};
 use form::Kind;
 
 // The kinds by their codes.
@@ -77,7 +77,7 @@ const OPERAND: u64 = 16;
 // A whole line.
 pub const INSTRUCTION: u64 = 17;
 
-// The fields of the variants.
+// The fields of each variant, in one number.
 const TRAP_OPERANDS: [u64; 3] = [0, NUMBER, NUMBER];
 
 const REGISTER_CHOICES: [u64; 2] = [0, NUMBER];
@@ -95,6 +95,9 @@ const OPERANDS: [u64; 11] = [
     NUMBER + 32 * (NUMBER + 32 * (NUMBER + 32 * NUMBER)), // Extended
     NUMBER + 32 * ADDRESS_WIDTH, // Absolute
 ];
+
+// The last fields of CAS2.
+const POINTERS_AND_SIZE: u64 = REGISTER_OPERAND + 32 * (REGISTER_OPERAND + 32 * SIZE);
 
 const INSTRUCTIONS: [u64; 99] = [
     OPERAND + 32 * (REGISTER_OPERAND + 32 * SIZE), // ADDA
@@ -193,18 +196,12 @@ const INSTRUCTIONS: [u64; 99] = [
     OPERAND + 32 * (REGISTER_OPERAND + 32 * SIZE), // CHK2
     OPERAND + 32 * (REGISTER_OPERAND + 32 * SIZE), // CMP2
     NUMBER + 32 * (NUMBER + 32 * (OPERAND + 32 * SIZE)), // CAS
-    NUMBER
-        + 32
-            * (NUMBER
-                + 32
-                    * (NUMBER
-                        + 32
-                            * (NUMBER
-                                + 32 * (REGISTER_OPERAND + 32 * (REGISTER_OPERAND + 32 * SIZE))))), // CAS2
+    NUMBER + 32 * (NUMBER + 32 * (NUMBER + 32 * (NUMBER + 32 * POINTERS_AND_SIZE))), // CAS2
     BIT_FIELD_OPERATION + 32 * (OPERAND + 32 * (FIELD_VALUE + 32 * (FIELD_VALUE + 32 * NUMBER))), // BF
     OPERAND + 32 * (NUMBER + 32 * (NUMBER + 32 * (NUMBER + 32 * SIGN))), // DIVL
 ];
 
+// A row of a table, and no fields past it.
 fn row(rows: &[u64], place: u64) -> u64
     ensures { λ r. ⌜ r ≡ getD (now (rows .entry)) place 0 ⌝ }
 {
@@ -212,7 +209,7 @@ fn row(rows: &[u64], place: u64) -> u64
     if at < rows.len() { rows[at] } else { 0 }
 }
 
-// The fields of a kind's variant.
+// The fields of a kind's variant, in one number.
 pub fn fields_of(kind: Kind, place: u64) -> u64
     ensures { λ r. ⌜ r ≡ packed (fieldsOf kind place) ⌝ }
 {
@@ -229,7 +226,7 @@ pub fn fields_of(kind: Kind, place: u64) -> u64
 
 // Fields put before the kinds.
 fn onto(fields: u64, kinds: u64) -> u64
-    requires { ⌜ Room fields kinds ⌝ }
+    requires { ⌜ Holds fields kinds ⌝ }
     ensures { λ r. ⌜ Joined fields kinds r ⌝ }
 {
     if fields == 0 {

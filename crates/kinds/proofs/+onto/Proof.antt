@@ -2,7 +2,7 @@ use Prim.Native.Nat.{ℕ, _<_}
 use native.Mathlib.Omega.{arith}
 use borrow.Fn.Kinds.{In}
 use borrow.Fn.PlainCycle.{Measures, is, falls, and}
-use Rattle.kinds.specs.Next.{joined-none, room-rest, joined-more, joined-fits}
+use Rattle.kinds.specs.NextLaws.{joined-none, holds-rest, joined-more, joined-fits}
 use Rattle.kinds.proofs.onto.Reads as onto
 use Rattle.kinds.proofs.onto.Kinds as onto-kinds
 use Rattle.kinds.proofs.+onto.Lts-onto as onto-lts
@@ -20,7 +20,7 @@ onto-below t = and 0 onto-kinds.ps (falls 0 onto-kinds.ps _<_ μ-onto t) onto.Pr
 
 onto-onto-requires :
     (t : ℕ) → onto-lts.Need-onto-requires (onto-below t, onto.Post) (onto-at t) onto.Post
-onto-onto-requires t c κs = (omega arith, room-rest (c .before .args .fields) (c .before .args .kinds) (c .if1 .left) (c .before .pre .1))
+onto-onto-requires t c κs = (omega arith, holds-rest (c .before .args .fields) (c .before .args .kinds) (c .if1 .left) (c .before .pre .1))
 
 onto-mul-result :
     (t : ℕ) → onto-lts.Need-mul-result (onto-below t, onto.Post) (onto-at t) onto.Post
