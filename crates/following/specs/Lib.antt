@@ -1,3 +1,4 @@
+pub mod StartForm
 pub mod Follows
 pub mod Verdicts
 pub mod Turned

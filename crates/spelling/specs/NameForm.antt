@@ -18,7 +18,7 @@ abbrev pub solid : List ℕ → Bool
 solid [] = true
 solid (b ∷ bs) = ltb 10 b && solid bs
 
-equal-is : (f g : List ℕ) → equal f g ≡ true → f ≡ g
+pub equal-is : (f g : List ℕ) → equal f g ≡ true → f ≡ g
 equal-is [] [] e = refl
 equal-is [] (y ∷ ys) e = absurd (false≢true e)
 equal-is (x ∷ xs) [] e = absurd (false≢true e)
