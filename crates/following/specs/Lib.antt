@@ -6,5 +6,7 @@ pub mod Renamed
 pub mod Sizes
 pub mod Lawful
 pub mod Made
+pub mod Bounds
+pub mod Ranges
 pub mod Demand
 pub mod Demand3

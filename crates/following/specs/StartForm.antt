@@ -1,7 +1,7 @@
 -- A first line is in the form exactly when it is START, a tab and an address of 32 bits.
 use Prim.Native.Nat.{ℕ, _<_, _^_}
 use mathlib.Core.Path.{_≡_, refl, sym, ap, _∙_}
-use mathlib.Core.Bool.{Bool, true, false, cond, not, _&&_}
+use mathlib.Core.Bool.{Bool, true, false, cond}
 use mathlib.Core.List.{List, [], _∷_, _++_}
 use native.Mathlib.Omega.{arith}
 use lib.Dec.{ltb}
@@ -18,7 +18,7 @@ use Rattle.spelling.specs.NumberForm.{number-form, number-back}
 use Rattle.spelling.specs.NameForm.{equal-is}
 use Rattle.spelling.specs.JoinForm.{joined-fields, fields-joined}
 use Rattle.spelling.specs.FieldForm.{decimal-solid}
-use Rattle.listing.specs.Sheet.{Start, at, notInForm, startAs, startFields, startOf}
+use Rattle.listing.specs.Sheet.{at, notInForm, startAs, startFields, startOf}
 
 abbrev pub startText : ℕ → List ℕ
 startText n = bytes "START" ++ (9 ∷ decimalOf n)
