@@ -8,7 +8,7 @@ use Rattle.opcode.specs.declared.Reading.the-variants.{Read}
 use Rattle.listing.specs.Sheet.{linesIn, total}
 use Rattle.listing.specs.Translate.{fine, startIn, countIn, needIn, imageIn, verdictOf}
 use Rattle.listing.specs.Follow.{Together, byLines, byWords, readingAt, addressOf, plainLine, countOf}
-use Rattle.following.specs.Follows.{wordsAt, AllStand, together, there, words-stand, image-counts}
+use Rattle.following.specs.Follows.{wordsAt, AllStand, together, there, words-stand, image-length}
 use Rattle.following.specs.Verdicts.{accepted}
 use Rattle.following.specs.Demand.{all-stand}
 
@@ -30,5 +30,5 @@ pub each-stands : (text : List ℕ) (places room : ℕ) → verdictOf text place
 each-stands text places room e n h = words-stand text (stand text places room e) n h
 
 -- the image has the words of all lines
-pub image-length : (text : List ℕ) (places room : ℕ) → verdictOf text places room ≡ fine → length (imageIn text) ≡ needIn text
-image-length text places room e = image-counts text (stand text places room e)
+pub image-counts : (text : List ℕ) (places room : ℕ) → verdictOf text places room ≡ fine → length (imageIn text) ≡ needIn text
+image-counts text places room e = image-length text (stand text places room e)

@@ -117,8 +117,8 @@ module _ (text : List ℕ) (ok : AllStand text) where
   split : (n : ℕ) → suc n ≤ countIn text → (rest : List ℕ) × (imageIn text ≡ before n ++ (wordsAt text (suc n) ++ rest))
   split n h = splits (addressesIn text) (countIn text) (startIn text) (linesIn text) n (omega arith)
 
-  pub image-counts : length (imageIn text) ≡ total (countIn text) (linesIn text)
-  image-counts =
+  pub image-length : length (imageIn text) ≡ total (countIn text) (linesIn text)
+  image-length =
       let e : take (countIn text) (linesIn text) ≡ linesIn text = take-all (countIn text) (linesIn text) (omega arith) in
       subst (λ (ls : List (List ℕ)). length (imageFrom (addressesIn text) (countIn text) (startIn text) ls) ≡ total (countIn text) ls) e (before-length (countIn text) (omega arith))
 
@@ -168,7 +168,7 @@ module _ (text : List ℕ) (ok : AllStand text) where
           let e : total (countIn text) (take n (linesIn text)) ≡ total (countIn text) (linesIn text) = ap (λ (ls : List (List ℕ)). total (countIn text) ls) (take-all n (linesIn text) (omega arith)) in
           rw (
             lt-leb (suc n) (countIn text) (omega arith),
-            eq-eqb (addressOf text (suc n)) (end (startIn text) (imageIn text)) (omega (arith, image-counts, e)),
+            eq-eqb (addressOf text (suc n)) (end (startIn text) (imageIn text)) (omega (arith, image-length, e)),
           )
           both-ended
 
