@@ -3,13 +3,13 @@ use Prim.Native.Nat.{ℕ, suc, _≤_}
 use mathlib.Core.Path.{_≡_}
 use mathlib.Core.Bool.{Bool}
 use mathlib.Core.List.{List}
-use lib.ListN.{take, drop}
+use lib.ListN.{length, take, drop}
 use Rattle.isa.specs.Encode.{itemsOf}
 use Rattle.m68k.specs.Lays.{instruction-lays, alike-count}
 use Rattle.listing.specs.Sheet.{linesIn, total}
-use Rattle.listing.specs.Translate.{fine, startIn, countIn, imageIn, verdictOf}
+use Rattle.listing.specs.Translate.{fine, startIn, countIn, needIn, imageIn, verdictOf}
 use Rattle.listing.specs.Follow.{Together, byLines, byWords, countOf}
-use Rattle.listing.specs.Follows.{wordsAt, each-stands}
+use Rattle.listing.specs.Follows.{wordsAt, image-length, each-stands}
 use Rattle.listing.specs.Verdicts.{accepted}
 use Rattle.listing.specs.Demand.{Lays, all-stand, demand-3-from}
 
@@ -28,3 +28,7 @@ demand-3 text places room e choices = demand-3-from lays text places room e choi
 pub each-line : (text : List ℕ) (places room : ℕ) → verdictOf text places room ≡ fine → (n : ℕ) → suc n ≤ countIn text
     → take (countOf text (suc n)) (drop (total (countIn text) (take n (linesIn text))) (imageIn text)) ≡ wordsAt text (suc n)
 each-line text places room e n h = each-stands text (all-stand lays text places room (accepted text places room e)) n h
+
+-- the image has the words that the lines count
+pub image-counts : (text : List ℕ) (places room : ℕ) → verdictOf text places room ≡ fine → length (imageIn text) ≡ needIn text
+image-counts text places room e = image-length text (all-stand lays text places room (accepted text places room e))

@@ -117,7 +117,7 @@ module _ (text : List ℕ) (ok : AllStand text) where
   split : (n : ℕ) → suc n ≤ countIn text → (rest : List ℕ) × (imageIn text ≡ before n ++ (wordsAt text (suc n) ++ rest))
   split n h = splits (addressesIn text) (countIn text) (startIn text) (linesIn text) n (omega arith)
 
-  image-length : length (imageIn text) ≡ total (countIn text) (linesIn text)
+  pub image-length : length (imageIn text) ≡ total (countIn text) (linesIn text)
   image-length =
       let e : take (countIn text) (linesIn text) ≡ linesIn text = take-all (countIn text) (linesIn text) (omega arith) in
       subst (λ (ls : List (List ℕ)). length (imageFrom (addressesIn text) (countIn text) (startIn text) ls) ≡ total (countIn text) ls) e (before-length (countIn text) (omega arith))

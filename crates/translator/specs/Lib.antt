@@ -1,0 +1,6 @@
+pub mod Passes
+pub mod PassLaws
+pub mod Translated
+pub mod VerdictLaws
+pub mod StageLaws
+pub mod PlaceLaws
