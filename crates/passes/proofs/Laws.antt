@@ -9,7 +9,7 @@ use native.Mathlib.Nat.{add-zero}
 use lib.Dec.{eqb}
 use lib.IntN.{pos}
 use lib.ListN.{length, take, drop, getD, set, length-append, length-drop, drop-of-length-le}
-use lib.Seq.{drop-cons, drop-drop, drop-append-seam, take-append-seam, take-all, take-suc, set-at, append-snoc}
+use lib.Seq.{drop-cons, drop-drop, drop-append-seam, take-append-seam, take-all, take-suc, length-take-le, set-at, append-snoc}
 use borrow.Author.Tests.{eq-eqb, ne-eqb}
 use borrow.Rule.Slice.PartMut.{putMid}
 use Rattle.isa.specs.declared.Measured.{Measured}
@@ -31,6 +31,10 @@ over-length x v h = rw (length-append, length-drop) (omega arith)
 pub over-set : (x v : List ℕ) (k w : ℕ) → length x ≡ k → k < length v → set (over x v) k w ≡ over (x ++ (w ∷ [])) v
 over-set x v k w e h =
     rw (e, drop-cons v k 0 h, set-at x (getD v k 0) (drop (suc k) v) w k e, length-append x (w ∷ []), e, add-one, append-snoc x w (drop (suc k) v))
+
+-- one word more in the front
+pub put-more : (w p : List ℕ) (i : ℕ) → i < length w → i < length p → set (over (take i w) p) i (getD w i 0) ≡ over (take (i + 1) w) p
+put-more w p i h g = rw (add-one, take-suc w i 0 h) (over-set (take i w) p i (getD w i 0) (length-take-le i w (omega arith)) g)
 
 -- a part from `at` on, lent, and ws written in its front
 pub over-more : (x ws v last : List ℕ) (at : ℕ) → at ≡ length x → at + length ws ≤ length v
@@ -207,10 +211,6 @@ module _ (text : List ℕ) (from : ℕ) (addresses : List ℕ) where
           let done : imageAt addresses (linesAt text from) ≡ s .written = s .all ∙ rw (lines-end text next h, append-nil) in
           (rw done (s .places), rw done (s .image-is))
 
-      pub writing-length : length (imageAt addresses (linesAt text from)) ≤ length lent → length image ≡ length lent
-      writing-length m =
-          rw (s .image-is) (over-length (s .written) lent (omega (arith, ap (λ (x : List ℕ). length x) (s .all), length-append (s .written) (imageFrom addresses (length (linesAt text from)) (s .address) (linesAt text next)))))
-
       module _ (e : ℕ) (h : next < length text) (g : e ≡ partEnd 10 text next) (r : Encoded) (is : r ≡ lineEncoded addresses (lineTo text next e) (getD addresses k 0)) where
         abbrev count : ℕ
         count = length (linesAt text from)
@@ -223,6 +223,9 @@ module _ (text : List ℕ) (from : ℕ) (addresses : List ℕ) where
 
         pub writing-count : length (take (r .count) (r .words)) ≡ r .count
         writing-count = rw encoded-here (words-length addresses (lineTo text next e) (s .address))
+
+        pub writing-most : r .count ≤ 11
+        writing-most = rw encoded-here (line-most addresses (lineTo text next e) (s .address))
 
         all-here : imageAt addresses (linesAt text from)
             ≡ (s .written ++ take (r .count) (r .words)) ++ imageFrom addresses count (s .address + 2 * counted count (lineTo text next e)) (linesAt text (e + 1))

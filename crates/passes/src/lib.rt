@@ -113,7 +113,7 @@ pub fn ranges(text: &[u8], from: usize, addresses: &[u32]) -> Passed
 
 // The words that count, at the front of the part.
 fn put_words(part: &mut [u16], e: Encoded)
-    requires { ⌜ (e .count ≤ length (e .words)) × (e .count ≤ length (now part)) ⌝ }
+    requires { ⌜ (e .count ≤ 11) × (e .count ≤ length (now part)) ⌝ }
     ensures { λ r. ⌜ now (part .exit) ≡ over (take (e .count) (e .words)) (now (part .entry)) ⌝ }
 {
     let words = e.words;
