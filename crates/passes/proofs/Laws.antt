@@ -1,7 +1,7 @@
 -- Laws of the passes' loops, a line at a time.
 use Prim.Native.Nat.{ℕ, suc, _+_, _*_, _-_, _/_, _%_, _^_, _≤_, _<_}
 use mathlib.Core.Path.{_≡_, refl, sym, ap, _∙_}
-use mathlib.Core.Bool.{cond}
+use mathlib.Core.Bool.{Bool, cond}
 use mathlib.Core.List.{List, [], _∷_, _++_, append-assoc, append-nil}
 use native.Mathlib.Omega.{arith}
 use native.Mathlib.Numerals.{add-one}
@@ -15,9 +15,16 @@ use borrow.Rule.Slice.PartMut.{putMid}
 use Rattle.isa.specs.declared.Measured.{Measured}
 use Rattle.isa.specs.declared.Encoded.{Encoded}
 use Rattle.text.specs.Parts.{partEnd}
+use Rattle.numeric.specs.declared.Built.{Built}
+use Rattle.form.specs.declared.Entries.{Entries}
+use Rattle.form.specs.Entries.{entriesOf}
+use Rattle.form.specs.Line.{lineOf}
+use Rattle.kinds.specs.Few.{few}
+use Rattle.entries.specs.Made.{madeWith, namesLines}
+use Rattle.entries.specs.MadeLaws.{made-line, made-unaddressed, names-in}
 use Rattle.lines.specs.Lines.{linesOf}
 use Rattle.lines.specs.LinesLaws.{lines-next}
-use Rattle.listing.specs.Sheet.{sizedOf, counted, total, addressesFrom, lineEncoded}
+use Rattle.listing.specs.Sheet.{sizedAs, sizedOf, counted, total, addressesFrom, encodedAs, lineEncoded}
 use Rattle.listing.specs.Translate.{orElse, asVerdict, sizesVerdict, rangesVerdict, lineWords, imageFrom, over}
 use Rattle.passes.specs.declared.Passed.{Passed}
 use Rattle.passes.specs.Passes.{linesAt, passedOf, filledOf, Placed, rangesAt, imageAt}
@@ -54,6 +61,18 @@ lineTo text next e = take (e - next) (drop next text)
 
 lines-end : (text : List ℕ) (next : ℕ) → length text ≤ next → linesAt text next ≡ []
 lines-end text next h = rw (drop-of-length-le text {i = next} h)
+
+-- ---- one line, by its entries
+pub line-sized : (n : ℕ) (line : List ℕ) {e : Entries} {b : Built} {named : Bool} → n ≤ 4096 → e ≡ entriesOf (lineOf line)
+    → b ≡ madeWith e [] → named ≡ namesLines e n → sizedAs b named ≡ sizedOf n line
+unfolding sizedOf
+line-sized n line h e f g =
+    rw (f, g, e, made-line [] (omega arith) line, made-unaddressed line, names-in n h (lineOf line) (few line))
+
+pub line-encoded : (addresses line : List ℕ) (a : ℕ) {e : Entries} {b : Built} → length addresses ≤ 4096 → e ≡ entriesOf (lineOf line)
+    → b ≡ madeWith e addresses → encodedAs b a ≡ lineEncoded addresses line a
+unfolding lineEncoded
+line-encoded addresses line a h e f = rw (f, e, made-line addresses h line)
 
 -- ---- sizes: from `next` on it goes as it went from `from` on, after k lines and so many words
 module _ (text : List ℕ) (from n start : ℕ) (lent : List ℕ) where

@@ -3,11 +3,12 @@ ghost use mathlib.Core.Path.{_≡_};
 ghost use mathlib.Core.List.{_++_};
 ghost use Prim.Native.Nat.{_≤_};
 ghost use lib.ListN.{length, take, drop};
-ghost use Rattle.listing.specs.Sheet.{sizedOf, total, lineEncoded};
+ghost use Rattle.listing.specs.Sheet.{turned, sizedAs, sizedOf, total, encodedAs, lineEncoded};
 ghost use Rattle.listing.specs.Translate.{sizesVerdict, over};
 ghost use Rattle.passes.specs.Passes.{linesAt, passedOf, filledOf, Placed, rangesAt, imageAt};
 use isa::Encoded;
 use isa::Measured;
+use numeric::Built;
 
 // The first refusal with its line, or the words that were counted.
 pub struct Passed {
@@ -18,16 +19,54 @@ pub struct Passed {
     pub words: usize,
 }
 
-// The size of a line of a sheet of so many lines, or why it is turned back.
+// The size of what a line makes, or why the line is turned back.
+fn sized_as(b: Built, named: bool) -> Measured
+    ensures { λ r. ⌜ r ≡ sizedAs b named ⌝ }
+{
+    match b {
+        Built::Instruction(i) => {
+            if named {
+                return m68k::size(i);
+            }
+            turned_back(8)
+        }
+        Built::NotInForm => turned_back(7),
+    }
+}
+
+fn turned_back(number: u8) -> Measured
+    ensures { λ r. ⌜ r ≡ turned number ⌝ }
+{
+    Measured {
+        size: 0,
+        number,
+        detail: 0,
+        value: 0,
+    }
+}
+
+// The size of a line of a sheet of so many lines.
 pub fn sized(line: &[u8], lines: usize) -> Measured
     requires { ⌜ lines ≤ 4096 ⌝ }
     ensures { λ r. ⌜ r ≡ sizedOf lines (now (line .entry)) ⌝ }
 {
-    Measured {
-        size: 0,
-        number: 7,
-        detail: 0,
-        value: 0,
+    let e = parser::read_line(line);
+    let b = entries::made(e, &[]);
+    sized_as(b, entries::names_lines(e, lines))
+}
+
+fn encoded_as(b: Built, address: u32) -> Encoded
+    ensures { λ r. ⌜ r ≡ encodedAs b address ⌝ }
+{
+    match b {
+        Built::Instruction(i) => m68k::encode(i, address),
+        Built::NotInForm => Encoded {
+            words: [0; 11],
+            count: 0,
+            number: 7,
+            detail: 0,
+            value: 0,
+        },
     }
 }
 
@@ -36,13 +75,8 @@ pub fn encoded(line: &[u8], addresses: &[u32], address: u32) -> Encoded
     requires { ⌜ length (now addresses) ≤ 4096 ⌝ }
     ensures { λ r. ⌜ r ≡ lineEncoded (now (addresses .entry)) (now (line .entry)) address ⌝ }
 {
-    Encoded {
-        words: [0; 11],
-        count: 0,
-        number: 7,
-        detail: 0,
-        value: 0,
-    }
+    let e = parser::read_line(line);
+    encoded_as(entries::made(e, addresses), address)
 }
 
 // Each line measured, and its address put into the scratch.
