@@ -22,7 +22,6 @@ use Rattle.form.specs.Line.{lineOf}
 use Rattle.kinds.specs.Few.{few}
 use Rattle.entries.specs.Made.{madeWith, namesLines}
 use Rattle.entries.specs.MadeLaws.{made-line, made-unaddressed, names-in}
-use Rattle.lines.specs.Lines.{linesOf}
 use Rattle.lines.specs.LinesLaws.{lines-next}
 use Rattle.listing.specs.Sheet.{sizedAs, sizedOf, counted, total, addressesFrom, encodedAs, lineEncoded}
 use Rattle.listing.specs.Translate.{orElse, asVerdict, sizesVerdict, rangesVerdict, lineWords, imageFrom, over}
@@ -121,7 +120,7 @@ module _ (text : List ℕ) (from n start : ℕ) (lent : List ℕ) where
       pub measuring-room : k < n
       measuring-room = omega (arith, s .left, ap (λ (ls : List (List ℕ)). length ls) lines)
 
-      pub measuring-few : m .size / 2 ≤ 11
+      measuring-few : m .size / 2 ≤ 11
       measuring-few = omega (arith, counts-here, counted-most n (lineTo text next e))
 
       verdict-here : sizesVerdict n 1 (linesAt text from)
@@ -240,7 +239,7 @@ module _ (text : List ℕ) (from : ℕ) (addresses : List ℕ) where
         words-here : take (r .count) (r .words) ≡ lineWords addresses (lineTo text next e) (s .address)
         words-here = ap (λ (x : Encoded). take (x .count) (x .words)) encoded-here
 
-        pub writing-count : length (take (r .count) (r .words)) ≡ r .count
+        writing-count : length (take (r .count) (r .words)) ≡ r .count
         writing-count = rw encoded-here (words-length addresses (lineTo text next e) (s .address))
 
         pub writing-most : r .count ≤ 11
@@ -252,8 +251,15 @@ module _ (text : List ℕ) (from : ℕ) (addresses : List ℕ) where
 
         pub writing-room : length (imageAt addresses (linesAt text from)) ≤ length lent → at + r .count ≤ length lent
         writing-room m =
-            omega (arith, m, s .places, writing-count, length-append (s .written) (take (r .count) (r .words)), ap (λ (x : List ℕ). length x) all-here,
-            length-append (s .written ++ take (r .count) (r .words)) (imageFrom addresses count (s .address + 2 * counted count (lineTo text next e)) (linesAt text (e + 1))))
+            omega (
+              arith,
+              m,
+              s .places,
+              writing-count,
+              length-append (s .written) (take (r .count) (r .words)),
+              ap (λ (x : List ℕ). length x) all-here,
+              length-append (s .written ++ take (r .count) (r .words)) (imageFrom addresses count (s .address + 2 * counted count (lineTo text next e)) (linesAt text (e + 1))),
+            )
 
         pub writing-next : length (imageAt addresses (linesAt text from)) ≤ length lent → (last : List ℕ)
             → last ≡ over (take (r .count) (r .words)) (take (length image - at) (drop at image))

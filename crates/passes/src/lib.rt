@@ -1,8 +1,7 @@
 // The translator's passes over the lines of a sheet, one loop each.
 ghost use mathlib.Core.Path.{_≡_};
-ghost use mathlib.Core.List.{_++_};
 ghost use Prim.Native.Nat.{_≤_};
-ghost use lib.ListN.{length, take, drop};
+ghost use lib.ListN.{length, take};
 ghost use Rattle.listing.specs.Sheet.{turned, sizedAs, sizedOf, total, encodedAs, lineEncoded};
 ghost use Rattle.listing.specs.Translate.{sizesVerdict, over};
 ghost use Rattle.passes.specs.Passes.{linesAt, passedOf, filledOf, Placed, rangesAt, imageAt};

@@ -1,7 +1,7 @@
 use Rattle.passes.proofs.put_words.Statement.{statement}
 use Rattle.passes.proofs.put_words.Tie as tie
 use mathlib.Core.Path.{_≡_, refl}
-use Prim.Native.Nat.{_+_, _-_, _≤_}
+use Prim.Native.Nat.{_-_, _≤_}
 use native.Mathlib.Omega.{arith}
 use borrow.Author.Needs.{needs}
 use lib.ListN.{length, take, length-set}

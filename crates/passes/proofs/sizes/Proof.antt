@@ -1,13 +1,13 @@
 use Rattle.passes.proofs.sizes.Statement.{statement}
 use Rattle.passes.proofs.sizes.Tie as tie
 use mathlib.Core.Path.{_≡_, refl}
-use Prim.Native.Nat.{_+_, _*_, _-_, _/_, _≤_}
+use Prim.Native.Nat.{_-_}
 use native.Mathlib.Omega.{arith}
 use borrow.Author.Needs.{needs}
 use mir.Facts.{toZ-ofZ}
 use mir.Syntax.{w64}
 use lib.ListN.{length, length-set}
-use Rattle.passes.proofs.Laws.{Measuring, measuring, measuring-end, measuring-room, measuring-few, measuring-stop, measuring-next}
+use Rattle.passes.proofs.Laws.{Measuring, measuring, measuring-end, measuring-room, measuring-stop, measuring-next}
 
 abbrev Inv-loop : tie.InvT-loop
 Inv-loop text from lines start scratch₀ next₀ k₀ words₀ scratch next k words =
