@@ -2,7 +2,6 @@
 ghost use mathlib.Core.Path.{_≡_};
 ghost use Prim.Native.Nat.{_+_};
 ghost use lib.ListN.{length};
-ghost use Rattle.form.specs.Line as line;
 ghost use Rattle.listing.specs.Sheet.{isSheet, startLine, startAs, startOf};
 ghost use Rattle.listing.specs.Sheet as sheet;
 ghost use Rattle.heads.specs.StartLine.{startAt, notAt};
@@ -91,7 +90,7 @@ fn start_in(line: &[u8]) -> StartAt
     if end < line.len() {
         return no_start();
     }
-    if equal(&line[..e], b"START") {
+    if names::equal(&line[..e], b"START") {
         return start_number(text::read_number(&line[from..]));
     }
     no_start()
@@ -110,20 +109,4 @@ pub fn lines_begin(text: &[u8]) -> usize
     ensures { λ r. ⌜ r ≡ length (startLine (now (text .entry))) + 1 ⌝ }
 {
     text::line_end(text, 0) + 1
-}
-
-fn equal(f: &[u8], g: &[u8]) -> bool
-    ensures { λ r. ⌜ r ≡ line.equal (now (f .entry)) (now (g .entry)) ⌝ }
-{
-    if f.len() != g.len() {
-        return false;
-    }
-    let mut i: usize = 0;
-    while i < f.len() {
-        if f[i] != g[i] {
-            return false;
-        }
-        i += 1;
-    }
-    true
 }

@@ -18,13 +18,13 @@ use Rattle.listing.specs.Sheet.{feeds, isSheet, startLine, linesIn, Start, at, 
 use Rattle.listing.specs.Translate.{Verdict, fine, refused, orElse, unless, startVerdict, startNumber, asVerdict, sizesVerdict, startIn, countIn, needIn, addressesIn, imageIn, verdictOf, listedAs, over}
 use Rattle.listing.specs.Demand3.{image-counts}
 use Rattle.listing.specs.Verdicts.{accepted}
-use Rattle.translator.specs.declared.passes.Passed.{Passed}
-use Rattle.translator.specs.Passes.{passedOf, filledOf, linesAt, Placed, rangesAt, imageAt}
-use Rattle.translator.specs.PassLaws.{total-most, filled-addresses, filled-length}
+use Rattle.passes.specs.declared.Passed.{Passed}
+use Rattle.passes.specs.Passes.{passedOf, filledOf, linesAt, Placed, rangesAt, imageAt}
+use Rattle.passes.specs.PassLaws.{total-most, filled-addresses}
 use Rattle.translator.specs.Translated.{Translated, numberIn, openingOf, sizesIn, closingOf, rangesIn, Sized}
 use Rattle.translator.specs.VerdictLaws.{Sound, sizes-sound, ranges-sound}
 use Rattle.translator.specs.StageLaws.{stages, opening-outside, closing-outside, as-fine, as-refused, Opened, opened, Closed, closed, by-verdict, turned-away}
-use Rattle.translator.specs.PlaceLaws.{over-length, over-take, over-same, addresses-length, addresses-first, from-over}
+use Rattle.translator.specs.PlaceLaws.{over-length, over-take, over-same, addresses-length, addresses-first, filled-length, from-over}
 
 -- ---- one more zero in the front
 pub zero-more : (p : List ℕ) (i : ℕ) → i < length p → set (replicate i 0 ++ drop i p) i 0 ≡ replicate (i + 1) 0 ++ drop (i + 1) p

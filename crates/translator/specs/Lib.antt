@@ -1,5 +1,3 @@
-pub mod Passes
-pub mod PassLaws
 pub mod Translated
 pub mod VerdictLaws
 pub mod StageLaws

@@ -1,14 +1,17 @@
 -- Laws of lent places: their first ones written, the later ones unchanged.
-use Prim.Native.Nat.{ℕ, zero, suc, _+_, _*_, _-_, _≤_, _<_}
+use Prim.Native.Nat.{ℕ, zero, suc, _+_, _*_, _%_, _^_, _≤_}
 use mathlib.Core.Path.{_≡_, refl, sym, ap, _∙_}
+use mathlib.Core.Bool.{Bool, true, false, cond}
 use mathlib.Core.List.{List, [], _∷_, _++_}
 use native.Mathlib.Omega.{arith}
+use lib.Dec.{eqb}
 use lib.ListN.{length, take, drop, getD, replicate, length-append, length-drop, length-replicate}
 use lib.Seq.{take-append-seam, drop-append-seam}
 use Rattle.listing.specs.declared.Listed.{Listed}
-use Rattle.listing.specs.Sheet.{linesIn, counted, addressesFrom}
+use Rattle.listing.specs.Sheet.{linesIn, sizedOf, counted, addressesFrom}
 use Rattle.listing.specs.Translate.{Verdict, fine, refused, startIn, countIn, addressesIn, imageIn, over, verdictOf, listedOf, imageAs, imageOf, scratchAs, scratchOf}
 use Rattle.listing.specs.Verdicts.{accepted}
+use Rattle.passes.specs.Passes.{filledOf}
 use Rattle.translator.specs.Translated.{Translated}
 
 pub over-length : (x v : List ℕ) → length x ≤ length v → length (over x v) ≡ length v
@@ -34,6 +37,16 @@ addresses-length n a (l ∷ ls) = ap suc (addresses-length n (a + 2 * counted n 
 pub addresses-first : (n a : ℕ) (ls : List (List ℕ)) → 1 ≤ length ls → getD (addressesFrom n a ls) 0 0 ≡ a
 addresses-first n a [] h = absurd (omega arith)
 addresses-first n a (l ∷ ls) h = refl
+
+-- no more places are filled than there are lines
+pub filled-length : (n a : ℕ) (ls : List (List ℕ)) → length (filledOf n a ls) ≤ length ls
+filled-length n a [] = omega arith
+filled-length n a (l ∷ ls) = go (eqb (sizedOf n l .number) 0) (filled-length n (a + 2 * counted n l) ls)
+  where
+    go : (t : Bool) → length (filledOf n (a + 2 * counted n l) ls) ≤ length ls
+        → length (cond t (a % 2 ^ 32 ∷ filledOf n (a + 2 * counted n l) ls) []) ≤ suc (length ls)
+    go true h = omega arith
+    go false h = omega arith
 
 -- the scratch keeps its length
 pub scratch-length : (text s v : List ℕ) → length (scratchOf text s v) ≡ length s

@@ -6,8 +6,6 @@ ghost use Rattle.listing.specs.Translate.{fine, refused, listedAs};
 ghost use Rattle.translator.specs.Translated.{Translated, numberIn, openingOf, closingOf, Sized};
 use listing::Listed;
 
-mod passes;
-
 fn zero(s: &mut [u32])
     ensures { λ r. ⌜ now (s .exit) ≡ replicate (length (now (s .entry))) 0 ⌝ }
 {

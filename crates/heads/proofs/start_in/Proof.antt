@@ -9,7 +9,6 @@ use Rattle.heads.proofs.start_in.Statement.{statement}
 use Rattle.heads.proofs.start_in.Tie as tie
 use Rattle.heads.proofs.start_in.Reads as reads
 use Rattle.heads.proofs.start_in.Lts as lts
-use Rattle.heads.proofs.equal.Reads as equal-reads
 use Rattle.heads.proofs.no_start.Reads as no-start-reads
 use Rattle.heads.proofs.start_number.Reads as start-number-reads
 use Rattle.text.proofs.field_end.Reads as field-end-reads

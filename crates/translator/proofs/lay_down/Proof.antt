@@ -6,8 +6,6 @@ use Rattle.translator.proofs.lay_down.Statement.{statement}
 use Rattle.translator.proofs.lay_down.Tie as tie
 use Rattle.translator.proofs.lay_down.Reads as reads
 use Rattle.translator.proofs.lay_down.Lts as lts
-use Rattle.translator.proofs.passes.ranges.Reads as ranges-reads
-use Rattle.translator.proofs.passes.write.Reads as write-reads
 use Rattle.translator.proofs.refuse.Reads as refuse-reads
 
 slice-reshare-prefix-ranges : tie.Need-slice-reshare-prefix-ranges

@@ -11,7 +11,6 @@ use Rattle.heads.proofs.lines_begin.Reads as lines-begin-reads
 use Rattle.heads.proofs.start.Reads as start-reads
 use Rattle.translator.proofs.closing.Reads as closing-reads
 use Rattle.translator.proofs.lay_down.Reads as lay-down-reads
-use Rattle.translator.proofs.passes.sizes.Reads as sizes-reads
 use Rattle.translator.proofs.refuse.Reads as refuse-reads
 
 feeds-requires : tie.Need-feeds-requires

@@ -9,7 +9,7 @@ use lib.ListN.{length, drop, getD}
 use Rattle.lines.specs.Lines.{linesOf}
 use Rattle.listing.specs.Sheet.{sizedOf, counted, addressesFrom}
 use Rattle.listing.specs.Translate.{Verdict, fine, refused, rangesVerdict, imageFrom}
-use Rattle.translator.specs.declared.passes.Passed.{Passed}
+use Rattle.passes.specs.declared.Passed.{Passed}
 
 -- the lines of a text from a place on
 abbrev pub linesAt : List ℕ → ℕ → List (List ℕ)

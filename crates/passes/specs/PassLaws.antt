@@ -1,12 +1,12 @@
 -- Laws of the passes: how many words a line counts, and when the scratch holds the addresses of the lines.
-use Prim.Native.Nat.{ℕ, suc, _+_, _*_, _/_, _%_, _^_, _≤_, _<_}
-use mathlib.Core.Path.{_≡_, refl, ap, _∙_}
+use Prim.Native.Nat.{ℕ, suc, _+_, _*_, _%_, _^_, _≤_}
+use mathlib.Core.Path.{_≡_, refl}
 use mathlib.Core.Bool.{Bool, true, false, cond}
 use mathlib.Core.List.{List, [], _∷_}
 use native.Mathlib.Omega.{arith}
 use lib.Dec.{eqb}
 use lib.IntN.{ℤ}
-use lib.ListN.{length, take, length-take}
+use lib.ListN.{length, length-take}
 use borrow.Author.Tests.{eq-eqb}
 use Rattle.isa.specs.declared.Instruction.{Instruction}
 use Rattle.isa.specs.Item as item
@@ -20,7 +20,7 @@ use Rattle.m68k.specs.Lays.{instruction-lays}
 use Rattle.m68k.specs.Laws.{places-law, encode-most}
 use Rattle.listing.specs.Sheet.{sizedAs, sizedOf, counted, total, addressesFrom, encodedAs, lineEncoded}
 use Rattle.listing.specs.Translate.{Verdict, fine, refused, orElse, asVerdict, sizesVerdict, lineWords}
-use Rattle.translator.specs.Passes.{filledOf}
+use Rattle.passes.specs.Passes.{filledOf}
 
 -- ---- an encoded line has eleven places, and so many words count
 as-places : (b : Built) (a : ℕ) → length (encodedAs b a .words) ≡ 11
@@ -109,12 +109,3 @@ filled-addresses n k a (l ∷ ls) e h =
     let low : a % 2 ^ 32 ≡ a = omega (arith, counted-least n l (f .0)) in
     let rest = filled-addresses n (suc k) (a + 2 * counted n l) ls (f .1) (omega arith) in
     rw (eq-eqb (sizedOf n l .number) 0 (f .0), low, rest)
-
-pub filled-length : (n a : ℕ) (ls : List (List ℕ)) → length (filledOf n a ls) ≤ length ls
-filled-length n a [] = omega arith
-filled-length n a (l ∷ ls) = go (eqb (sizedOf n l .number) 0) (filled-length n (a + 2 * counted n l) ls)
-  where
-    go : (t : Bool) → length (filledOf n (a + 2 * counted n l) ls) ≤ length ls
-        → length (cond t (a % 2 ^ 32 ∷ filledOf n (a + 2 * counted n l) ls) []) ≤ suc (length ls)
-    go true h = omega arith
-    go false h = omega arith

@@ -3,9 +3,9 @@ use Prim.Native.Nat.{_≤_, _-_}
 use native.Mathlib.Omega.{arith}
 use lib.ListN.{length, drop}
 use Rattle.form.specs.Line.{equal}
-use Rattle.heads.proofs.Texts.{equal-lengths, equal-more, equal-not, equal-end}
-use Rattle.heads.proofs.equal.Statement.{statement}
-use Rattle.heads.proofs.equal.Tie as tie
+use Rattle.names.proofs.Laws.{equal-lengths, equal-more, equal-not, equal-end}
+use Rattle.names.proofs.equal.Statement.{statement}
+use Rattle.names.proofs.equal.Tie as tie
 
 abbrev Inv-loop : tie.InvT-loop
 Inv-loop f g i₀ i = (i ≤ length f) × (equal f g ≡ equal (drop i f) (drop i g))

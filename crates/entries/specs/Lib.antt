@@ -1,0 +1,4 @@
+pub mod With
+pub mod Made
+pub mod WithLaws
+pub mod MadeLaws

@@ -1,0 +1,5 @@
+pub mod Packed
+pub mod Weight
+pub mod Next
+pub mod NextLaws
+pub mod Few
