@@ -260,7 +260,7 @@ module _ (text v s : List ℕ) (o : openingOf text (length s) ≡ fine) (n : ℕ
                     counted = counted;
                     needed = needed;
                     places = omega (arith, kept, counted, begun .scratch);
-                    addresses = rw (addressed, counted ∙ sym (addresses-length (countIn text) (startIn text) (linesIn text))) (over-take (addressesIn text) s);
+                    addresses = rw addressed (over-take (addressesIn text) s (n - 1) (addresses-length (countIn text) (startIn text) (linesIn text) ∙ sym counted));
                     verdict = ap (λ (x : ℕ). verdictOf text x (length v)) kept ∙ after fine sizes-fine
                         ∙ ap (λ (x : Verdict). orElse x (rangesIn text)) (ended ∙ as-fine 0 k 0 (pos 0) m);
                   }

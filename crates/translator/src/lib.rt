@@ -6,7 +6,7 @@ ghost use Rattle.listing.specs.Translate.{fine, refused, listedAs};
 ghost use Rattle.translator.specs.Translated.{Translated, numberIn, openingOf, closingOf, Sized};
 use listing::Listed;
 
-fn zero(s: &mut [u32])
+pub fn zero(s: &mut [u32])
     ensures { λ r. ⌜ now (s .exit) ≡ replicate (length (now (s .entry))) 0 ⌝ }
 {
     let mut i: usize = 0;
