@@ -4,9 +4,10 @@ use mathlib.Core.Bool.{Bool, true, false, _&&_}
 use mathlib.Core.List.{List}
 use Prim.Native.Nat.{ℕ, _≤_}
 use native.Mathlib.Omega.{arith}
-use lib.Dec.{eqb}
-use lib.ListN.{length, take, getD}
-use borrow.Author.Tests.{eqb-true, ne-eqb}
+use lib.Dec.{eqb, leb}
+use lib.ListN.{length, take, getD, replicate, length-take}
+use borrow.Author.Tests.{eqb-true, ne-eqb, leb-true}
+use Rattle.inverse.specs.Facts.{and-true}
 use Rattle.form.specs.Line.{equal}
 use Rattle.listing.specs.declared.Listed.{Listed}
 use Rattle.listing.specs.Translate.{Verdict, fine, refused, startIn, countIn, needIn, imageIn, verdictOf, listedAs, listedOf, imageAs, imageOf, scratchOf, isFine, same}
@@ -15,6 +16,7 @@ use Rattle.translator.specs.Translated.{Translated}
 use Rattle.translator.specs.VerdictLaws.{Sound, verdict-sound}
 use Rattle.translator.specs.PlaceLaws.{scratch-length, image-length, words-fit}
 use Rattle.translator.specs.Stands.{Stands, translated-stands, number-fine}
+use Rattle.sameness.specs.Compared.{enough, Compared}
 use Rattle.sameness.specs.SameLaws.{verdict-more}
 
 -- an answer's number is 0 exactly where nothing is refused
@@ -27,7 +29,10 @@ module _ (text v s v′ s′ : List ℕ) (r : Listed) (t : Translated text v s v
   pub fits : r .words ≤ length v′
   fits = omega (arith, ap (λ (x : Listed). x .words) (t .listed), words-fit text (length s) (length v), ap length (t .image), image-length text s v)
 
-  pub keeps : length s′ ≡ length s
+  pub lent : r .words ≡ length (take (r .words) v′)
+  lent = rw length-take (omega (arith, fits))
+
+  keeps : length s′ ≡ length s
   keeps = ap length (t .scratch) ∙ scratch-length text s v
 
   start-left : r .number ≡ 0 → getD s′ 0 0 ≡ startIn text
@@ -54,8 +59,8 @@ module _ (f g v w s : List ℕ) (h : (4096 ≤ length s) × (45056 ≤ length v)
   compared : eqb (a .number) 0 && eqb (b .number) 0 && eqb (getD s₁ 0 0) (getD s₂ 0 0) && equal (take (a .words) v′) (take (b .words) w′) ≡ same f g
   unfolding same
   compared =
-      let x = judged f v s v′ s₁ a t (h .0) (h .1 .0) in
-      let y = judged g w s₁ w′ s₂ b u (omega (arith, keeps f v s v′ s₁ a t)) (h .1 .1) in
+      let x = judged f v s v′ s₁ a t (h .0) (h .1) in
+      let y = judged g w s₁ w′ s₂ b u (omega (arith, keeps f v s v′ s₁ a t)) (h .2) in
       both (eqb (a .number) 0) (eqb (b .number) 0) (eqb (getD s₁ 0 0) (getD s₂ 0 0)) (equal (take (a .words) v′) (take (b .words) w′))
       (eqb (startIn f) (startIn g)) (equal (imageIn f) (imageIn g)) alike
       ∙ rw (x, y)
@@ -69,12 +74,30 @@ module _ (f g v w s : List ℕ) (h : (4096 ≤ length s) × (45056 ≤ length v)
             rw (translated-stands f v s v′ s₁ a t m .words, translated-stands g w s₁ w′ s₂ b u n .words),
           )
 
-  pub comparison : (r : Bool) → r ≡ eqb (a .number) 0 && eqb (b .number) 0 && eqb (getD s₁ 0 0) (getD s₂ 0 0) && equal (take (a .words) v′) (take (b .words) w′)
-      → (r ≡ same f g) × (v′ ≡ imageOf f s v) × (w′ ≡ imageOf g s w) × (s₂ ≡ scratchOf g (scratchOf f s v) w)
+  pub comparison : (q : Bool) → q ≡ equal (take (a .words) v′) (take (b .words) w′)
+      → (eqb (a .number) 0 && eqb (b .number) 0 && eqb (getD s₁ 0 0) (getD s₂ 0 0) && q ≡ same f g) × (v′ ≡ imageOf f s v) × (w′ ≡ imageOf g s w)
+      × (s₂ ≡ scratchOf g (scratchOf f s v) w)
   unfolding imageOf
-  comparison r e = (
-    e ∙ compared,
+  comparison q e = (
+    rw e compared,
     t .image,
     u .image ∙ ap (λ (k : ℕ). imageAs (verdictOf g k (length w)) (imageIn g) w) (keeps f v s v′ s₁ a t),
     u .scratch ∙ ap (λ (l : List ℕ). scratchOf g l w) (t .scratch),
   )
+
+-- ---- room, or none
+pub room : (places m n : ℕ) → enough places m n ≡ true → (4096 ≤ places) × (45056 ≤ m) × (45056 ≤ n)
+room places m n e =
+    let p = and-true (leb 4096 places && leb 45056 m) (leb 45056 n) e in
+    let q = and-true (leb 4096 places) (leb 45056 m) (p .0) in
+    (leb-true 4096 places (q .0), leb-true 45056 m (q .1), leb-true 45056 n (p .1))
+
+module _ (f g v w s : List ℕ) where
+  pub with-room : enough (length s) (length v) (length w) ≡ true → (v′ w′ s′ : List ℕ) (r : Bool)
+      → (r ≡ same f g) × (v′ ≡ imageOf f s v) × (w′ ≡ imageOf g s w) × (s′ ≡ scratchOf g (scratchOf f s v) w)
+      → Compared f g v w s v′ w′ s′ (record { number = 0; same = r })
+  with-room e v′ w′ s′ r h = record { answer = rw (e, h .0); first = rw e (h .1); second = rw e (h .2); scratch = rw e (h .3) }
+
+  pub without-room : enough (length s) (length v) (length w) ≡ false → (s′ : List ℕ) → s′ ≡ replicate (length s) 0
+      → Compared f g v w s v w s′ (record { number = 11; same = false })
+  without-room e s′ h = record { answer = rw e; first = rw e; second = rw e; scratch = rw e h }

@@ -31,24 +31,25 @@ fn equal_words(v: &[u16], w: &[u16]) -> bool
 
 // Both sheets translated, one after the other; their starts stand in the scratch's first place.
 fn compare(first: &[u8], second: &[u8], first_image: &mut [u16], second_image: &mut [u16], scratch: &mut [u32]) -> bool
-    requires { ⌜ (4096 ≤ length (now scratch)) × (45056 ≤ length (now first_image)) × (45056 ≤ length (now second_image)) ⌝ }
+    requires { ⌜ (4096 ≤ length (now scratch)) × (45056 ≤ length (now «first_image»)) × (45056 ≤ length (now «second_image»)) ⌝ }
     ensures { λ r. ⌜ (r ≡ listing.same (now (first .entry)) (now (second .entry)))
-        × (now (first_image .exit) ≡ imageOf (now (first .entry)) (now (scratch .entry)) (now (first_image .entry)))
-        × (now (second_image .exit) ≡ imageOf (now (second .entry)) (now (scratch .entry)) (now (second_image .entry)))
-        × (now (scratch .exit) ≡ scratchOf (now (second .entry)) (scratchOf (now (first .entry)) (now (scratch .entry)) (now (first_image .entry))) (now (second_image .entry))) ⌝ }
+        × (now («first_image» .exit) ≡ imageOf (now (first .entry)) (now (scratch .entry)) (now («first_image» .entry)))
+        × (now («second_image» .exit) ≡ imageOf (now (second .entry)) (now (scratch .entry)) (now («second_image» .entry)))
+        × (now (scratch .exit) ≡ scratchOf (now (second .entry)) (scratchOf (now (first .entry)) (now (scratch .entry)) (now («first_image» .entry))) (now («second_image» .entry))) ⌝ }
 {
     let a = translator::translate(first, first_image, scratch);
     let start = scratch[0];
     let b = translator::translate(second, second_image, scratch);
+    let other = scratch[0];
     let n = a.words;
     let m = b.words;
     let words = equal_words(&first_image[..n], &second_image[..m]);
-    (a.number == 0) & (b.number == 0) & (start == scratch[0]) & words
+    (a.number == 0) & (b.number == 0) & (start == other) & words
 }
 
 pub fn same(first: &[u8], second: &[u8], first_image: &mut [u16], second_image: &mut [u16], scratch: &mut [u32]) -> Comparison
-    ensures { λ r. ⌜ Compared (now (first .entry)) (now (second .entry)) (now (first_image .entry)) (now (second_image .entry)) (now (scratch .entry))
-        (now (first_image .exit)) (now (second_image .exit)) (now (scratch .exit)) r ⌝ }
+    ensures { λ r. ⌜ Compared (now (first .entry)) (now (second .entry)) (now («first_image» .entry)) (now («second_image» .entry)) (now (scratch .entry))
+        (now («first_image» .exit)) (now («second_image» .exit)) (now (scratch .exit)) r ⌝ }
 {
     if (4096 <= scratch.len()) & (45056 <= first_image.len()) & (45056 <= second_image.len()) {
         let same = compare(first, second, first_image, second_image, scratch);
