@@ -1,0 +1,35 @@
+use mathlib.Core.Path.{sym, ap, _∙_}
+use native.Mathlib.Omega.{arith}
+use lib.ListN.{length-take}
+use Rattle.listing.specs.Sheet.{startOf}
+use Rattle.heads.specs.StartLine.{startAt}
+use Rattle.heads.specs.SheetLaws.{start-line}
+use borrow.Author.Needs.{needs}
+use Rattle.heads.proofs.start.Statement.{statement}
+use Rattle.heads.proofs.start.Tie as tie
+use Rattle.heads.proofs.start.Reads as reads
+use Rattle.heads.proofs.start.Lts as lts
+use Rattle.heads.proofs.start_in.Reads as start-in-reads
+use Rattle.text.proofs.line_end.Reads as line-end-reads
+
+-- src/lib.rt:104:9
+line-end-requires : tie.Need-line-end-requires
+line-end-requires c κs = search needs
+
+-- src/lib.rt:105:14
+slice-aggregate-start-in : tie.Need-slice-aggregate-start-in
+slice-aggregate-start-in c = rw length-take (omega (arith, c .before .line-end .ensures .1))
+
+-- src/lib.rt:105:5
+start-in-requires : tie.Need-start-in-requires
+start-in-requires c κs = search needs
+
+-- src/lib.rt:101:1
+returns : tie.Need-returns
+returns c =
+    let e = c .before .before .line-end in
+    c .start-in .ensures ∙ ap (λ l. startAt (startOf l)) (sym (start-line (c .before .before .before .before .args .text .now) (e .result) (e .ensures .0)))
+
+pub start-spec : {M : Type 1} → statement M
+start-spec =
+    tie.close (tie.spec line-end-requires slice-aggregate-start-in start-in-requires returns)
