@@ -45,7 +45,7 @@ fn turned_back(number: u8) -> Measured
 }
 
 // The size of a line of a sheet of so many lines.
-pub fn sized(line: &[u8], lines: usize) -> Measured
+fn sized(line: &[u8], lines: usize) -> Measured
     requires { ⌜ lines ≤ 4096 ⌝ }
     ensures { λ r. ⌜ r ≡ sizedOf lines (now (line .entry)) ⌝ }
 {
@@ -70,7 +70,7 @@ fn encoded_as(b: Built, address: u32) -> Encoded
 }
 
 // A line's words at its address, its names made addresses.
-pub fn encoded(line: &[u8], addresses: &[u32], address: u32) -> Encoded
+fn encoded(line: &[u8], addresses: &[u32], address: u32) -> Encoded
     requires { ⌜ length (now addresses) ≤ 4096 ⌝ }
     ensures { λ r. ⌜ r ≡ lineEncoded (now (addresses .entry)) (now (line .entry)) address ⌝ }
 {
