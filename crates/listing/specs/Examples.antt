@@ -24,7 +24,7 @@ use Rattle.listing.specs.Translate.{Verdict, fine, refused, verdictOf, i
 abbrev countdown : List ℕ
 countdown = bytes "START\t4096\nMOVEQ\t5\tData\t0\nSUBQ\t1\tRegister\tData\t0\tWord\nBcc\t@2\tNotEqual\tShort\nRTS\n"
 
-listed : (verdictOf countdown 4096 16384 ≡ fine) × (imageIn countdown ≡ 28677 ∷ 21312 ∷ 26364 ∷ 20085 ∷ []) × (addressesIn countdown ≡ 4096 ∷ 4098 ∷ 4100 ∷ 4102 ∷ [])
+listed : (verdictOf countdown 4096 16384 ≡ fine) × (imageIn countdown ≡ 0x7005 ∷ 0x5340 ∷ 0x66FC ∷ 0x4E75 ∷ []) × (addressesIn countdown ≡ 4096 ∷ 4098 ∷ 4100 ∷ 4102 ∷ [])
 unfolding verdictOf sizedOf counted lineEncoded madeOf lineOf numbersAs buildOf shapeAtPlace moveqAt quickAt bccAt plainAt unsignedAt byteAt longAt sizeAt conditionAt branchSizeAt registerOf registerAt registerOperandAt operandOf operandAt encodeOf sizeOf moveqParts quickParts branchParts bccParts plainParts permits byteOfAddress single ranges holds
 listed = (refl, refl, refl)
 

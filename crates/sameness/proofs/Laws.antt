@@ -1,5 +1,5 @@
 -- Laws of the comparison's steps. Assumes nothing.
-use mathlib.Core.Path.{_≡_, refl, sym, ap, _∙_}
+use mathlib.Core.Path.{_≡_, refl, ap, _∙_}
 use mathlib.Core.Bool.{Bool, true, false, _&&_}
 use mathlib.Core.List.{List}
 use Prim.Native.Nat.{ℕ, _≤_}
@@ -15,7 +15,7 @@ use Rattle.following.specs.Verdicts.{accepted}
 use Rattle.translator.specs.Translated.{Translated}
 use Rattle.translator.specs.VerdictLaws.{Sound, verdict-sound}
 use Rattle.translator.specs.PlaceLaws.{scratch-length, image-length, words-fit}
-use Rattle.translator.specs.Stands.{Stands, translated-stands, number-fine}
+use Rattle.translator.specs.Stands.{translated-stands, number-fine}
 use Rattle.sameness.specs.Compared.{enough, Compared}
 use Rattle.sameness.specs.SameLaws.{verdict-more}
 

@@ -1,35 +1,24 @@
 -- Laws of sheets that are the same: exactly where both are accepted and have equal starts and images; reflexive, symmetric.
-use Prim.Native.Nat.{ℕ, suc, _+_, _*_, _^_, _≤_}
+use Prim.Native.Nat.{ℕ, _+_, _*_, _^_, _≤_}
 use mathlib.Core.Path.{_≡_, refl, sym, ap, _∙_}
 use mathlib.Core.Bool.{Bool, true, false, _&&_, false≢true}
 use mathlib.Core.List.{List, [], _∷_}
 use native.Mathlib.Omega.{arith}
 use lib.Dec.{eqb, leb}
-use lib.ListN.{length}
 use borrow.Author.Tests.{eq-eqb, eqb-true, le-leb}
 use Rattle.inverse.specs.Facts.{and-true}
 use Rattle.form.specs.Line.{equal}
+use Rattle.spelling.specs.NameForm.{equal-is}
 use Rattle.heads.specs.SheetLaws.{count-most}
 use Rattle.passes.specs.PassLaws.{total-most}
 use Rattle.listing.specs.Sheet.{isSheet, startLine, startOf, linesIn}
-use Rattle.listing.specs.Translate.{Verdict, fine, refused, orElse, unless, startVerdict, sizesVerdict, rangesVerdict, startIn, countIn, needIn, addressesIn, imageIn, verdictOf, isFine, same}
-use Rattle.translator.specs.Translated.{openingOf, sizesIn, closingOf, rangesIn}
-use Rattle.translator.specs.StageLaws.{stages}
+use Rattle.listing.specs.Translate.{Verdict, fine, refused, orElse, unless, startVerdict, startIn, countIn, needIn, imageIn, verdictOf, isFine, same}
+use Rattle.translator.specs.Translated.{sizesIn, rangesIn}
 
 -- ---- equal lists
 pub equal-refl : (x : List ℕ) → equal x x ≡ true
 equal-refl [] = refl
 equal-refl (a ∷ x) = rw (eq-eqb a a refl) (equal-refl x)
-
-pub equal-is : (x y : List ℕ) → equal x y ≡ true → x ≡ y
-equal-is [] [] e = refl
-equal-is [] (b ∷ y) e = absurd (false≢true e)
-equal-is (a ∷ x) [] e = absurd (false≢true e)
-equal-is (a ∷ x) (b ∷ y) e =
-    let t = and-true (eqb a b) (equal x y) e in
-    let h : a ≡ b = eqb-true a b (t .0) in
-    let r : x ≡ y = equal-is x y (t .1) in
-    λ i. h i ∷ r i
 
 -- ---- exactly where
 is-fine : (w : Verdict) → isFine w ≡ true → w ≡ fine
@@ -78,26 +67,33 @@ pub same-sym : (s t : List ℕ) → same s t ≡ same t s
 same-sym s t = both-ways (same s t) (same t s) (λ e. is-same t s (turn (same-is s t e))) (λ e. is-same s t (turn (same-is t s e)))
 
 -- ---- more than 4,096 places and 45,056 words change nothing
-module _ (text : List ℕ) (places room : ℕ) (h : 4096 ≤ places) (g : 45056 ≤ room) where
-  in-shape : isSheet text ≡ true → (places₂ room₂ : ℕ) → 4096 ≤ places₂ → 45056 ≤ room₂
-      → verdictOf text places₂ room₂ ≡ orElse (startVerdict (startOf (startLine text))) (orElse (sizesIn text) (orElse (unless (leb (startIn text + 2 * needIn text) (2 ^ 32)) 9) (rangesIn text)))
+module _ (text : List ℕ) where
+  -- 01's table by its tests of the shape, the scratch and the image
+  abbrev by : Bool → Bool → Bool → Verdict
+  by sheet scratch image =
+      orElse (unless sheet 10)
+      (orElse (startVerdict (startOf (startLine text)))
+      (orElse (unless scratch 11)
+      (orElse (sizesIn text)
+      (orElse (unless (leb (startIn text + 2 * needIn text) (2 ^ 32)) 9)
+      (orElse (unless image 11) (rangesIn text))))))
+
+  by-tests : (places room : ℕ) → verdictOf text places room ≡ by (isSheet text) (leb (countIn text) places) (leb (needIn text) room)
   unfolding verdictOf
-  in-shape e places₂ room₂ p q =
+  by-tests places room = refl
+
+  with-room : (b : Bool) → isSheet text ≡ b → (places room : ℕ) → 4096 ≤ places → 45056 ≤ room → verdictOf text places room ≡ by b true true
+  with-room true e places room h g =
       let few = count-most text e in
-      rw (
-        le-leb (countIn text) places₂ (omega arith),
-        le-leb (needIn text) room₂ (omega (arith, total-most (countIn text) (linesIn text))),
-      )
-      (ap (λ (b : Bool). orElse (unless b 10) (orElse (startVerdict (startOf (startLine text))) (orElse (sizesIn text) (orElse (unless (leb (startIn text + 2 * needIn text) (2 ^ 32)) 9) (rangesIn text))))) e)
+      let scratch : leb (countIn text) places ≡ true = le-leb (countIn text) places (omega arith) in
+      let image : leb (needIn text) room ≡ true = le-leb (needIn text) room (omega (arith, total-most (countIn text) (linesIn text))) in
+      by-tests places room
+      ∙ ap (λ (t : Bool). by t (leb (countIn text) places) (leb (needIn text) room)) e
+      ∙ ap (λ (t : Bool). by true t (leb (needIn text) room)) scratch
+      ∙ ap (λ (t : Bool). by true true t) image
+  with-room false e places room h g =
+      by-tests places room ∙ ap (λ (t : Bool). by t (leb (countIn text) places) (leb (needIn text) room)) e
 
-  out-of-shape : isSheet text ≡ false → (places₂ room₂ : ℕ) → verdictOf text places₂ room₂ ≡ unless false 10
-  unfolding verdictOf
-  out-of-shape e places₂ room₂ =
-      ap (λ (b : Bool). orElse (unless b 10) (orElse (startVerdict (startOf (startLine text))) (orElse (unless (leb (countIn text) places₂) 11) (orElse (sizesIn text) (orElse (unless (leb (startIn text + 2 * needIn text) (2 ^ 32)) 9) (orElse (unless (leb (needIn text) room₂) 11) (rangesIn text))))))) e
-
-  pub verdict-more : verdictOf text places room ≡ verdictOf text 4096 45056
-  verdict-more = go (isSheet text) refl
-    where
-      go : (b : Bool) → isSheet text ≡ b → verdictOf text places room ≡ verdictOf text 4096 45056
-      go true e = in-shape e places room h g ∙ sym (in-shape e 4096 45056 (omega arith) (omega arith))
-      go false e = out-of-shape e places room ∙ sym (out-of-shape e 4096 45056)
+  pub verdict-more : (places room : ℕ) → 4096 ≤ places → 45056 ≤ room → verdictOf text places room ≡ verdictOf text 4096 45056
+  verdict-more places room h g =
+      with-room (isSheet text) refl places room h g ∙ sym (with-room (isSheet text) refl 4096 45056 (omega arith) (omega arith))

@@ -30,7 +30,13 @@ fn equal_words(v: &[u16], w: &[u16]) -> bool
 }
 
 // Both sheets translated, one after the other; their starts stand in the scratch's first place.
-fn compare(first: &[u8], second: &[u8], first_image: &mut [u16], second_image: &mut [u16], scratch: &mut [u32]) -> bool
+fn compare(
+    first: &[u8],
+    second: &[u8],
+    first_image: &mut [u16],
+    second_image: &mut [u16],
+    scratch: &mut [u32],
+) -> bool
     requires { ⌜ (4096 ≤ length (now scratch)) × (45056 ≤ length (now «first_image»)) × (45056 ≤ length (now «second_image»)) ⌝ }
     ensures { λ r. ⌜ (r ≡ listing.same (now (first .entry)) (now (second .entry)))
         × (now («first_image» .exit) ≡ imageOf (now (first .entry)) (now (scratch .entry)) (now («first_image» .entry)))
@@ -47,7 +53,13 @@ fn compare(first: &[u8], second: &[u8], first_image: &mut [u16], second_image: &
     (a.number == 0) & (b.number == 0) & (start == other) & words
 }
 
-pub fn same(first: &[u8], second: &[u8], first_image: &mut [u16], second_image: &mut [u16], scratch: &mut [u32]) -> Comparison
+pub fn same(
+    first: &[u8],
+    second: &[u8],
+    first_image: &mut [u16],
+    second_image: &mut [u16],
+    scratch: &mut [u32],
+) -> Comparison
     ensures { λ r. ⌜ Compared (now (first .entry)) (now (second .entry)) (now («first_image» .entry)) (now («second_image» .entry)) (now (scratch .entry))
         (now («first_image» .exit)) (now («second_image» .exit)) (now (scratch .exit)) r ⌝ }
 {

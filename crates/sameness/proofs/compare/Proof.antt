@@ -2,10 +2,6 @@ use Rattle.sameness.proofs.Laws.{fits, lent, comparison}
 use borrow.Author.Needs.{needs}
 use Rattle.sameness.proofs.compare.Statement.{statement}
 use Rattle.sameness.proofs.compare.Tie as tie
-use Rattle.sameness.proofs.compare.Reads as reads
-use Rattle.sameness.proofs.compare.Lts as lts
-use Rattle.sameness.proofs.equal_words.Reads as equal-words-reads
-use Rattle.translator.proofs.translate.Reads as translate-reads
 
 translate-requires : tie.Need-translate-requires
 translate-requires c κs = search needs

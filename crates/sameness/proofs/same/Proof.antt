@@ -3,10 +3,6 @@ use Rattle.sameness.proofs.Laws.{room, with-room, without-room}
 use borrow.Author.Needs.{needs}
 use Rattle.sameness.proofs.same.Statement.{statement}
 use Rattle.sameness.proofs.same.Tie as tie
-use Rattle.sameness.proofs.same.Reads as reads
-use Rattle.sameness.proofs.same.Lts as lts
-use Rattle.sameness.proofs.compare.Reads as compare-reads
-use Rattle.translator.proofs.zero.Reads as zero-reads
 
 compare-requires : tie.Need-compare-requires
 compare-requires c κs =
