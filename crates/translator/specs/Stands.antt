@@ -1,5 +1,5 @@
 -- Demand 3 of what `translate` returns and leaves: Translated is what it ensures.
-use Prim.Native.Nat.{ℕ, zero, suc, pred, _+_, _-_, _/_, _≤_, _<_}
+use Prim.Native.Nat.{ℕ, zero, suc, pred, _+_, _-_, _/_, _≤_, _<_, _*_}
 use mathlib.Core.Path.{_≡_, refl, sym, ap, _∙_}
 use mathlib.Core.Bool.{Bool}
 use mathlib.Core.List.{List, [], _∷_, _++_}
