@@ -20,14 +20,12 @@ use Rattle.opcode.specs.Read.{readOf}
 use Rattle.reads.specs.Statements as reads
 use Rattle.reads.specs.ReaderLaws.{complete}
 use Rattle.listing.specs.Sheet.{encodedAs, lineEncoded}
-use Rattle.listing.specs.Translate.{fine, countIn, addressesIn}
+use Rattle.listing.specs.Translate.{countIn, addressesIn}
 use Rattle.listing.specs.Follow.{Next, on, to, either, stop, nextOf, target, lineAt, addressOf, countOf, instructionIn, plainLine, named}
 use Rattle.following.specs.Follows.{Aims, Within, wordsAt, LineStands, AllStand, address-is}
 use Rattle.following.specs.Verdicts.{Accepted}
-use Rattle.following.specs.Turned.{Aimed}
-use Rattle.following.specs.Renamed.{AimedAt}
-use Rattle.following.specs.Sizes.{size-moved}
-use Rattle.following.specs.Lawful.{instruction-typed, next-plain, Even, not-left-out, Alike, same, go-to, go-either, next-moved}
+use Rattle.following.specs.Lawful.{quiet}
+use Rattle.following.specs.Renamed.{Goes, quietly, aimed}
 use Rattle.following.specs.Made.{LineMade}
 use Rattle.following.specs.Bounds.{size-is, MeasuredSheet, line-at, count-some, names-bounded, addresses-bounded}
 
@@ -42,31 +40,21 @@ encoded-fine (item.noEncoding r) ws h = absurd (omega arith)
 taken : (v : item.Verdict) (ws : List ℕ) → v ≡ item.fine → take (encode.encodedAs v ws .count) (encode.encodedAs v ws .words) ≡ ws
 taken v ws e = rw e (take-at ws (replicate {A = ℕ} (11 - length ws) 0) (length ws) refl)
 
--- ---- targets
-module _ {n : ℕ} (y : (ℕ → ℕ) → Instruction) where
-  aims-of : {x z : Next} → Alike x z → AimedAt n x y → (t : ℕ) → (Aimed n (λ f. target (nextOf (y f))) → target z ≡ t) → Aims z t
-  aims-of (same on) a t h = tt
-  aims-of (same (to u)) a t h = h a
-  aims-of (same (either u)) a t h = h a
-  aims-of (same stop) a t h = tt
-  aims-of (go-to u v) a t h = h a
-  aims-of (go-either u v) a t h = h a
+-- ---- where a line goes: to the address t, and to line k of m; its target is even
+abbrev Fits : Next → ℕ → ℕ → ℕ → Type 0
+Fits x t k m = Aims x t × Within x m k × (target x % 2 ≡ 0)
 
-  within-of : {x z : Next} → Alike x z → AimedAt n x y → (t : ℕ) → (Aimed n (λ f. target (nextOf (y f))) → (1 ≤ t) × (t ≤ n)) → Within z n t
-  within-of (same on) a t h = tt
-  within-of (same (to u)) a t h = h a
-  within-of (same (either u)) a t h = h a
-  within-of (same stop) a t h = tt
-  within-of (go-to u v) a t h = h a
-  within-of (go-either u v) a t h = h a
+quiet-fits : (x : Next) → quiet x ≡ true → (t k m : ℕ) → Fits x t k m
+quiet-fits on h t k m = (tt, tt, refl)
+quiet-fits (to u) h t k m = let z : _≡_ {A = ℕ} 0 1 = cc in absurd (omega arith)
+quiet-fits (either u) h t k m = let z : _≡_ {A = ℕ} 0 1 = cc in absurd (omega arith)
+quiet-fits stop h t k m = (tt, tt, refl)
 
-  even-of : {x z : Next} → Alike x z → AimedAt n x y → (Aimed n (λ f. target (nextOf (y f))) → target z % 2 ≡ 0) → Even z
-  even-of (same on) a h = tt
-  even-of (same (to u)) a h = h a
-  even-of (same (either u)) a h = h a
-  even-of (same stop) a h = tt
-  even-of (go-to u v) a h = h a
-  even-of (go-either u v) a h = h a
+aimed-fits : (x : Next) (t k m : ℕ) → target x ≡ t → t % 2 ≡ 0 → 1 ≤ k → k ≤ m → Fits x t k m
+aimed-fits on t k m e h p q = (tt, tt, refl)
+aimed-fits (to u) t k m e h p q = (e, (p, q), rw e h)
+aimed-fits (either u) t k m e h p q = (e, (p, q), rw e h)
+aimed-fits stop t k m e h p q = (tt, tt, refl)
 
 module _ (text : List ℕ) (places room : ℕ) (ok : Accepted text places room) where
   measured : MeasuredSheet text
@@ -102,33 +90,26 @@ module _ (text : List ℕ) (places room : ℕ) (ok : Accepted text places room) 
 
     counts-are : length (wordsOf i a) ≡ countOf text n
     counts-are =
-        let e = size-moved (l .follows .0 A) in
-        sym (size-is i (ap (λ (m : Measured). m .number) (sym e) ∙ l .number) a) ∙ ap (λ (m : Measured). m .size / 2) (sym e) ∙ sym (l .counts)
+        let e = l .follows .size A in
+        sym (size-is i (ap (λ (m : Measured). m .number) e ∙ l .number) a) ∙ ap (λ (m : Measured). m .size / 2) e ∙ sym (l .counts)
 
     plain-is : plainLine text n ≡ plain i
     plain-is = ap (λ (b : Built). plain (instructionIn b)) made
 
     next-is : nextOf (plainLine text n) ≡ nextOf i
-    next-is = ap nextOf plain-is ∙ next-plain i
+    next-is = ap nextOf plain-is ∙ l .follows .plain A
 
     named-is : named text n ≡ target (nextOf (l .made (λ k. k)))
     named-is = ap (λ (b : Built). target (nextOf (instructionIn b))) (l .makes (λ k. k) (names-bounded text measured))
 
-    abbrev Target : Type 0
-    Target = Aimed (countIn text) (λ f. target (nextOf (l .made f)))
-
-    target-is : Target → target (nextOf i) ≡ addressOf text (named text n)
-    target-is (m, p, q, e) = e A ∙ address-is text m p q ∙ ap (addressOf text) (sym (named-is ∙ e (λ k. k)))
-
-    target-even : Target → target (nextOf i) % 2 ≡ 0
-    target-even t = ap (λ (k : ℕ). k % 2) (target-is t) ∙ address-even (named text n)
-
-    target-within : Target → (1 ≤ named text n) × (named text n ≤ countIn text)
-    target-within (m, p, q, e) = subst (λ (k : ℕ). (1 ≤ k) × (k ≤ countIn text)) (sym (named-is ∙ e (λ k. k))) (p, q)
+    goes : Goes (countIn text) (l .made) → Fits (nextOf i) (addressOf text (named text n)) (named text n) (countIn text)
+    goes (quietly q) = quiet-fits (nextOf i) (q A) (addressOf text (named text n)) (named text n) (countIn text)
+    goes (aimed (m, p, q, e)) =
+        subst (λ (k : ℕ). Fits (nextOf i) (addressOf text k) k (countIn text)) (sym (named-is ∙ e (λ k. k)))
+        (aimed-fits (nextOf i) (addressOf text m) m (countIn text) (e A ∙ address-is text m p q) (address-even m) p q)
 
     line-accepted : reads.Accepted a i
-    line-accepted =
-        (instruction-typed i (l .inside A (addresses-bounded text measured)), is-fine, not-left-out (l .follows .0 A) a (address-even n) (even-of (l .made) (next-moved (l .follows .0 A)) (l .follows .1) target-even))
+    line-accepted = (l .follows .typed A (l .inside A (addresses-bounded text measured)), is-fine, l .follows .read A a (address-even n) (goes (l .follows .goes) .2))
 
     line-stands : LineStands text n
     line-stands =
@@ -137,8 +118,8 @@ module _ (text : List ℕ) (places room : ℕ) (ok : Accepted text places room) 
           counts = ap (λ (ws : List ℕ). length ws) words-are ∙ counts-are;
           reads-back = λ rest. ap (λ (ws : List ℕ). readOf (ws ++ rest) a) words-are ∙ complete a i rest line-accepted
               ∙ ap (λ (j : Instruction). Read j (2 * length (wordsOf i a))) (sym plain-is) ∙ ap (λ (k : ℕ). Read (plainLine text n) (2 * k)) counts-are;
-          aims = subst (λ (x : Next). Aims x (addressOf text (named text n))) (sym next-is) (aims-of (l .made) (next-moved (l .follows .0 A)) (l .follows .1) (addressOf text (named text n)) target-is);
-          within = subst (λ (x : Next). Within x (countIn text) (named text n)) (sym next-is) (within-of (l .made) (next-moved (l .follows .0 A)) (l .follows .1) (named text n) target-within);
+          aims = subst (λ (x : Next). Aims x (addressOf text (named text n))) (sym next-is) (goes (l .follows .goes) .0);
+          within = subst (λ (x : Next). Within x (countIn text) (named text n)) (sym next-is) (goes (l .follows .goes) .1);
         }
 
   pub all-stand : AllStand text

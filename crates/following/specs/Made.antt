@@ -99,7 +99,7 @@ module _ (n : ℕ) (line : List ℕ) (i : Instruction) (vs : List Said) (l : lin
   line-turned : Fits (kind.Instruction ∷ []) vs → namesAll n vs ≡ true → map (numberAs (λ k. 0)) vs ≡ numbersOf i → Inside (formOf i) → Turned n Instruction entries (Follows n i) [] vs []
   unfolding numbersOf formOf
   line-turned h g e s =
-      instruction-turned n i vs (record { fits = h; named = g; zeros = subst (λ (es : List Entry). Spelt (λ k. 0) vs es) (sym (append-nil (entries i))) (map-spelt (λ k. 0) vs (entries i) e) }) s
+      instruction-turned i vs (record { fits = h; named = g; zeros = subst (λ (es : List Entry). Spelt (λ k. 0) vs es) (sym (append-nil (entries i))) (map-spelt (λ k. 0) vs (entries i) e) }) s
 
   turned-spelt : (t : Turned n Instruction entries (Follows n i) [] vs []) (f : ℕ → ℕ) → Bounded n f → Spelt f vs (entries (t .made f))
   turned-spelt t f b = subst (λ (es : List Entry). Spelt f vs es) (append-nil (entries (t .made f))) (t .spells f b [] (empty-spelt f (t .rest) (t .left .fits)))
