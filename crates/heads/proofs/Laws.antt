@@ -1,20 +1,19 @@
 -- Laws of what stands before the lines, a byte or a field at a time. Assumes nothing.
 use mathlib.Core.Path.{_≡_, refl, sym, ap, _∙_}
-use mathlib.Core.Bool.{Bool, true, false, cond, not, _&&_}
+use mathlib.Core.Bool.{cond}
 use mathlib.Core.List.{List, [], _∷_}
-use Prim.Native.Nat.{ℕ, zero, suc, _+_, _-_, _^_, _≤_, _<_}
+use Prim.Native.Nat.{ℕ, suc, _+_, _-_, _≤_, _<_}
 use native.Mathlib.Omega.{arith}
 use native.Mathlib.Numerals.{add-one}
-use lib.Dec.{eqb, leb, ltb}
 use lib.ListN.{length, take, drop, getD, drop-of-length-le}
 use lib.Seq.{drop-cons}
-use borrow.Author.Tests.{eq-eqb, ne-eqb, lt-leb}
+use borrow.Author.Tests.{eq-eqb, ne-eqb}
 use Rattle.text.specs.Parts.{before, partEnd, fields}
 use Rattle.text.specs.PartLaws.{partsFrom, parts-at, parts-start, parts-past, part-is}
 use Rattle.text.specs.Number.{numberOf}
 use Rattle.form.specs.Names.{bytes}
 use Rattle.form.specs.Line.{equal}
-use Rattle.listing.specs.Sheet.{feeds, last, Start, notInForm, startAs, startFields, startOf}
+use Rattle.listing.specs.Sheet.{feeds, last, notInForm, startAs, startFields, startOf}
 
 -- ---- line feeds
 module _ (s : List ℕ) (i : ℕ) (h : i < length s) where

@@ -10,3 +10,4 @@ pub mod Lawful
 pub mod Made
 pub mod Demand
 pub mod Demand3
+pub mod Examples

@@ -1,12 +1,12 @@
 -- Laws of the translator's steps. Assumes nothing.
 use mathlib.Core.Path.{_≡_, refl, sym, ap, _∙_}
 use mathlib.Core.Bool.{Bool, true, false, true≢false, false≢true}
-use mathlib.Core.List.{List, [], _∷_, _++_}
+use mathlib.Core.List.{List, _∷_, _++_}
 use Prim.Native.Nat.{ℕ, zero, suc, _+_, _*_, _-_, _%_, _^_, _≤_, _<_}
 use native.Mathlib.Omega.{arith}
 use native.Mathlib.Numerals.{add-one}
-use lib.Dec.{leb, eqb}
-use lib.IntN.{ℤ, pos}
+use lib.Dec.{leb}
+use lib.IntN.{pos}
 use lib.ListN.{length, take, drop, getD, set, replicate, length-replicate, length-take}
 use lib.Seq.{drop-cons, set-at}
 use borrow.Author.Tests.{eq-eqb, ne-eqb, le-leb, lt-leb}
@@ -260,7 +260,7 @@ module _ (text v s : List ℕ) (o : openingOf text (length s) ≡ fine) (n : ℕ
                     counted = counted;
                     needed = needed;
                     places = omega (arith, kept, counted, begun .scratch);
-                    addresses = rw (addressed, counted ∙ sym (addresses-length (countIn text) (startIn text) (linesIn text))) (over-take (addressesIn text) s);
+                    addresses = rw addressed (over-take (addressesIn text) s (n - 1) (addresses-length (countIn text) (startIn text) (linesIn text) ∙ sym counted));
                     verdict = ap (λ (x : ℕ). verdictOf text x (length v)) kept ∙ after fine sizes-fine
                         ∙ ap (λ (x : Verdict). orElse x (rangesIn text)) (ended ∙ as-fine 0 k 0 (pos 0) m);
                   }

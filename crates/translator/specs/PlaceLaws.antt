@@ -6,19 +6,23 @@ use mathlib.Core.List.{List, [], _∷_, _++_}
 use native.Mathlib.Omega.{arith}
 use lib.Dec.{eqb}
 use lib.ListN.{length, take, drop, getD, replicate, length-append, length-drop, length-replicate}
-use lib.Seq.{take-append-seam, drop-append-seam}
+use lib.Seq.{drop-append-seam, take-at, drop-at}
 use Rattle.listing.specs.declared.Listed.{Listed}
 use Rattle.listing.specs.Sheet.{linesIn, sizedOf, counted, addressesFrom}
-use Rattle.listing.specs.Translate.{Verdict, fine, refused, startIn, countIn, addressesIn, imageIn, over, verdictOf, listedOf, imageAs, imageOf, scratchAs, scratchOf}
+use Rattle.listing.specs.Translate.{Verdict, fine, refused, startIn, countIn, addressesIn, needIn, imageIn, over, verdictOf, listedAs, listedOf, imageAs, imageOf, scratchAs, scratchOf}
 use Rattle.listing.specs.Verdicts.{accepted}
+use Rattle.listing.specs.Demand3.{image-counts}
 use Rattle.passes.specs.Passes.{filledOf}
 use Rattle.translator.specs.Translated.{Translated}
 
 pub over-length : (x v : List ℕ) → length x ≤ length v → length (over x v) ≡ length v
 over-length x v h = rw (length-append, length-drop) (omega arith)
 
-pub over-take : (x v : List ℕ) → take (length x) (over x v) ≡ x
-over-take x v = take-append-seam x (drop (length x) v)
+pub over-take : (x v : List ℕ) (n : ℕ) → length x ≡ n → take n (over x v) ≡ x
+over-take x v n e = take-at x (drop (length x) v) n e
+
+pub over-drop : (x v : List ℕ) (n : ℕ) → length x ≡ n → drop n (over x v) ≡ drop n v
+over-drop x v n e = drop-at x (drop (length x) v) n e ∙ ap (λ (k : ℕ). drop k v) e
 
 pub over-over : (x v : List ℕ) → over x (over x v) ≡ over x v
 over-over x v = ap (λ (w : List ℕ). x ++ w) (drop-append-seam x (drop (length x) v))
@@ -48,7 +52,7 @@ filled-length n a (l ∷ ls) = go (eqb (sizedOf n l .number) 0) (filled-length n
     go true h = omega arith
     go false h = omega arith
 
--- the scratch keeps its length
+-- the scratch and the image keep their lengths
 pub scratch-length : (text s v : List ℕ) → length (scratchOf text s v) ≡ length s
 unfolding scratchOf
 scratch-length text s v = go (verdictOf text (length s) (length v)) refl
@@ -57,6 +61,24 @@ scratch-length text s v = go (verdictOf text (length s) (length v)) refl
     go fine e =
         over-length (addressesIn text) s (omega (arith, addresses-length (countIn text) (startIn text) (linesIn text), accepted text (length s) (length v) e .scratch))
     go (refused number line detail value) e = length-replicate (length s) 0
+
+pub image-length : (text s v : List ℕ) → length (imageOf text s v) ≡ length v
+unfolding imageOf
+image-length text s v = go (verdictOf text (length s) (length v)) refl
+  where
+    go : (w : Verdict) → verdictOf text (length s) (length v) ≡ w → length (imageAs w (imageIn text) v) ≡ length v
+    go fine e =
+        over-length (imageIn text) v (omega (arith, image-counts text (length s) (length v) e, accepted text (length s) (length v) e .image))
+    go (refused number line detail value) e = refl
+
+-- no more words are counted than there is room
+pub words-fit : (text : List ℕ) (places room : ℕ) → listedOf text places room .words ≤ room
+unfolding listedOf
+words-fit text places room = go (verdictOf text places room) refl
+  where
+    go : (w : Verdict) → verdictOf text places room ≡ w → listedAs w (countIn text) (needIn text) .words ≤ room
+    go fine e = accepted text places room e .image
+    go (refused number line detail value) e = omega arith
 
 -- a scratch that holds the addresses already is left as the one before would be
 pub from-over : (text v s v′ s′ : List ℕ) (r : Listed) → length (addressesIn text) ≤ length s

@@ -1,12 +1,12 @@
 -- Laws of verdicts: no refusal has the number 0, and a refusal is known by its number.
 use Prim.Native.Nat.{ℕ, suc, _+_, _*_, _%_, _^_}
-use mathlib.Core.Path.{_≡_, refl, sym, ap, _∙_}
+use mathlib.Core.Path.{_≡_, refl}
 use mathlib.Core.Bool.{Bool, true, false, cond}
 use mathlib.Core.List.{List, [], _∷_}
 use native.Mathlib.Omega.{arith}
 use lib.Dec.{eqb, leb}
-use lib.IntN.{ℤ, pos}
-use borrow.Author.Tests.{eq-eqb, ne-eqb, eqb-false}
+use lib.IntN.{ℤ}
+use borrow.Author.Tests.{eqb-false}
 use Rattle.listing.specs.Sheet.{isSheet, startLine, linesIn, Start, at, notInForm, startOf, sizedOf, counted, lineEncoded}
 use Rattle.listing.specs.Translate.{Verdict, fine, refused, orElse, unless, startVerdict, asVerdict, sizesVerdict, rangesVerdict, startIn, countIn, addressesIn, needIn, verdictOf}
 

@@ -6,7 +6,7 @@ ghost use Rattle.listing.specs.Translate.{fine, refused, listedAs};
 ghost use Rattle.translator.specs.Translated.{Translated, numberIn, openingOf, closingOf, Sized};
 use listing::Listed;
 
-fn zero(s: &mut [u32])
+pub fn zero(s: &mut [u32])
     ensures { λ r. ⌜ now (s .exit) ≡ replicate (length (now (s .entry))) 0 ⌝ }
 {
     let mut i: usize = 0;
@@ -66,7 +66,14 @@ fn closing(start: u32, words: usize, room: usize) -> u8
 }
 
 // The lines' ranges, then their words.
-fn lay_down(text: &[u8], from: usize, lines: usize, words: usize, image: &mut [u16], scratch: &mut [u32]) -> Listed
+fn lay_down(
+    text: &[u8],
+    from: usize,
+    lines: usize,
+    words: usize,
+    image: &mut [u16],
+    scratch: &mut [u32],
+) -> Listed
     requires { ⌜ Sized (now text) from lines words (now image) (now scratch) ⌝ }
     ensures { λ r. ⌜ Translated (now (text .entry)) (now (image .entry)) (now (scratch .entry)) (now (image .exit)) (now (scratch .exit)) r ⌝ }
 {

@@ -1,46 +1,33 @@
 use mathlib.Core.Path.{sym, ap, _∙_}
 use native.Mathlib.Omega.{arith}
 use lib.ListN.{length-take}
-use Rattle.listing.specs.Sheet.{Start, startAs}
+use Rattle.listing.specs.Sheet.{startAs}
 use Rattle.heads.specs.StartLine.{startAt}
 use Rattle.heads.proofs.Laws.{one-field, more-fields, two-fields}
 use borrow.Author.Needs.{needs}
 use Rattle.heads.proofs.start_in.Statement.{statement}
 use Rattle.heads.proofs.start_in.Tie as tie
-use Rattle.heads.proofs.start_in.Reads as reads
-use Rattle.heads.proofs.start_in.Lts as lts
-use Rattle.heads.proofs.no_start.Reads as no-start-reads
-use Rattle.heads.proofs.start_number.Reads as start-number-reads
-use Rattle.text.proofs.field_end.Reads as field-end-reads
-use Rattle.text.proofs.read_number.Reads as read-number-reads
 
--- src/lib.rt:85:9
 field-end-requires : tie.Need-field-end-requires
 field-end-requires c κs = search needs
 
--- src/lib.rt:87:9
 no-start-requires : tie.Need-no-start-requires
 no-start-requires c κs = search needs
 
--- src/lib.rt:87:9
 returns : tie.Need-returns
 returns c =
     let e = c .before .before .field-end in
     c .no-start .ensures ∙ ap startAt (sym (one-field (c .before .before .before .before .args .line .now) (e .result) (e .ensures .0) (c .before .if1 .taken)))
 
--- src/lib.rt:89:16
 add-from : tie.Need-add-from
 add-from c = search needs
 
--- src/lib.rt:90:9
 field-end-requires-2 : tie.Need-field-end-requires-2
 field-end-requires-2 c κs = search needs
 
--- src/lib.rt:92:9
 no-start-requires-2 : tie.Need-no-start-requires-2
 no-start-requires-2 c κs = search needs
 
--- src/lib.rt:92:9
 returns-2 : tie.Need-returns-2
 returns-2 c =
     let e = c .before .before .before .before .field-end in
@@ -48,39 +35,30 @@ returns-2 c =
     c .no-start2 .ensures
     ∙ ap startAt (sym (more-fields (c .before .before .before .before .before .before .args .line .now) (e .result) (e .ensures .0) (omega arith) (f .result) (f .ensures .0) (c .before .if2 .taken)))
 
--- src/lib.rt:94:14
 slice-aggregate-equal : tie.Need-slice-aggregate-equal
 slice-aggregate-equal c = rw length-take (omega arith)
 
--- src/lib.rt:94:26
 slice-aggregate-equal-2 : tie.Need-slice-aggregate-equal-2
 slice-aggregate-equal-2 c = search needs
 
--- src/lib.rt:94:8
 equal-requires : tie.Need-equal-requires
 equal-requires c κs = search needs
 
--- src/lib.rt:95:47
 sub-read-number : tie.Need-sub-read-number
 sub-read-number c = search needs
 
--- src/lib.rt:95:47
 part-read-number-start : tie.Need-part-read-number-start
 part-read-number-start c = search needs
 
--- src/lib.rt:95:47
 part-read-number-end : tie.Need-part-read-number-end
 part-read-number-end c = search needs
 
--- src/lib.rt:95:29
 read-number-requires : tie.Need-read-number-requires
 read-number-requires c κs = search needs
 
--- src/lib.rt:95:9
 start-number-requires : tie.Need-start-number-requires
 start-number-requires c κs = search needs
 
--- src/lib.rt:95:9
 returns-3 : tie.Need-returns-3
 returns-3 c =
     let b = c .before .before .before .before .before .before .before .before in
@@ -91,11 +69,9 @@ returns-3 c =
     ∙ sym (ap startAt (two-fields line (e .result) (e .ensures .0) (omega arith) (f .result) (f .ensures .0) (omega arith))
     ∙ rw (sym (c .before .before .before .before .equal .ensures) ∙ c .before .before .before .if3 .taken))
 
--- src/lib.rt:97:5
 no-start-requires-3 : tie.Need-no-start-requires-3
 no-start-requires-3 c κs = search needs
 
--- src/lib.rt:82:1
 returns-4 : tie.Need-returns-4
 returns-4 c =
     let b = c .before .before .before .before .before .before in

@@ -5,41 +5,30 @@ use Rattle.inverse.specs.Facts.{and-true, ltb-is}
 use borrow.Author.Needs.{needs}
 use Rattle.heads.proofs.start_number.Statement.{statement}
 use Rattle.heads.proofs.start_number.Tie as tie
-use Rattle.heads.proofs.start_number.Reads as reads
-use Rattle.heads.proofs.start_number.Lts as lts
-use Rattle.heads.proofs.no_start.Reads as no-start-reads
 
--- src/lib.rt:65:13
 enum-known-n : tie.Need-enum-known-n
 enum-known-n c = search needs
 
--- src/lib.rt:71:30
 cast-t9 : tie.Need-cast-t9
 cast-t9 c =
     let g = c .before .before .n .given .0 in
     omega (arith, ltb-is (g .1 .0) 4294967296 (and-true (not (g .0)) (ltb (g .1 .0) 4294967296) (c .if1 .taken) .1))
 
--- src/lib.rt:74:17
 no-start-requires : tie.Need-no-start-requires
 no-start-requires c κs = search needs
 
--- src/lib.rt:77:23
 enum-told : tie.Need-enum-told
 enum-told c = search needs
 
--- src/lib.rt:77:23
 no-start-requires-2 : tie.Need-no-start-requires-2
 no-start-requires-2 c κs = search needs
 
--- src/lib.rt:60:1
 returns : tie.Need-returns
 returns c = rw (c .before .before .n .given .1, c .if1 .taken)
 
--- src/lib.rt:60:1
 returns-2 : tie.Need-returns-2
 returns-2 c = rw (c .before .before .before .n .given .1, c .before .if1 .left) (c .no-start .ensures)
 
--- src/lib.rt:60:1
 returns-3 : tie.Need-returns-3
 returns-3 c = search needs
 

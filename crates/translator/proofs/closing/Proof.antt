@@ -3,8 +3,6 @@ use Rattle.translator.proofs.Laws.{close-9, close-11, close-0}
 use borrow.Author.Needs.{needs}
 use Rattle.translator.proofs.closing.Statement.{statement}
 use Rattle.translator.proofs.closing.Tie as tie
-use Rattle.translator.proofs.closing.Reads as reads
-use Rattle.translator.proofs.closing.Lts as lts
 
 mul-if1 : tie.Need-mul-if1
 mul-if1 c = search needs

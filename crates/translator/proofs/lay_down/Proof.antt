@@ -4,9 +4,6 @@ use Rattle.translator.proofs.Laws.{lent, placed, refused-range, image-f
 use borrow.Author.Needs.{needs}
 use Rattle.translator.proofs.lay_down.Statement.{statement}
 use Rattle.translator.proofs.lay_down.Tie as tie
-use Rattle.translator.proofs.lay_down.Reads as reads
-use Rattle.translator.proofs.lay_down.Lts as lts
-use Rattle.translator.proofs.refuse.Reads as refuse-reads
 
 slice-reshare-prefix-ranges : tie.Need-slice-reshare-prefix-ranges
 slice-reshare-prefix-ranges c = search needs

@@ -6,11 +6,6 @@ use Rattle.translator.proofs.Laws.{open-10, open-7, open-9, open-11, op
 use borrow.Author.Needs.{needs}
 use Rattle.translator.proofs.opening.Statement.{statement}
 use Rattle.translator.proofs.opening.Tie as tie
-use Rattle.translator.proofs.opening.Reads as reads
-use Rattle.translator.proofs.opening.Lts as lts
-use Rattle.heads.proofs.feeds.Reads as feeds-reads
-use Rattle.heads.proofs.is_sheet.Reads as is-sheet-reads
-use Rattle.heads.proofs.start.Reads as start-reads
 
 is-sheet-requires : tie.Need-is-sheet-requires
 is-sheet-requires c κs = search needs

@@ -3,11 +3,6 @@ use Rattle.translator.proofs.Laws.{refused-opening, opening-fine}
 use borrow.Author.Needs.{needs}
 use Rattle.translator.proofs.translate.Statement.{statement}
 use Rattle.translator.proofs.translate.Tie as tie
-use Rattle.translator.proofs.translate.Reads as reads
-use Rattle.translator.proofs.translate.Lts as lts
-use Rattle.translator.proofs.opening.Reads as opening-reads
-use Rattle.translator.proofs.refuse.Reads as refuse-reads
-use Rattle.translator.proofs.translate_lines.Reads as translate-lines-reads
 
 opening-requires : tie.Need-opening-requires
 opening-requires c κs = search needs

@@ -4,14 +4,6 @@ use Rattle.translator.proofs.Laws.{feeds-some, sizes-ready, refused-siz
 use borrow.Author.Needs.{needs}
 use Rattle.translator.proofs.translate_lines.Statement.{statement}
 use Rattle.translator.proofs.translate_lines.Tie as tie
-use Rattle.translator.proofs.translate_lines.Reads as reads
-use Rattle.translator.proofs.translate_lines.Lts as lts
-use Rattle.heads.proofs.feeds.Reads as feeds-reads
-use Rattle.heads.proofs.lines_begin.Reads as lines-begin-reads
-use Rattle.heads.proofs.start.Reads as start-reads
-use Rattle.translator.proofs.closing.Reads as closing-reads
-use Rattle.translator.proofs.lay_down.Reads as lay-down-reads
-use Rattle.translator.proofs.refuse.Reads as refuse-reads
 
 feeds-requires : tie.Need-feeds-requires
 feeds-requires c κs = search needs

@@ -1,16 +1,13 @@
-use mathlib.Core.Path.{_≡_, refl, sym, ap, _∙_}
+use mathlib.Core.Path.{_≡_, refl, _∙_}
 use mathlib.Core.List.{_++_}
-use Prim.Native.Nat.{ℕ, suc, _+_, _≤_, _<_, _-_}
+use Prim.Native.Nat.{_+_, _≤_, _-_}
 use native.Mathlib.Omega.{arith}
-use borrow.Author.Needs.{needs}
-use lib.ListN.{length, drop, take, getD, replicate, length-set}
+use lib.ListN.{length, drop, replicate, length-set}
 use lib.Seq.{drop-length}
 use mathlib.Core.List.{append-nil}
 use Rattle.translator.proofs.Laws.{zero-more}
 use Rattle.translator.proofs.zero.Statement.{statement}
 use Rattle.translator.proofs.zero.Tie as tie
-use Rattle.translator.proofs.zero.Reads as reads
-use Rattle.translator.proofs.zero.Lts as lts
 
 abbrev Inv-loop : tie.InvT-loop
 Inv-loop s₀ i₀ s i = (i ≤ length s₀) × (length s ≡ length s₀) × (s ≡ replicate i 0 ++ drop i s₀)
@@ -34,7 +31,7 @@ loop-less : tie.Need-loop-less Inv-loop μ-loop
 loop-less c = omega arith
 
 loop-again : tie.Need-loop-again Inv-loop μ-loop
-loop-again c = 
+loop-again c =
     let b = c .before in
     (omega arith, simp length-set (b .loop .inv .1), rw (b .loop .inv .2) (zero-more (b .before .args .s .now) (b .loop .i) (omega arith)))
 
@@ -42,7 +39,7 @@ same-length : tie.Need-same-length Inv-loop μ-loop
 same-length c = c .before .loop .inv .1
 
 returns : tie.Need-returns Inv-loop μ-loop
-returns c = 
+returns c =
     let b = c .before in
     let s = b .before .args .s .now in
     let e : b .loop .i ≡ length s = omega arith in
