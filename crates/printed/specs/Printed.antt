@@ -4,6 +4,7 @@ use mathlib.Core.List.{List, [], _∷_, _++_}
 use lib.IntN.{ℤ}
 use Rattle.text.specs.Written.{hex4Of, hex8Of, signedOf}
 use Rattle.lines.specs.Wrote.{tab, fieldText}
+use Rattle.form.specs.Names.{bytes}
 use Rattle.listing.specs.Sheet.{linesIn, counted}
 use Rattle.listing.specs.Translate.{Verdict, fine, refused, startIn, countIn, addressesIn, verdictOf, lineWords}
 
@@ -28,7 +29,7 @@ listingOf text = listingFrom (addressesIn text) (countIn text) 1 (startIn text) 
 -- refused⇥number⇥line⇥detail⇥value
 unfoldable pub refusalText : ℕ → ℕ → ℕ → ℤ → List ℕ
 refusalText number line detail value =
-    (114 ∷ 101 ∷ 102 ∷ 117 ∷ 115 ∷ 101 ∷ 100 ∷ 9 ∷ []) ++ fieldText number ++ fieldText line ++ fieldText detail ++ signedOf value ++ (10 ∷ [])
+    bytes "refused\t" ++ fieldText number ++ fieldText line ++ fieldText detail ++ signedOf value ++ (10 ∷ [])
 
 abbrev pub printedAs : Verdict → List ℕ → List ℕ
 printedAs fine listing = listing

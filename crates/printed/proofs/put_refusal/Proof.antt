@@ -1,10 +1,10 @@
 use borrow.Author.Needs.{needs}
 use Rattle.printed.proofs.put_refusal.Statement.{statement}
 use Rattle.printed.proofs.put_refusal.Tie as tie
-use mathlib.Core.List.{[], _∷_}
 use native.Mathlib.Omega.{arith}
 use mir.Facts.{toZ-ofZ}
 use mir.Syntax.{w64}
+use Rattle.form.specs.Names.{bytes}
 use Rattle.lines.specs.WroteLaws.{wrote, wrote-then, signed-20}
 use Rattle.printed.specs.Printed.{refusalText}
 
@@ -45,7 +45,7 @@ returns c =
     let line = c .before .before .before .before .before .before .before .before .before .before .before .before .before .before .put-field2 .ensures .0 in
     let detail = c .before .before .before .before .before .before .before .before .before .before .put-field3 .ensures .0 in
     let value = rw (toZ-ofZ {w = w64} (s .fits .value)) at (c .before .before .before .before .before .before .put-signed .ensures) in
-    let first = wrote-then (wrote {buf = s .args .out .now} {t = 114 ∷ 101 ∷ 102 ∷ 117 ∷ 115 ∷ 101 ∷ 100 ∷ 9 ∷ []} {at = 0} (c .before .before .before .before .before .before .before .before .before .before .before .before .before .before .before .before .before .before .before .before .before .before .put .ensures)) number (omega arith) in
+    let first = wrote-then (wrote {buf = s .args .out .now} {t = bytes "refused\t"} {at = 0} (c .before .before .before .before .before .before .before .before .before .before .before .before .before .before .before .before .before .before .before .before .before .before .put .ensures)) number (omega arith) in
     let front = wrote-then (wrote-then first line (omega arith)) detail (omega arith) in
     let whole = wrote-then front (wrote value) (omega arith) in
     (wrote-then whole (wrote (c .before .before .put-byte .ensures)) (omega arith), omega arith)
