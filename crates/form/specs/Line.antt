@@ -41,7 +41,7 @@ abbrev pub isNone : List ℕ → Bool
 isNone [] = true
 isNone (b ∷ bs) = false
 
--- the place of a name among names, from k on; no name is empty
+-- the place of a name among names, from k on; an empty field names nothing
 abbrev pub placeFrom : ℕ → List ℕ → List (List ℕ) → Said
 placeFrom k f [] = nothing
 placeFrom k f (n ∷ ns) = cond (equal f n && not (isNone f)) (plainly false k) (placeFrom (suc k) f ns)

@@ -1,14 +1,18 @@
 -- What is printed, from the translator's answer. Assumes nothing.
 use mathlib.Core.Path.{_≡_, refl, sym}
+use mathlib.Core.Bool.{Bool, true, false, _&&_}
 use mathlib.Core.List.{List, [], _∷_}
 use Prim.Native.Nat.{ℕ, zero, suc, _+_, _≤_, _<_}
 use native.Mathlib.Omega.{arith}
 use lib.ListN.{length, take, drop, getD, length-append, length-take, length-drop}
 use lib.Seq.{take-at}
+use lib.Dec.{leb, eqb}
+use lib.IntN.{pos}
+use borrow.Author.Tests.{lt-leb}
 use Rattle.text.specs.Written.{placed}
 use Rattle.lines.specs.Wrote.{Wrote}
 use Rattle.listing.specs.declared.Listed.{Listed}
-use Rattle.listing.specs.Sheet.{linesIn, counted, total}
+use Rattle.listing.specs.Sheet.{isSheet, feeds, last, linesIn, counted, total}
 use Rattle.listing.specs.Translate.{Verdict, fine, refused, startIn, countIn, addressesIn, needIn, verdictOf, listedOf, imageIn, over, imageOf, scratchOf}
 use Rattle.following.specs.Verdicts.{accepted}
 use Rattle.following.specs.Demand3.{each-stands, image-counts}
@@ -92,3 +96,15 @@ module _ {text v s v′ s′ : List ℕ} {r : Listed} (t : Translated text v s v
 -- a text from the first place on
 pub from-first : {buf out t : List ℕ} {r : ℕ} (p : List ℕ) → Wrote buf 0 t out r → t ≡ p → (r ≡ length p) × (out ≡ placed buf 0 p)
 from-first p w e = rw (sym e) (omega (arith, w .next), w .image)
+
+-- a text of more than 65,536 bytes is refused with 10, whatever is lent
+sheet-long : (text : List ℕ) → 65536 < length text → isSheet text ≡ false
+sheet-long text h = rw (lt-leb (length text) 65536 h) (long (leb 1 (length text)))
+  where
+    long : (b : Bool) → (((b && false) && eqb (last text) 10) && leb 2 (feeds text)) && leb (feeds text) 4097 ≡ false
+    long true = refl
+    long false = refl
+
+pub long-refused : (text : List ℕ) (places room : ℕ) → 65536 < length text → printedOf text places room ≡ refusalText 10 0 0 (pos 0)
+unfolding printedOf verdictOf
+long-refused text places room h = rw (sheet-long text h)

@@ -80,7 +80,7 @@ fn put_listing(addresses: &[u32], words: &[u16], out: &mut [u8]) -> usize
 }
 
 // `refused`, number, line, detail and value.
-fn put_refusal(out: &mut [u8], number: u8, line: usize, detail: u8, value: i64) -> usize
+pub fn put_refusal(out: &mut [u8], number: u8, line: usize, detail: u8, value: i64) -> usize
     requires { ⌜ 92 ≤ length (now out) ⌝ }
     ensures { λ r. ⌜ Wrote (now (out .entry)) 0 (refusalText number line detail value) (now (out .exit)) r × (r ≤ 92) ⌝ }
 {

@@ -1,7 +1,10 @@
 // Prints the listing of the sheet on standard input, or its refusal.
 
 ghost use mathlib.Core.Path.{_≡_};
+ghost use Prim.Native.Nat.{_≤_};
 ghost use lib.ListN.{length, replicate};
+ghost use Rattle.text.specs.Written.{placed};
+ghost use Rattle.printed.specs.Printed.{printedOf};
 
 fn text_places() -> [u8; 65536]
     ensures { λ r. ⌜ (r ≡ replicate 65536 0) × (65536 ≡ length r) ⌝ }
@@ -28,22 +31,31 @@ fn output_places() -> [u8; 282624]
     [0; 282624]
 }
 
-fn print_sheet(text: &[u8]) {
+// What is printed for a sheet of at most 65,536 bytes, with 4,096 places and 16,384 words lent.
+fn listing(text: &[u8], out: &mut [u8]) -> usize
+    requires { ⌜ 282624 ≤ length (now out) ⌝ }
+    ensures { λ r. ⌜ (r ≡ length (printedOf (now (text .entry)) 4096 16384)) × (now (out .exit) ≡ placed (now (out .entry)) 0 (printedOf (now (text .entry)) 4096 16384)) × (r ≤ 282624) ⌝ }
+{
     let mut image = image_places();
     let mut scratch = scratch_places();
-    let mut out = output_places();
-    let n = printed::print(text, &mut image, &mut scratch, &mut out);
-    io::write_all(1, &out[..n]);
+    printed::print(text, &mut image, &mut scratch, out)
 }
 
-// One byte more than the text is read, to see whether there is one.
+// Whether standard input has a byte more.
+fn has_more() -> bool {
+    let mut byte: [u8; 1] = [0; 1];
+    io::read_full(0, &mut byte) != 0
+}
+
 fn main() {
     let mut text = text_places();
+    let mut out = output_places();
     let n = io::read_full(0, &mut text);
-    let mut more: [u8; 1] = [0; 1];
-    if io::read_full(0, &mut more) == 0 {
-        print_sheet(&text[..n]);
-    } else {
-        io::write_all(1, b"refused\t10\t0\t0\t0\n");
+    let mut end = listing(&text[..n], &mut out);
+    if n == 65536 {
+        if has_more() {
+            end = printed::put_refusal(&mut out, 10, 0, 0, 0);
+        }
     }
+    io::write_all(1, &out[..end]);
 }

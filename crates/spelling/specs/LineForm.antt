@@ -44,7 +44,7 @@ line-spelled (v ∷ vs) h =
     let fs : List (List ℕ) = fieldsFrom (following kind.Instruction v ++ []) vs in
     ap (lineFrom ks) (fields-joined (spelled kind.Instruction v) fs (solid-from ks (v ∷ vs) h)) ∙ from-spelled ks (v ∷ vs) h
 
--- a spelling is a line of every text that it stands in
+-- a spelling and a line feed are the first line of a text that begins with them
 pub line-in-text : (vs : List Said) → Fits (kind.Instruction ∷ []) vs → (rest : List ℕ) → linesOf (spell vs ++ (10 ∷ rest)) ≡ spell vs ∷ linesOf rest
 unfolding spell
 line-in-text vs h rest = joined-line (fieldsFrom (kind.Instruction ∷ []) vs) rest (solid-from (kind.Instruction ∷ []) vs h)

@@ -21,6 +21,7 @@ use Rattle.translator.specs.PlaceLaws.{over-take, over-drop, addresses-l
 -- at its address as its plain form, its words stand at its place in the image and its address in the scratch; later words and places are unchanged
 pub record Stands (text v s v′ s′ : List ℕ) (r : Listed) : Type 0 where
   pub lines : r .lines ≡ countIn text
+  pub counted : r .words ≡ needIn text
   pub words : take (r .words) v′ ≡ imageIn text
   pub together : (choices : List Bool)
       → Together text (take (r .words) v′) (byLines text choices) (byWords (startIn text) (take (r .words) v′) choices)
@@ -103,6 +104,7 @@ module _ (text v s v′ s′ : List ℕ) (r : Listed) (t : Translated text v s v
   translated-stands =
       record {
         lines = lines-are;
+        counted = ap (λ (x : Listed). x .words) answer;
         words = front;
         together = λ choices. rw front (demand-3 text (length s) (length v) accepts choices);
         reads = λ n g k. reads-at n g (omega (arith, lines-are));
