@@ -1,5 +1,5 @@
--- What holds of the instructions that a line makes.
-use Prim.Native.Nat.{ℕ, _+_, _-_, _%_, _^_, _<_}
+-- Numbers inside their types, and branches between even addresses.
+use Prim.Native.Nat.{ℕ, _-_, _%_, _^_, _<_}
 use mathlib.Core.Path.{_≡_, refl}
 use mathlib.Core.Bool.{Bool, true, false}
 use native.Mathlib.Omega.{arith}
@@ -44,7 +44,7 @@ trap-typed trap.None h = tt
 trap-typed (trap.Word v) h = omega (arith, leb-is v (2 ^ 16 - 1) (h .1 .0))
 trap-typed (trap.Long v) h = omega (arith, leb-is v (2 ^ 32 - 1) (h .1 .0))
 
--- ---- no target
+-- ---- where an instruction goes without a target
 abbrev pub quiet : Next → Bool
 quiet on = true
 quiet (to t) = false
