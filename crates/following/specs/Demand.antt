@@ -26,8 +26,7 @@ use Rattle.listing.specs.Follow.{Next, on, to, either, stop, nextOf, target, li
 use Rattle.following.specs.Follows.{Aims, Within, wordsAt, LineStands, AllStand, address-is, address-next, together}
 use Rattle.following.specs.Verdicts.{Accepted, accepted}
 use Rattle.following.specs.Turned.{Bounded}
-use Rattle.following.specs.Lawful.{quiet}
-use Rattle.following.specs.Renamed.{Goes, quietly, aimed}
+use Rattle.following.specs.Lawful.{quiet, Goes, quietly, aimed}
 use Rattle.following.specs.Made.{LineMade, line-made}
 
 -- ---- verdicts of the encoder

@@ -23,7 +23,8 @@ use Rattle.spelling.specs.LineForm.{line-spelled}
 use Rattle.spelling.specs.InForm.{form-sound}
 use Rattle.listing.specs.Sheet.{sizedAs, sizedOf, counted}
 use Rattle.following.specs.Turned.{Spelt, Bounded, Turned}
-use Rattle.following.specs.Renamed.{Follows, entries, instruction-turned}
+use Rattle.following.specs.Lawful.{Follows, entries}
+use Rattle.following.specs.Renamed.{instruction-turned}
 
 -- ---- what `sizedOf` accepts
 record Sized (b : Built) (named : Bool) : Type 0 where

@@ -59,10 +59,10 @@ use Rattle.opcode.specs.LeftOut.{leftOut}
 use Rattle.reads.specs.Statements.{TypedTrap, TypedInstruction}
 use Rattle.listing.specs.Follow as follow
 use Rattle.listing.specs.Follow.{Next, nextOf}
-use Rattle.following.specs.Turned.{Aimed, Input, Turned, Simple, Sort, _⊗_, none, one, number, target, place, chosen, Enum, variant, enum}
+use Rattle.following.specs.Turned.{Input, Turned, Simple, Sort, _⊗_, none, one, number, target, place, chosen, Enum, variant, enum}
 use Rattle.following.specs.Sizes as sizes
 use Rattle.following.specs.Sizes.{bare, bare-size, aim-size}
-use Rattle.following.specs.Lawful.{quiet, fits-i32, operand-typed, trap-typed, branch-stays}
+use Rattle.following.specs.Lawful.{fits-i32, branch-stays, quiet, entries, Goes, quietly, aimed, Follows}
 
 -- ---- the sorts of an instruction's fields
 abbrev byte : {n : ℕ} → Sort n ℕ
@@ -78,7 +78,7 @@ abbrev integer : {n : ℕ} → Sort n ℤ
 integer = one kind.Number (λ m. (refl, λ h. h, λ h. h)) signed Fits32 fits-i32
 
 abbrev variants : {n : ℕ} {X : Type 0} (k : Kind) → Simple k → ℕ → (X → ℕ) → Sort n X
-variants k s top place = one k s (λ z. unsigned top (place z)) (λ z. Unit {0}) (λ z h. tt)
+variants k s top at = one k s (λ z. unsigned top (at z)) (λ z. Unit {0}) (λ z h. tt)
 
 abbrev flag : {n : ℕ} → Sort n Bool
 flag = variants kind.Number (λ m. (refl, λ h. h, λ h. h)) 1 flagPlace
@@ -109,59 +109,43 @@ action = variants kind.BitFieldOperation (λ m. (refl, λ h. h, λ h. h)) 7 bitF
 
 abbrev register : {n : ℕ} → Sort n RegisterOperand
 register =
-    let e : Enum RegisterOperand = record { form = registerForm; kind = kind.RegisterOperand; suits = λ v q. q; top = 1; bare = λ x. x } in
-    enum e (λ x. Unit {0}) (λ x h. tt) (λ x. elim x [ Address m ↦ variant e 0 byte Address (λ w. refl) m | Data m ↦ variant e 1 byte Data (λ w. refl) m ])
+    let e : Enum RegisterOperand = record { form = registerForm; kind = kind.RegisterOperand; suits = λ v q. q; top = 1; Holds = λ x. Unit {0}; bare = λ x. x } in
+    enum e (λ x. elim x [ Address m ↦ variant e 0 byte Address m (λ w. refl) (λ h. tt) | Data m ↦ variant e 1 byte Data m (λ w. refl) (λ h. tt) ])
 
 abbrev extent : {n : ℕ} → Sort n FieldValue
 extent =
-    let e : Enum FieldValue = record { form = fieldValueForm; kind = kind.FieldValue; suits = λ v q. q; top = 1; bare = λ x. x } in
-    enum e (λ x. Unit {0}) (λ x h. tt) (λ x. elim x [ value.Immediate m ↦ variant e 0 byte value.Immediate (λ w. refl) m | value.Register m ↦ variant e 1 byte value.Register (λ w. refl) m ])
+    let e : Enum FieldValue = record { form = fieldValueForm; kind = kind.FieldValue; suits = λ v q. q; top = 1; Holds = λ x. Unit {0}; bare = λ x. x } in
+    enum e (λ x. elim x [ value.Immediate m ↦ variant e 0 byte value.Immediate m (λ w. refl) (λ h. tt) | value.Register m ↦ variant e 1 byte value.Register m (λ w. refl) (λ h. tt) ])
 
 abbrev choice : {n : ℕ} → Sort n RegisterChoice
 choice =
-    let e : Enum RegisterChoice = record { form = registerChoiceForm; kind = kind.RegisterChoice; suits = λ v q. q; top = 1; bare = λ x. x } in
-    enum e (λ x. Unit {0}) (λ x h. tt) (λ x. elim x [ high.None ↦ variant e 0 none (λ w. high.None) (λ w. refl) tt | high.Some m ↦ variant e 1 byte high.Some (λ w. refl) m ])
+    let e : Enum RegisterChoice = record { form = registerChoiceForm; kind = kind.RegisterChoice; suits = λ v q. q; top = 1; Holds = λ x. Unit {0}; bare = λ x. x } in
+    enum e (λ x. elim x [ high.None ↦ variant e 0 none (λ w. high.None) tt (λ w. refl) (λ h. tt) | high.Some m ↦ variant e 1 byte high.Some m (λ w. refl) (λ h. tt) ])
 
 abbrev trapped : {n : ℕ} → Sort n TrapOperand
 trapped =
-    let e : Enum TrapOperand = record { form = trapOperandForm; kind = kind.TrapOperand; suits = λ v q. q; top = 2; bare = λ x. x } in
-    enum e TypedTrap trap-typed (λ x. elim x [ trap.None ↦ variant e 0 none (λ w. trap.None) (λ w. refl) tt | trap.Word m ↦ variant e 1 word trap.Word (λ w. refl) m | trap.Long m ↦ variant e 2 long trap.Long (λ w. refl) m ])
+    let e : Enum TrapOperand = record { form = trapOperandForm; kind = kind.TrapOperand; suits = λ v q. q; top = 2; Holds = TypedTrap; bare = λ x. x } in
+    enum e (λ x. elim x [ trap.None ↦ variant e 0 none (λ w. trap.None) tt (λ w. refl) (λ h. tt) | trap.Word m ↦ variant e 1 word trap.Word m (λ w. refl) (λ h. h) | trap.Long m ↦ variant e 2 long trap.Long m (λ w. refl) (λ h. h) ])
 
 abbrev indexed : RegisterOperand × Size → IndexRegister
 indexed w = record { register = w .0; size = w .1 }
 
 abbrev operand : {n : ℕ} → Sort n Operand
 operand =
-    let e : Enum Operand = record { form = operandForm; kind = kind.Operand; suits = λ v q. q; top = 10; bare = bare } in
-    enum e Typed operand-typed (λ x. elim x [
-      | Immediate v ↦ variant e 0 long Immediate (λ w. refl) v
-      | Register r ↦ variant e 1 register Register (λ w. refl) r
-      | Indirect m ↦ variant e 2 byte Indirect (λ w. refl) m
-      | PostIndirect m ↦ variant e 3 byte PostIndirect (λ w. refl) m
-      | PreIndirect m ↦ variant e 4 byte PreIndirect (λ w. refl) m
-      | IndirectDisplacement z base ↦ variant e 5 (integer ⊗ register) (λ w. IndirectDisplacement (w .0) (w .1)) (λ w. refl) (z, base)
-      | IndirectIndex base z x ↦ variant e 6 (register ⊗ integer ⊗ (register ⊗ size)) (λ w. IndirectIndex (w .0 .0) (w .0 .1) (indexed (w .1))) (λ w. refl) ((base, z), (x .register, x .size))
-      | PcDisplacement t ↦ variant e 7 place PcDisplacement (λ w. refl) t
-      | PcIndex t x ↦ variant e 8 (place ⊗ (register ⊗ size)) (λ w. PcIndex (w .0) (indexed (w .1))) (λ w. refl) (t, (x .register, x .size))
-      | Extended base v z outer ↦ variant e 9 (byte ⊗ word ⊗ integer ⊗ integer) (λ w. Extended (w .0 .0 .0) (w .0 .0 .1) (w .0 .1) (w .1)) (λ w. refl) (((base, v), z), outer)
-      | Absolute a v ↦ variant e 10 (number (2 ^ 64 - 1) ⊗ width) (λ w. Absolute (w .0) (w .1)) (λ w. refl) (a, v)
+    let e : Enum Operand = record { form = operandForm; kind = kind.Operand; suits = λ v q. q; top = 10; Holds = Typed; bare = bare } in
+    enum e (λ x. elim x [
+      | Immediate v ↦ variant e 0 long Immediate v (λ w. refl) (λ h. tt)
+      | Register r ↦ variant e 1 register Register r (λ w. refl) (λ h. tt)
+      | Indirect m ↦ variant e 2 byte Indirect m (λ w. refl) (λ h. tt)
+      | PostIndirect m ↦ variant e 3 byte PostIndirect m (λ w. refl) (λ h. tt)
+      | PreIndirect m ↦ variant e 4 byte PreIndirect m (λ w. refl) (λ h. tt)
+      | IndirectDisplacement z base ↦ variant e 5 (integer ⊗ register) (λ w. IndirectDisplacement (w .0) (w .1)) (z, base) (λ w. refl) (λ h. tt)
+      | IndirectIndex base z x ↦ variant e 6 (register ⊗ integer ⊗ (register ⊗ size)) (λ w. IndirectIndex (w .0 .0) (w .0 .1) (indexed (w .1))) ((base, z), (x .register, x .size)) (λ w. refl) (λ h. tt)
+      | PcDisplacement t ↦ variant e 7 place PcDisplacement t (λ w. refl) (λ h. h)
+      | PcIndex t x ↦ variant e 8 (place ⊗ (register ⊗ size)) (λ w. PcIndex (w .0) (indexed (w .1))) (t, (x .register, x .size)) (λ w. refl) (λ h. h .0)
+      | Extended base v z outer ↦ variant e 9 (byte ⊗ word ⊗ integer ⊗ integer) (λ w. Extended (w .0 .0 .0) (w .0 .0 .1) (w .0 .1) (w .1)) (((base, v), z), outer) (λ w. refl) (λ h. (h .0 .0 .1, h .0 .1, h .1))
+      | Absolute a v ↦ variant e 10 (number (2 ^ 64 - 1) ⊗ width) (λ w. Absolute (w .0) (w .1)) (a, v) (λ w. refl) (λ h. h .0)
     ])
-
--- ---- an instruction's form, and what is used of the instructions that a line makes
-abbrev pub entries : Instruction → List Entry
-entries i = unsigned 98 (placeOf i) ∷ fieldsOf i
-
--- without a target, or to a line that is named
-pub data Goes (n : ℕ) (y : (ℕ → ℕ) → Instruction) : Type 0 where
-  quietly : ((f : ℕ → ℕ) → quiet (nextOf (y f)) ≡ true) → Goes n y
-  aimed : Aimed n (λ f. follow.target (nextOf (y f))) → Goes n y
-
-pub record Follows (n : ℕ) (i : Instruction) (y : (ℕ → ℕ) → Instruction) : Type 0 where
-  pub size : (f : ℕ → ℕ) → sizeOf (y f) ≡ sizeOf i
-  pub typed : (f : ℕ → ℕ) → Inside (entries (y f)) → TypedInstruction (y f)
-  pub plain : (f : ℕ → ℕ) → nextOf (plain.plain (y f)) ≡ nextOf (y f)
-  pub read : (f : ℕ → ℕ) (a : ℕ) → a % 2 ≡ 0 → follow.target (nextOf (y f)) % 2 ≡ 0 → leftOut (y f) a ≡ false
-  pub goes : Goes n y
 
 -- ---- the instructions of a shape: the sort of their fields, their constructor, and the fields of one of them, which has a name
 module _ {n : ℕ} {Z : Type 0} (s : Sort n Z) (con : Z → Instruction) (z : Z) where

@@ -1,6 +1,6 @@
 -- What a line's fields make when each line's name is made a number: the same values, but for the targets.
 use Prim.Native.Nat.{ℕ, suc, _-_, _^_, _≤_, _<_}
-use mathlib.Core.Path.{_≡_, refl, sym, ap, ap₂, _∙_}
+use mathlib.Core.Path.{_≡_, refl, sym, ap, ap₂, _∙_, subst}
 use mathlib.Core.Bool.{Bool, true, false}
 use mathlib.Core.List.{List, [], _∷_, _++_, append-assoc, map}
 use native.Mathlib.Omega.{arith}
@@ -196,21 +196,28 @@ chosen {n} k v top p s con z l ks (plainly false m ∷ vs) es h i =
 chosen k v top p s con z l ks (naming m ∷ vs) es h i = absurd (v (naming m) (h .fits .0))
 chosen k v top p s con z l ks (nothing ∷ vs) es h i = absurd (v nothing (h .fits .0))
 
--- an enum: its form, its kind and the place of its last variant
-pub record Enum (X : Type 0) : Type 0 where
+-- an enum: its form, its kind and the place of its last variant, what holds of its values, and a value without its targets
+pub record Enum (X : Type 0) : Type 1 where
   pub form : X → List Entry
   pub kind : Kind
   pub suits : (v : Said) → Suits kind v → Variant kind v
   pub top : ℕ
+  pub Holds : X → Type 0
   pub bare : X → X
 
-pub variant : {n : ℕ} {X Z : Type 0} (e : Enum X) (p : ℕ) (s : Sort n Z) (con : Z → X)
-    → ((w : Z) → _≡_ {A = List Kind × List Entry × X} (fieldsOf (e .kind) p, e .form (con w), e .bare (con w)) (s .kinds, unsigned (e .top) p ∷ s .form w, con (s .bare w)))
-    → (z : Z) → Turn n (e .form) (e .kind ∷ []) (e .bare) (λ y. Unit {0}) (con z)
-variant e p s con law z ks vs es h i =
-    chosen (e .kind) (e .suits) (e .top) p s con z
-    (λ l. (ap (λ t. t .0) (law z), λ w. ap (λ t. t .1) (law w), λ y q a. (λ f. ap (λ t. t .2) (law (y f)) ∙ ap con (q f) ∙ sym (ap (λ t. t .2) (law z)), tt)))
-    ks vs es (rw (ap (λ t. t .1) (law z)) at h) (rw (ap (λ t. t .1) (law z)) at i)
+abbrev pub Variants : (n : ℕ) {X : Type 0} → Enum X → X → Type 0
+Variants n e x = Turn n (e .form) (e .kind ∷ []) (e .bare) (λ y. Unit {0}) x × (Inside (e .form x) → e .Holds x)
 
-abbrev pub enum : {n : ℕ} {X : Type 0} (e : Enum X) (H : X → Type 0) → ((x : X) → Inside (e .form x) → H x) → ((x : X) → Turn n (e .form) (e .kind ∷ []) (e .bare) (λ y. Unit {0}) x) → Sort n X
-enum e H l t = record { form = e .form; kinds = e .kind ∷ []; Holds = H; holds = l; bare = e .bare; Aims = λ y. Unit {0}; turn = t }
+pub variant : {n : ℕ} {X Z : Type 0} (e : Enum X) (p : ℕ) (s : Sort n Z) (con : Z → X) (z : Z)
+    → ((w : Z) → _≡_ {A = List Kind × List Entry × X} (fieldsOf (e .kind) p, e .form (con w), e .bare (con w)) (s .kinds, unsigned (e .top) p ∷ s .form w, con (s .bare w)))
+    → (s .Holds z → e .Holds (con z)) → Variants n e (con z)
+variant {n} {X} {Z} e p s con z law k =
+    let form : (w : Z) → e .form (con w) ≡ unsigned (e .top) p ∷ s .form w = λ w. ap (λ t. t .1) (law w) in
+    let bare : (w : Z) → e .bare (con w) ≡ con (s .bare w) = λ w. ap (λ t. t .2) (law w) in (
+      λ ks vs es h i. chosen (e .kind) (e .suits) (e .top) p s con z (λ l. (ap (λ t. t .0) (law z), form, λ y q a. (λ f. bare (y f) ∙ ap con (q f) ∙ sym (bare z), tt)))
+          ks vs es (rw (form z) at h) (rw (form z) at i),
+      λ i. k (s .holds z ((subst Inside (form z) i) .1)),
+    )
+
+abbrev pub enum : {n : ℕ} {X : Type 0} (e : Enum X) → ((x : X) → Variants n e x) → Sort n X
+enum e t = record { form = e .form; kinds = e .kind ∷ []; Holds = e .Holds; holds = λ x. t x .1; bare = e .bare; Aims = λ y. Unit {0}; turn = λ x. t x .0 }
