@@ -117,7 +117,7 @@ fn number_in(addresses: &[u32], named: bool, k: u64) -> u64
 }
 
 // The numbers of the entries, each line's number made its address.
-pub fn numbers(e: Entries, addresses: &[u32]) -> Numbers
+fn numbers(e: Entries, addresses: &[u32]) -> Numbers
     ensures { λ r. ⌜ r ≡ numbersWith e (now (addresses .entry)) ⌝ }
 {
     let negative = e.negative;

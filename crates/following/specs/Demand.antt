@@ -1,33 +1,32 @@
--- Demand 3 (01, "Following"): after any choices the two followers of an accepted sheet are together.
-use Prim.Native.Nat.{ℕ, zero, suc, pred, _+_, _*_, _-_, _/_, _%_, _^_, _≤_, _<_}
+-- Each line of an accepted sheet stands: its words are there, read back as its plain form, and its target is the named line's address.
+use Prim.Native.Nat.{ℕ, _+_, _*_, _-_, _/_, _%_, _≤_}
 use mathlib.Core.Path.{_≡_, refl, sym, ap, _∙_, subst}
-use mathlib.Core.Bool.{Bool, true, false}
-use mathlib.Core.List.{List, [], _∷_, _++_}
+use mathlib.Core.Bool.{true}
+use mathlib.Core.List.{List, _++_}
 use native.Mathlib.Omega.{arith}
-use lib.ListN.{length, take, getD, replicate}
+use lib.ListN.{length, take, replicate}
 use lib.Seq.{take-at}
 use Rattle.isa.specs.declared.Measured.{Measured}
 use Rattle.isa.specs.declared.Instruction.{Instruction}
 use Rattle.isa.specs.Item as item
 use Rattle.isa.specs.Encode as encode
-use Rattle.isa.specs.Encode.{itemsOf, wordsOf, refusalOf, encodeOf, measuredAs, sizeOf}
+use Rattle.isa.specs.Encode.{wordsOf, refusalOf, encodeOf}
 use Rattle.numeric.specs.declared.Built.{Built}
 use Rattle.numeric.specs.declared.Built.the-variants as built
 use Rattle.form.specs.Made.{madeOf, addressIn}
 use Rattle.opcode.specs.declared.Reading.the-variants.{Read}
 use Rattle.opcode.specs.Plain.{plain}
 use Rattle.opcode.specs.Read.{readOf}
-use Rattle.inverse.specs.Facts.{words-count}
 use Rattle.reads.specs.Statements as reads
 use Rattle.reads.specs.ReaderLaws.{complete}
-use Rattle.listing.specs.Sheet.{linesIn, counted, total, encodedAs, lineEncoded}
-use Rattle.listing.specs.Translate.{fine, startIn, countIn, addressesIn, imageIn, verdictOf}
-use Rattle.listing.specs.Follow.{Next, on, to, either, stop, nextOf, target, lineAt, addressOf, countOf, instructionIn, plainLine, named, Together, byLines, byWords}
-use Rattle.following.specs.Follows.{Aims, Within, wordsAt, LineStands, AllStand, address-is, address-next, together}
-use Rattle.following.specs.Verdicts.{Accepted, accepted}
-use Rattle.following.specs.Turned.{Bounded}
+use Rattle.listing.specs.Sheet.{encodedAs, lineEncoded}
+use Rattle.listing.specs.Translate.{countIn, addressesIn}
+use Rattle.listing.specs.Follow.{Next, on, to, either, stop, nextOf, target, lineAt, addressOf, countOf, instructionIn, plainLine, named}
+use Rattle.following.specs.Follows.{Aims, Within, wordsAt, LineStands, AllStand, address-is}
+use Rattle.following.specs.Verdicts.{Accepted}
 use Rattle.following.specs.Lawful.{quiet, Goes, quietly, aimed}
-use Rattle.following.specs.Made.{LineMade, line-made}
+use Rattle.following.specs.Made.{LineMade}
+use Rattle.following.specs.Bounds.{size-is, MeasuredSheet, line-at, count-some, names-bounded, addresses-bounded}
 
 -- ---- verdicts of the encoder
 encoded-fine : (v : item.Verdict) (ws : List ℕ) → encode.encodedAs v ws .number ≡ 0 → v ≡ item.fine
@@ -35,12 +34,6 @@ encoded-fine item.fine ws h = refl
 encoded-fine item.malformed ws h = absurd (omega arith)
 encoded-fine (item.outOfRange f z) ws h = absurd (omega arith)
 encoded-fine (item.noEncoding r) ws h = absurd (omega arith)
-
-measured-size : (v : item.Verdict) (k : ℕ) → measuredAs v k .number ≡ 0 → measuredAs v k .size ≡ k
-measured-size item.fine k h = refl
-measured-size item.malformed k h = absurd (omega arith)
-measured-size (item.outOfRange f z) k h = absurd (omega arith)
-measured-size (item.noEncoding r) k h = absurd (omega arith)
 
 -- the words that count
 taken : (v : item.Verdict) (ws : List ℕ) → v ≡ item.fine → take (encode.encodedAs v ws .count) (encode.encodedAs v ws .words) ≡ ws
@@ -62,53 +55,15 @@ aimed-fits (to u) t k m e h p q = (e, (p, q), rw e h)
 aimed-fits (either u) t k m e h p q = (e, (p, q), rw e h)
 aimed-fits stop t k m e h p q = (tt, tt, refl)
 
--- ---- counts of lines
-total-take : (m : ℕ) (ls : List (List ℕ)) (k : ℕ) → total m (take k ls) ≤ total m ls
-total-take m [] zero = omega arith
-total-take m [] (suc k) = omega arith
-total-take m (l ∷ ls) zero = omega arith
-total-take m (l ∷ ls) (suc k) = omega (arith, total-take m ls k)
-
-total-some : (m : ℕ) (ls : List (List ℕ)) → ((j : ℕ) → j < length ls → 1 ≤ counted m (getD ls j [])) → length ls ≤ total m ls
-total-some m [] h = omega arith
-total-some m (l ∷ ls) h = omega (arith, h 0 (omega arith), total-some m ls (λ j q. h (suc j) (omega arith)))
-
--- what the encoder lays down: at least one word, and as many at every address
-pub record Lays : Type 0 where
-  pub least : (i : Instruction) (a : ℕ) → 1 ≤ item.countOf (itemsOf i a)
-  pub steady : (i : Instruction) (a b : ℕ) → item.countOf (itemsOf i a) ≡ item.countOf (itemsOf i b)
-
-module _ (lays : Lays) (text : List ℕ) (places room : ℕ) (ok : Accepted text places room) where
-  line-at : (n : ℕ) → 1 ≤ n → n ≤ countIn text → LineMade (countIn text) (lineAt text n)
-  line-at n h g = line-made (countIn text) (lineAt text n) (ok .sized n h g)
-
-  size-is : (i : Instruction) → sizeOf i .number ≡ 0 → (a : ℕ) → sizeOf i .size / 2 ≡ length (wordsOf i a)
-  unfolding sizeOf
-  size-is i h a =
-      omega (arith, measured-size (refusalOf false i 0) (2 * length (wordsOf i 0)) h, words-count (itemsOf i 0), words-count (itemsOf i a), lays .steady i a 0)
-
-  count-some : (n : ℕ) → 1 ≤ n → n ≤ countIn text → 1 ≤ countOf text n
-  count-some n h g =
-      let l = line-at n h g in
-      omega (arith, l .counts, size-is (l .first) (l .number) 0, words-count (itemsOf (l .first) 0), lays .least (l .first) 0)
-
-  -- ---- names are made numbers of 32 bits
-  names-bounded : Bounded (countIn text) (λ k. k)
-  names-bounded k h g =
-      omega (arith, ok .ends, total-some (countIn text) (linesIn text) (λ j q. count-some (suc j) (omega arith) (omega arith)))
-
-  address-low : (n : ℕ) → 1 ≤ n → n ≤ countIn text → addressOf text n < 2 ^ 32
-  address-low n h g =
-      omega (arith, ok .ends, count-some n h g, address-next text n h g, total-take (countIn text) (linesIn text) (pred (n + 1)))
+module _ (text : List ℕ) (places room : ℕ) (ok : Accepted text places room) where
+  measured : MeasuredSheet text
+  measured = record { sized = ok .sized; ends = ok .ends }
 
   address-even : (n : ℕ) → addressOf text n % 2 ≡ 0
   address-even n = omega (arith, ok .even)
 
   abbrev A : ℕ → ℕ
   A k = addressIn (addressesIn text) k
-
-  addresses-bounded : Bounded (countIn text) A
-  addresses-bounded k h g = subst (λ (x : ℕ). x < 2 ^ 32) (sym (address-is text k h g)) (address-low k h g)
 
   module _ (n : ℕ) (h : 1 ≤ n) (g : n ≤ countIn text) (l : LineMade (countIn text) (lineAt text n)) where
     abbrev i : Instruction
@@ -118,7 +73,7 @@ module _ (lays : Lays) (text : List ℕ) (places room : ℕ) (ok : Accepted text
     a = addressOf text n
 
     made : madeOf A (lineAt text n) ≡ built.Instruction i
-    made = l .makes A addresses-bounded
+    made = l .makes A (addresses-bounded text measured)
 
     number-zero : encodeOf i a .number ≡ 0
     unfolding lineEncoded
@@ -144,7 +99,7 @@ module _ (lays : Lays) (text : List ℕ) (places room : ℕ) (ok : Accepted text
     next-is = ap nextOf plain-is ∙ l .follows .plain A
 
     named-is : named text n ≡ target (nextOf (l .made (λ k. k)))
-    named-is = ap (λ (b : Built). target (nextOf (instructionIn b))) (l .makes (λ k. k) names-bounded)
+    named-is = ap (λ (b : Built). target (nextOf (instructionIn b))) (l .makes (λ k. k) (names-bounded text measured))
 
     goes : Goes (countIn text) (l .made) → Fits (nextOf i) (addressOf text (named text n)) (named text n) (countIn text)
     goes (quietly q) = quiet-fits (nextOf i) (q A) (addressOf text (named text n)) (named text n) (countIn text)
@@ -153,12 +108,12 @@ module _ (lays : Lays) (text : List ℕ) (places room : ℕ) (ok : Accepted text
         (aimed-fits (nextOf i) (addressOf text m) m (countIn text) (e A ∙ address-is text m p q) (address-even m) p q)
 
     line-accepted : reads.Accepted a i
-    line-accepted = (l .follows .typed A (l .inside A addresses-bounded), is-fine, l .follows .read A a (address-even n) (goes (l .follows .goes) .2))
+    line-accepted = (l .follows .typed A (l .inside A (addresses-bounded text measured)), is-fine, l .follows .read A a (address-even n) (goes (l .follows .goes) .2))
 
     line-stands : LineStands text n
     line-stands =
         record {
-          some = count-some n h g;
+          some = count-some text measured n h g;
           counts = ap (λ (ws : List ℕ). length ws) words-are ∙ counts-are;
           reads-back = λ rest. ap (λ (ws : List ℕ). readOf (ws ++ rest) a) words-are ∙ complete a i rest line-accepted
               ∙ ap (λ (j : Instruction). Read j (2 * length (wordsOf i a))) (sym plain-is) ∙ ap (λ (k : ℕ). Read (plainLine text n) (2 * k)) counts-are;
@@ -167,9 +122,4 @@ module _ (lays : Lays) (text : List ℕ) (places room : ℕ) (ok : Accepted text
         }
 
   pub all-stand : AllStand text
-  all-stand = record { lines-some = ok .lines-some; each = λ n h g. line-stands n h g (line-at n h g) }
-
--- DEMAND 3
-pub demand-3-from : Lays → (text : List ℕ) (places room : ℕ) → verdictOf text places room ≡ fine
-    → (choices : List Bool) → Together text (imageIn text) (byLines text choices) (byWords (startIn text) (imageIn text) choices)
-demand-3-from lays text places room e choices = together text (all-stand lays text places room (accepted text places room e)) choices
+  all-stand = record { lines-some = ok .lines-some; each = λ n h g. line-stands n h g (line-at text measured n h g) }

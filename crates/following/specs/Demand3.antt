@@ -1,30 +1,34 @@
 -- Demand 3 (01, "Following"): an accepted sheet and its image stay together after every list of choices.
-use Prim.Native.Nat.{ℕ, suc, _≤_}
+use Prim.Native.Nat.{ℕ, suc, _*_, _≤_}
 use mathlib.Core.Path.{_≡_}
 use mathlib.Core.Bool.{Bool}
 use mathlib.Core.List.{List}
-use lib.ListN.{take, drop}
-use Rattle.isa.specs.Encode.{itemsOf}
-use Rattle.m68k.specs.Lays.{instruction-lays, alike-count}
+use lib.ListN.{length, take, drop}
+use Rattle.opcode.specs.declared.Reading.the-variants.{Read}
 use Rattle.listing.specs.Sheet.{linesIn, total}
-use Rattle.listing.specs.Translate.{fine, startIn, countIn, imageIn, verdictOf}
-use Rattle.listing.specs.Follow.{Together, byLines, byWords, countOf}
-use Rattle.following.specs.Follows.{wordsAt, each-stands}
+use Rattle.listing.specs.Translate.{fine, startIn, countIn, needIn, imageIn, verdictOf}
+use Rattle.listing.specs.Follow.{Together, byLines, byWords, readingAt, addressOf, plainLine, countOf}
+use Rattle.following.specs.Follows.{wordsAt, AllStand, together, there, words-stand, image-length}
 use Rattle.following.specs.Verdicts.{accepted}
-use Rattle.following.specs.Demand.{Lays, all-stand, demand-3-from}
+use Rattle.following.specs.Demand.{all-stand}
 
-lays : Lays
-lays =
-    record {
-      least = λ i a. instruction-lays i .least a;
-      steady = λ i a b. alike-count (itemsOf i a) (itemsOf i b) (instruction-lays i .alike a b);
-    }
+stand : (text : List ℕ) (places room : ℕ) → verdictOf text places room ≡ fine → AllStand text
+stand text places room e = all-stand text places room (accepted text places room e)
 
 pub demand-3 : (text : List ℕ) (places room : ℕ) → verdictOf text places room ≡ fine → (choices : List Bool)
     → Together text (imageIn text) (byLines text choices) (byWords (startIn text) (imageIn text) choices)
-demand-3 text places room e choices = demand-3-from lays text places room e choices
+demand-3 text places room e choices = together text (stand text places room e) choices
 
--- each line's words stand at its offset in the image, reached or not
+-- every line reads at its address as its plain form, reached or not
 pub each-line : (text : List ℕ) (places room : ℕ) → verdictOf text places room ≡ fine → (n : ℕ) → suc n ≤ countIn text
+    → readingAt (startIn text) (imageIn text) (addressOf text (suc n)) ≡ Read (plainLine text (suc n)) (2 * countOf text (suc n))
+each-line text places room e n h = there text (stand text places room e) n h
+
+-- and its words, those of `encode`, stand at its offset
+pub each-stands : (text : List ℕ) (places room : ℕ) → verdictOf text places room ≡ fine → (n : ℕ) → suc n ≤ countIn text
     → take (countOf text (suc n)) (drop (total (countIn text) (take n (linesIn text))) (imageIn text)) ≡ wordsAt text (suc n)
-each-line text places room e n h = each-stands text (all-stand lays text places room (accepted text places room e)) n h
+each-stands text places room e n h = words-stand text (stand text places room e) n h
+
+-- the image has the words of all lines
+pub image-counts : (text : List ℕ) (places room : ℕ) → verdictOf text places room ≡ fine → length (imageIn text) ≡ needIn text
+image-counts text places room e = image-length text (stand text places room e)

@@ -117,7 +117,7 @@ module _ (text : List ℕ) (ok : AllStand text) where
   split : (n : ℕ) → suc n ≤ countIn text → (rest : List ℕ) × (imageIn text ≡ before n ++ (wordsAt text (suc n) ++ rest))
   split n h = splits (addressesIn text) (countIn text) (startIn text) (linesIn text) n (omega arith)
 
-  image-length : length (imageIn text) ≡ total (countIn text) (linesIn text)
+  pub image-length : length (imageIn text) ≡ total (countIn text) (linesIn text)
   image-length =
       let e : take (countIn text) (linesIn text) ≡ linesIn text = take-all (countIn text) (linesIn text) (omega arith) in
       subst (λ (ls : List (List ℕ)). length (imageFrom (addressesIn text) (countIn text) (startIn text) ls) ≡ total (countIn text) ls) e (before-length (countIn text) (omega arith))
@@ -126,7 +126,7 @@ module _ (text : List ℕ) (ok : AllStand text) where
   offset : (n : ℕ) → (addressOf text (suc n) - startIn text) / 2 ≡ total (countIn text) (take n (linesIn text))
   offset n = omega arith
 
-  there : (n : ℕ) → suc n ≤ countIn text
+  pub there : (n : ℕ) → suc n ≤ countIn text
       → readingAt (startIn text) (imageIn text) (addressOf text (suc n)) ≡ Read (plainLine text (suc n)) (2 * countOf text (suc n))
   there n h =
       let r = split n h in
@@ -198,9 +198,9 @@ module _ (text : List ℕ) (ok : AllStand text) where
       (subst (λ (k : ℕ). Together text (imageIn text) (comeLine text 1) (comeWord (startIn text) (imageIn text) k)) (add-zero (startIn text)) (comes 1 (omega arith) (omega arith)))
 
   -- lines that no list reaches: each line's words stand at its offset, read or not
-  pub each-stands : (n : ℕ) → suc n ≤ countIn text
+  pub words-stand : (n : ℕ) → suc n ≤ countIn text
       → take (countOf text (suc n)) (drop (total (countIn text) (take n (linesIn text))) (imageIn text)) ≡ wordsAt text (suc n)
-  each-stands n h =
+  words-stand n h =
       let r = split n h in
       ap (λ (ws : List ℕ). take (countOf text (suc n)) (drop (total (countIn text) (take n (linesIn text))) ws)) (r .1)
       ∙ ap (λ (ws : List ℕ). take (countOf text (suc n)) ws) (drop-at (before n) (wordsAt text (suc n) ++ r .0) _ (before-length n (omega arith)))

@@ -1,3 +1,4 @@
+pub mod StartForm
 pub mod Follows
 pub mod Verdicts
 pub mod Turned
@@ -5,5 +6,7 @@ pub mod Renamed
 pub mod Sizes
 pub mod Lawful
 pub mod Made
+pub mod Bounds
+pub mod Ranges
 pub mod Demand
 pub mod Demand3

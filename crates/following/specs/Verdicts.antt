@@ -1,13 +1,14 @@
 -- What an accepted sheet is: the verdict `fine`, place by place.
 use Prim.Native.Nat.{ℕ, zero, suc, pred, _+_, _*_, _-_, _%_, _^_, _≤_, _<_}
 use mathlib.Core.Path.{_≡_, refl, sym, ap, _∙_}
-use mathlib.Core.Bool.{Bool, true, false, cond, not, _&&_}
+use mathlib.Core.Bool.{Bool, true, false, cond, not, _&&_, false≢true}
 use mathlib.Core.List.{List, [], _∷_}
 use native.Mathlib.Omega.{arith}
 use native.Mathlib.Nat.{add-zero}
 use lib.Dec.{leb, ltb, eqb}
 use lib.ListN.{length, drop, take, getD}
 use lib.IntN.{ℤ}
+use borrow.Author.Tests.{eq-eqb, le-leb}
 use Rattle.text.specs.declared.Number.{Number}
 use Rattle.text.specs.declared.Number.the-variants as number
 use Rattle.text.specs.Parts.{fields, onto}
@@ -140,3 +141,40 @@ accepted text places room e =
       image = leb-is (needIn text) room (unless-true _ 11 (g .0));
       encoded = λ n h k. ranges-fine (addressesIn text) (countIn text) 1 (startIn text) (linesIn text) (g .1) (pred n) (omega arith);
     }
+
+-- ---- no refusal comes otherwise
+unless-is : (b : Bool) (k : ℕ) → b ≡ true → unless b k ≡ fine
+unless-is true k e = refl
+unless-is false k e = absurd (false≢true e)
+
+as-zero : (k number detail : ℕ) (value : ℤ) → number ≡ 0 → asVerdict k number detail value ≡ fine
+as-zero k number detail value e = rw (eq-eqb number 0 e)
+
+sizes-all : (n k : ℕ) (ls : List (List ℕ)) → ((j : ℕ) → j < length ls → sizedOf n (getD ls j []) .number ≡ 0) → sizesVerdict n k ls ≡ fine
+sizes-all n k [] h = refl
+sizes-all n k (l ∷ ls) h =
+    ap (λ v. orElse v (sizesVerdict n (suc k) ls)) (as-zero k (sizedOf n l .number) (sizedOf n l .detail) (sizedOf n l .value) (h 0 (omega arith)))
+    ∙ sizes-all n (suc k) ls (λ j q. h (suc j) (omega arith))
+
+ranges-all : (A : List ℕ) (n k a : ℕ) (ls : List (List ℕ))
+    → ((j : ℕ) → j < length ls → lineEncoded A (getD ls j []) (a + 2 * total n (take j ls)) .number ≡ 0) → rangesVerdict A n k a ls ≡ fine
+ranges-all A n k a [] h = refl
+ranges-all A n k a (l ∷ ls) h =
+    let first = ap (λ (x : ℕ). lineEncoded A l x .number) (sym (add-zero a)) ∙ h 0 (omega arith) in
+    ap (λ v. orElse v (rangesVerdict A n (suc k) (a + 2 * counted n l) ls)) (as-zero k (lineEncoded A l a .number) (lineEncoded A l a .detail) (lineEncoded A l a .value) first)
+    ∙ ranges-all A n (suc k) (a + 2 * counted n l) ls
+    (λ j q. ap (λ (x : ℕ). lineEncoded A (getD ls j []) x .number) (further a (counted n l) (total n (take j ls))) ∙ h (suc j) (omega arith))
+
+and-fine : (u v : Verdict) → u ≡ fine → v ≡ fine → orElse u v ≡ fine
+and-fine u v p q = ap (λ w. orElse w v) p ∙ q
+
+pub not-otherwise : (text : List ℕ) (places room : ℕ) → Accepted text places room → verdictOf text places room ≡ fine
+unfolding verdictOf
+not-otherwise text places room ok =
+    and-fine (unless (isSheet text) 10) _ (unless-is (isSheet text) 10 (ok .sheet))
+    (and-fine (startVerdict (startOf (startLine text))) _ (ap startVerdict (ok .start) ∙ unless-is (eqb (startIn text % 2) 0) 9 (eq-eqb (startIn text % 2) 0 (ok .even)))
+    (and-fine (unless (leb (countIn text) places) 11) _ (unless-is _ 11 (le-leb (countIn text) places (ok .scratch)))
+    (and-fine (sizesVerdict (countIn text) 1 (linesIn text)) _ (sizes-all (countIn text) 1 (linesIn text) (λ j q. ok .sized (suc j) (omega arith) (omega arith)))
+    (and-fine (unless (leb (startIn text + 2 * needIn text) (2 ^ 32)) 9) _ (unless-is _ 9 (le-leb (startIn text + 2 * needIn text) (2 ^ 32) (ok .ends)))
+    (and-fine (unless (leb (needIn text) room) 11) _ (unless-is _ 11 (le-leb (needIn text) room (ok .image)))
+    (ranges-all (addressesIn text) (countIn text) 1 (startIn text) (linesIn text) (λ j q. ok .encoded (suc j) (omega arith) (omega arith))))))))

@@ -1,7 +1,7 @@
 -- What a line says, in places: a line's number above 4,096 names no line, and 4,097 stands for it.
 use Prim.Native.Nat.{ℕ}
 use mathlib.Core.Bool.{Bool, true, false, cond}
-use mathlib.Core.List.{List, [], _∷_, map}
+use mathlib.Core.List.{List, map}
 use lib.Dec.{leb}
 use lib.ListN.{length, replicate}
 use Rattle.fields.specs.Form.{pad}

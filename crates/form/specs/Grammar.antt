@@ -101,10 +101,10 @@ instructionFields =
     ∷ (kind.Operand ∷ kind.RegisterOperand ∷ [])  -- CHK
     ∷ []  -- TRAPV
     ∷ []  -- ILLEGAL
-    ∷ []  -- IllegalWord
+    ∷ []  -- IllegalWord, which has no line
     ∷ []  -- RTS
     ∷ []  -- NOP
-    ∷ []  -- SIMHALT
+    ∷ []  -- SIMHALT, which has no line
     ∷ (kind.Number ∷ [])  -- RTD
     ∷ (kind.Number ∷ [])  -- BKPT
     ∷ (kind.Number ∷ kind.Number ∷ kind.RegisterOperand ∷ [])  -- MOVEC

@@ -1,10 +1,10 @@
 -- The spelling of a line (01, "The listing"): its fields, parted by tabs.
 use Prim.Native.Nat.{ℕ, _<_, _^_}
 use mathlib.Core.Path.{_≡_}
-use mathlib.Core.Bool.{Bool, true, false, cond}
+use mathlib.Core.Bool.{Bool, true, false}
 use mathlib.Core.List.{List, [], _∷_, _++_, map}
 use lib.ListN.{length, getD}
-use lib.IntN.{ℤ, pos, natAbs}
+use lib.IntN.{ℤ, pos}
 use Rattle.isa.specs.declared.Instruction.{Instruction}
 use Rattle.numeric.specs.Form.{formOf, numbersOf}
 use Rattle.fields.specs.Form.{Inside}

@@ -21,7 +21,7 @@ pub enum Kind {
     Instruction,
 }
 
-// What a field says: a number, a line's number (4,097 where it is more), or nothing in the form.
+// What a field says: a number, a line's number (4,097 where it is above 4,096), or nothing in the form.
 pub enum Value {
     Number { negative: bool, magnitude: u64 },
     Line(u64),

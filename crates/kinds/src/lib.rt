@@ -210,7 +210,7 @@ fn row(rows: &[u64], place: u64) -> u64
 }
 
 // The fields of a kind's variant, in one number.
-pub fn fields_of(kind: Kind, place: u64) -> u64
+fn fields_of(kind: Kind, place: u64) -> u64
     ensures { λ r. ⌜ r ≡ packed (fieldsOf kind place) ⌝ }
 {
     match kind {

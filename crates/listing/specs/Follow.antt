@@ -1,5 +1,5 @@
 -- Following (01, "The listing"): two followers, one over the lines and one over the image's words, and what it is for them to be together.
-use Prim.Native.Nat.{ℕ, suc, pred, _+_, _*_, _-_, _/_, _%_, _≤_}
+use Prim.Native.Nat.{ℕ, pred, _+_, _*_, _-_, _/_, _%_, _≤_}
 use mathlib.Core.Path.{_≡_}
 use mathlib.Core.Bool.{Bool, true, false, cond}
 use mathlib.Core.List.{List, [], _∷_}
@@ -139,7 +139,7 @@ addressOf text n = startIn text + 2 * total (countIn text) (take (pred n) (lines
 abbrev pub countOf : List ℕ → ℕ → ℕ
 countOf text n = counted (countIn text) (lineAt text n)
 
--- line n's instruction, each name n made f n
+-- line n's instruction, each line's number k in it made f k; a line that is not in the form has none, and NOP stands for it
 abbrev pub instructionIn : Built → Instruction
 instructionIn (built.Instruction i) = i
 instructionIn built.NotInForm = Plain NOP

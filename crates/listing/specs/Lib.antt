@@ -1,3 +1,4 @@
 pub mod Sheet
 pub mod Translate
 pub mod Follow
+pub mod Examples

@@ -1,10 +1,10 @@
 -- A sheet (01, "The listing" and "Where a thing is turned back"): START and an address, then one instruction a line.
-use Prim.Native.Nat.{ℕ, zero, suc, _+_, _*_, _-_, _/_, _%_, _^_}
-use mathlib.Core.Bool.{Bool, true, false, cond, not, _&&_, _||_}
-use mathlib.Core.List.{List, [], _∷_, _++_}
+use Prim.Native.Nat.{ℕ, suc, _+_, _*_, _/_, _^_}
+use mathlib.Core.Bool.{Bool, cond, not, _&&_}
+use mathlib.Core.List.{List, [], _∷_}
 use lib.Dec.{eqb, leb, ltb}
-use lib.ListN.{length, drop, getD, take, replicate}
-use lib.IntN.{ℤ, pos}
+use lib.ListN.{length, drop, getD, replicate}
+use lib.IntN.{pos}
 use Rattle.isa.specs.declared.Measured.{Measured}
 use Rattle.isa.specs.declared.Encoded.{Encoded}
 use Rattle.isa.specs.declared.Instruction.{Instruction}
@@ -19,7 +19,6 @@ use Rattle.numeric.specs.declared.Built.the-variants as built
 use Rattle.form.specs.Names.{bytes}
 use Rattle.form.specs.Line.{equal, lineOf}
 use Rattle.form.specs.Made.{addressIn, namesIn, madeOf}
-use Rattle.listing.specs.declared.Listed.{Listed}
 
 -- the number of line feeds, and the last byte
 abbrev pub feeds : List ℕ → ℕ

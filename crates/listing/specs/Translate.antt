@@ -1,12 +1,10 @@
 -- What the translator answers, and what it leaves in the image and the scratch.
-use Prim.Native.Nat.{ℕ, zero, suc, _+_, _*_, _-_, _/_, _%_, _^_}
-use mathlib.Core.Bool.{Bool, true, false, cond, not, _&&_, _||_}
+use Prim.Native.Nat.{ℕ, suc, _+_, _*_, _%_, _^_}
+use mathlib.Core.Bool.{Bool, true, false, cond, _&&_}
 use mathlib.Core.List.{List, [], _∷_, _++_}
-use lib.Dec.{eqb, leb, ltb}
-use lib.ListN.{length, drop, getD, take, replicate}
+use lib.Dec.{eqb, leb}
+use lib.ListN.{length, drop, take, replicate}
 use lib.IntN.{ℤ, pos}
-use Rattle.isa.specs.declared.Measured.{Measured}
-use Rattle.isa.specs.declared.Encoded.{Encoded}
 use Rattle.form.specs.Line.{equal}
 use Rattle.listing.specs.declared.Listed.{Listed}
 use Rattle.listing.specs.Sheet.{isSheet, startLine, linesIn, Start, at, notInForm, startOf, sizedOf, counted, total, addressesFrom, lineEncoded}

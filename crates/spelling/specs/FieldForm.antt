@@ -6,7 +6,7 @@ use mathlib.Core.List.{List, [], _∷_, _++_, map}
 use native.Mathlib.Omega.{arith}
 use lib.Dec.{eqb}
 use lib.ListN.{length, length-map}
-use borrow.Author.Tests.{eqb-true, ne-eqb}
+use borrow.Author.Tests.{eqb-true, ne-eqb, lt-ltb}
 use Rattle.text.specs.declared.Number.{Number}
 use Rattle.text.specs.declared.Number.the-variants as number
 use Rattle.text.specs.Number.{isDigit, allDigits, value, plain, numberOf}
@@ -17,18 +17,18 @@ use Rattle.form.specs.Names.{bytes, namesOf}
 use Rattle.form.specs.Line.{Said, plainly, naming, nothing, asNumber, asName, isName, asVariant, said}
 use Rattle.form.specs.Spell.{signText, numberText, nameText, spelled, Written, Named, Either, Variant, Suits}
 use Rattle.spelling.specs.NumberForm.{both, digit, decimal-plain, decimal-value, plain-digits, plain-decimal, number-form, number-back}
-use Rattle.spelling.specs.NameForm.{noTab, Place, place-is, name-back, name-tabs}
+use Rattle.spelling.specs.NameForm.{solid, Place, place-is, name-back, name-solid}
 
--- digits are no tab and no `@`
-digits-tabs : (l : List ℕ) → allDigits l ≡ true → noTab l ≡ true
-digits-tabs [] e = refl
-digits-tabs (b ∷ bs) e =
+-- digits are no tab, no line feed and no `@`
+digits-solid : (l : List ℕ) → allDigits l ≡ true → solid l ≡ true
+digits-solid [] e = refl
+digits-solid (b ∷ bs) e =
     let t = both (isDigit b) (allDigits bs) e in
     let d = digit b (t .0) in
-    rw (ne-eqb b 9 (λ q. omega (arith, d))) (digits-tabs bs (t .1))
+    rw (lt-ltb 10 b (omega (arith, d))) (digits-solid bs (t .1))
 
-decimal-tabs : (n : ℕ) → noTab (decimalOf n) ≡ true
-decimal-tabs n = digits-tabs (decimalOf n) (plain-digits (decimalOf n) (decimal-plain n))
+pub decimal-solid : (n : ℕ) → solid (decimalOf n) ≡ true
+decimal-solid n = digits-solid (decimalOf n) (plain-digits (decimalOf n) (decimal-plain n))
 
 digits-name : (l : List ℕ) → allDigits l ≡ true → isName l ≡ false
 digits-name [] e = refl
@@ -149,36 +149,36 @@ spelled-said kind.Operand f v e h = variant-said kind.Operand f v e h
 spelled-said kind.Instruction f v e h = variant-said kind.Instruction f v e h
 
 -- no spelling holds a tab
-number-tabs : (v : Said) → noTab (numberText v) ≡ true
-number-tabs (plainly true n) = decimal-tabs n
-number-tabs (plainly false n) = decimal-tabs n
-number-tabs (naming n) = decimal-tabs n
-number-tabs nothing = refl
+number-solid : (v : Said) → solid (numberText v) ≡ true
+number-solid (plainly true n) = decimal-solid n
+number-solid (plainly false n) = decimal-solid n
+number-solid (naming n) = decimal-solid n
+number-solid nothing = refl
 
-variant-tabs : (k : Kind) (v : Said) → Variant k v → noTab (nameText k v) ≡ true
-variant-tabs k (plainly true n) h = absurd h
-variant-tabs k (plainly false n) h = name-tabs k n (h .0)
-variant-tabs k (naming n) h = refl
-variant-tabs k nothing h = refl
+variant-solid : (k : Kind) (v : Said) → Variant k v → solid (nameText k v) ≡ true
+variant-solid k (plainly true n) h = absurd h
+variant-solid k (plainly false n) h = name-solid k n (h .0)
+variant-solid k (naming n) h = refl
+variant-solid k nothing h = refl
 
-pub no-tab : (k : Kind) (v : Said) → Suits k v → noTab (spelled k v) ≡ true
-no-tab kind.Number v h = number-tabs v
-no-tab kind.Target v h = number-tabs v
-no-tab kind.Place v h = number-tabs v
-no-tab kind.Size v h = variant-tabs kind.Size v h
-no-tab kind.TargetDirection v h = variant-tabs kind.TargetDirection v h
-no-tab kind.RegisterOperand v h = variant-tabs kind.RegisterOperand v h
-no-tab kind.AddressWidth v h = variant-tabs kind.AddressWidth v h
-no-tab kind.Condition v h = variant-tabs kind.Condition v h
-no-tab kind.BranchSize v h = variant-tabs kind.BranchSize v h
-no-tab kind.ShiftDirection v h = variant-tabs kind.ShiftDirection v h
-no-tab kind.Sign v h = variant-tabs kind.Sign v h
-no-tab kind.BitFieldOperation v h = variant-tabs kind.BitFieldOperation v h
-no-tab kind.FieldValue v h = variant-tabs kind.FieldValue v h
-no-tab kind.TrapOperand v h = variant-tabs kind.TrapOperand v h
-no-tab kind.RegisterChoice v h = variant-tabs kind.RegisterChoice v h
-no-tab kind.Operand v h = variant-tabs kind.Operand v h
-no-tab kind.Instruction v h = variant-tabs kind.Instruction v h
+pub field-solid : (k : Kind) (v : Said) → Suits k v → solid (spelled k v) ≡ true
+field-solid kind.Number v h = number-solid v
+field-solid kind.Target v h = number-solid v
+field-solid kind.Place v h = number-solid v
+field-solid kind.Size v h = variant-solid kind.Size v h
+field-solid kind.TargetDirection v h = variant-solid kind.TargetDirection v h
+field-solid kind.RegisterOperand v h = variant-solid kind.RegisterOperand v h
+field-solid kind.AddressWidth v h = variant-solid kind.AddressWidth v h
+field-solid kind.Condition v h = variant-solid kind.Condition v h
+field-solid kind.BranchSize v h = variant-solid kind.BranchSize v h
+field-solid kind.ShiftDirection v h = variant-solid kind.ShiftDirection v h
+field-solid kind.Sign v h = variant-solid kind.Sign v h
+field-solid kind.BitFieldOperation v h = variant-solid kind.BitFieldOperation v h
+field-solid kind.FieldValue v h = variant-solid kind.FieldValue v h
+field-solid kind.TrapOperand v h = variant-solid kind.TrapOperand v h
+field-solid kind.RegisterChoice v h = variant-solid kind.RegisterChoice v h
+field-solid kind.Operand v h = variant-solid kind.Operand v h
+field-solid kind.Instruction v h = variant-solid kind.Instruction v h
 
 -- nothing suits no kind
 pub suits-some : (k : Kind) → Suits k nothing → ⊥

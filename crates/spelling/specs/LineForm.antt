@@ -5,13 +5,14 @@ use mathlib.Core.Bool.{Bool}
 use mathlib.Core.List.{List, [], _∷_, _++_}
 use native.Mathlib.Omega.{arith}
 use Rattle.text.specs.Parts.{fields}
+use Rattle.lines.specs.Lines.{linesOf}
 use Rattle.form.specs.declared.Kind.{Kind}
 use Rattle.form.specs.declared.Kind.the-variants as kind
 use Rattle.form.specs.Grammar.{fieldsOf}
 use Rattle.form.specs.Line.{Said, plainly, naming, nothing, said, Parsed, says, no, with, after, lineFrom, lineOf}
 use Rattle.form.specs.Spell.{spelled, Suits, following, Fits, fieldsFrom, joined, spell}
-use Rattle.spelling.specs.FieldForm.{said-spelled, spelled-said, no-tab, suits-some}
-use Rattle.spelling.specs.JoinForm.{NoTabs, joined-fields, fields-joined}
+use Rattle.spelling.specs.FieldForm.{said-spelled, spelled-said, field-solid, suits-some}
+use Rattle.spelling.specs.JoinForm.{Solid, joined-fields, fields-joined, joined-line}
 
 -- a field said, then the others
 said-on : (k : Kind) (ks : List Kind) (fs : List (List ℕ)) (v : Said) (vs : List Said) → Suits k v → lineFrom (following k v ++ ks) fs ≡ says vs
@@ -29,11 +30,11 @@ from-spelled (k ∷ ks) (v ∷ vs) h =
     ap (λ (x : Said). after x (λ n. lineFrom (fieldsOf k n ++ ks) fs) (lineFrom ks fs)) (said-spelled k v (h .0))
     ∙ said-on k ks fs v vs (h .0) (from-spelled (following k v ++ ks) vs (h .1))
 
-tabs-from : (ks : List Kind) (vs : List Said) → Fits ks vs → NoTabs (fieldsFrom ks vs)
-tabs-from [] [] h = tt
-tabs-from [] (v ∷ vs) h = absurd h
-tabs-from (k ∷ ks) [] h = absurd h
-tabs-from (k ∷ ks) (v ∷ vs) h = (no-tab k v (h .0), tabs-from (following k v ++ ks) vs (h .1))
+solid-from : (ks : List Kind) (vs : List Said) → Fits ks vs → Solid (fieldsFrom ks vs)
+solid-from [] [] h = tt
+solid-from [] (v ∷ vs) h = absurd h
+solid-from (k ∷ ks) [] h = absurd h
+solid-from (k ∷ ks) (v ∷ vs) h = (field-solid k v (h .0), solid-from (following k v ++ ks) vs (h .1))
 
 pub line-spelled : (vs : List Said) → Fits (kind.Instruction ∷ []) vs → lineOf (spell vs) ≡ says vs
 unfolding lineOf spell
@@ -41,7 +42,12 @@ line-spelled [] h = absurd h
 line-spelled (v ∷ vs) h =
     let ks : List Kind = kind.Instruction ∷ [] in
     let fs : List (List ℕ) = fieldsFrom (following kind.Instruction v ++ []) vs in
-    ap (lineFrom ks) (fields-joined (spelled kind.Instruction v) fs (tabs-from ks (v ∷ vs) h)) ∙ from-spelled ks (v ∷ vs) h
+    ap (lineFrom ks) (fields-joined (spelled kind.Instruction v) fs (solid-from ks (v ∷ vs) h)) ∙ from-spelled ks (v ∷ vs) h
+
+-- a spelling is a line of every text that it stands in
+pub line-in-text : (vs : List Said) → Fits (kind.Instruction ∷ []) vs → (rest : List ℕ) → linesOf (spell vs ++ (10 ∷ rest)) ≡ spell vs ∷ linesOf rest
+unfolding spell
+line-in-text vs h rest = joined-line (fieldsFrom (kind.Instruction ∷ []) vs) rest (solid-from (kind.Instruction ∷ []) vs h)
 
 no-says : {vs : List Said} → no ≡ says vs → ⊥
 no-says e = let z : _≡_ {A = ℕ} 0 1 = cc in absurd (omega arith)

@@ -13,12 +13,12 @@ use Rattle.form.specs.Names.{bytes, namesOf}
 use Rattle.form.specs.Line.{Said, plainly, naming, nothing, equal, isNone, placeFrom, asVariant}
 use Rattle.spelling.specs.NumberForm.{both}
 
--- no byte is a tab
-abbrev pub noTab : List ℕ → Bool
-noTab [] = true
-noTab (b ∷ bs) = not (eqb b 9) && noTab bs
+-- every byte is above 10, so none is a tab or a line feed
+abbrev pub solid : List ℕ → Bool
+solid [] = true
+solid (b ∷ bs) = ltb 10 b && solid bs
 
-equal-is : (f g : List ℕ) → equal f g ≡ true → f ≡ g
+pub equal-is : (f g : List ℕ) → equal f g ≡ true → f ≡ g
 equal-is [] [] e = refl
 equal-is [] (y ∷ ys) e = absurd (false≢true e)
 equal-is (x ∷ xs) [] e = absurd (false≢true e)
@@ -54,7 +54,7 @@ place-is k f (n ∷ ns) v e h = go (equal f n && not (isNone f)) refl e (λ q. p
         let z : suc k + p .at ≡ k + suc (p .at) = omega arith in
         record { at = suc (p .at); says = p .says ∙ ap (plainly false) z; here = omega (arith, p .here); name = p .name; some = p .some }
 
--- the names are distinct and hold no tab: a computed test
+-- the names are distinct and hold no tab and no line feed: a computed test
 abbrev is : ℕ → Said → Bool
 is n (plainly true m) = false
 is n (plainly false m) = eqb m n
@@ -64,7 +64,7 @@ is n nothing = false
 abbrev test : Kind → ℕ → Bool
 test k n =
     let f = getD (map bytes (namesOf k)) n [] in
-    (isNone f || is n (asVariant k f)) && noTab f
+    (isNone f || is n (asVariant k f)) && solid f
 
 abbrev pub all : (ℕ → Bool) → ℕ → Bool
 all f zero = true
@@ -108,15 +108,15 @@ some-or [] b h e = absurd (omega arith)
 some-or (x ∷ xs) b h e = e
 
 module _ (k : Kind) (n : ℕ) (h : n < length (namesOf k)) where
-  passed : (isNone (getD (map bytes (namesOf k)) n []) || is n (asVariant k (getD (map bytes (namesOf k)) n [])) ≡ true) × (noTab (getD (map bytes (namesOf k)) n []) ≡ true)
+  passed : (isNone (getD (map bytes (namesOf k)) n []) || is n (asVariant k (getD (map bytes (namesOf k)) n [])) ≡ true) × (solid (getD (map bytes (namesOf k)) n []) ≡ true)
   passed =
       let f = getD (map bytes (namesOf k)) n [] in
-      both (isNone f || is n (asVariant k f)) (noTab f) (below (test k) (length (namesOf k)) (tested k) n h)
+      both (isNone f || is n (asVariant k f)) (solid f) (below (test k) (length (namesOf k)) (tested k) n h)
 
   pub name-back : 0 < length (getD (map bytes (namesOf k)) n []) → asVariant k (getD (map bytes (namesOf k)) n []) ≡ plainly false n
   name-back g =
       let f = getD (map bytes (namesOf k)) n [] in
       is-place n (asVariant k f) (some-or f (is n (asVariant k f)) g (passed .0))
 
-  pub name-tabs : noTab (getD (map bytes (namesOf k)) n []) ≡ true
-  name-tabs = passed .1
+  pub name-solid : solid (getD (map bytes (namesOf k)) n []) ≡ true
+  name-solid = passed .1

@@ -1,0 +1,2 @@
+pub mod StartLine
+pub mod SheetLaws

@@ -1,0 +1,5 @@
+pub mod Printed
+pub mod Listing
+pub mod ListingLaws
+pub mod PrintedLaws
+pub mod Examples

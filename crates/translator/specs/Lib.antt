@@ -1,0 +1,5 @@
+pub mod Translated
+pub mod VerdictLaws
+pub mod StageLaws
+pub mod PlaceLaws
+pub mod Stands
