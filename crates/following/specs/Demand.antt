@@ -1,5 +1,5 @@
 -- Each line of an accepted sheet stands: its words are there, read back as its plain form, and its target is the named line's address.
-use Prim.Native.Nat.{ℕ, _+_, _*_, _-_, _/_, _%_, _≤_}
+use Prim.Native.Nat.{ℕ, _*_, _-_, _/_, _%_, _≤_}
 use mathlib.Core.Path.{_≡_, refl, sym, ap, _∙_, subst}
 use mathlib.Core.Bool.{true}
 use mathlib.Core.List.{List, _++_}
@@ -24,8 +24,7 @@ use Rattle.listing.specs.Translate.{countIn, addressesIn}
 use Rattle.listing.specs.Follow.{Next, on, to, either, stop, nextOf, target, lineAt, addressOf, countOf, instructionIn, plainLine, named}
 use Rattle.following.specs.Follows.{Aims, Within, wordsAt, LineStands, AllStand, address-is}
 use Rattle.following.specs.Verdicts.{Accepted}
-use Rattle.following.specs.Lawful.{quiet}
-use Rattle.following.specs.Renamed.{Goes, quietly, aimed}
+use Rattle.following.specs.Lawful.{quiet, Goes, quietly, aimed}
 use Rattle.following.specs.Made.{LineMade}
 use Rattle.following.specs.Bounds.{size-is, MeasuredSheet, line-at, count-some, names-bounded, addresses-bounded}
 

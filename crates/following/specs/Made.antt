@@ -1,11 +1,11 @@
 -- A line of an accepted sheet, whatever its names are made.
-use Prim.Native.Nat.{ℕ, suc, _/_}
+use Prim.Native.Nat.{ℕ, _/_}
 use mathlib.Core.Path.{_≡_, refl, sym, ap, _∙_, subst}
 use mathlib.Core.Bool.{Bool, true, false}
-use mathlib.Core.List.{List, [], _∷_, map, append-nil}
+use mathlib.Core.List.{List, [], _∷_, map, map-map, append-nil}
 use native.Mathlib.Omega.{arith}
-use lib.IntN.{ℤ, natAbs}
-use lib.ListN.{length}
+use lib.IntN.{natAbs}
+use lib.ListN.{length, length-map}
 use Rattle.isa.specs.declared.Instruction.{Instruction}
 use Rattle.isa.specs.declared.Measured.{Measured}
 use Rattle.isa.specs.Encode.{sizeOf}
@@ -23,7 +23,8 @@ use Rattle.spelling.specs.LineForm.{line-spelled}
 use Rattle.spelling.specs.InForm.{form-sound}
 use Rattle.listing.specs.Sheet.{sizedAs, sizedOf, counted}
 use Rattle.following.specs.Turned.{Spelt, Bounded, Turned}
-use Rattle.following.specs.Renamed.{Follows, entries, instruction-turned}
+use Rattle.following.specs.Lawful.{Follows, entries}
+use Rattle.following.specs.Renamed.{instruction-turned}
 
 -- ---- what `sizedOf` accepts
 record Sized (b : Built) (named : Bool) : Type 0 where
@@ -39,46 +40,16 @@ sized-is (built.Instruction i) false h = absurd (omega arith)
 sized-is built.NotInForm named h = absurd (omega arith)
 
 -- ---- numbers said and numbers of entries
-cons-head : {x y : ℤ} {xs ys : List ℤ} → x ∷ xs ≡ y ∷ ys → x ≡ y
-cons-head e = cc
-
-cons-tail : {x y : ℤ} {xs ys : List ℤ} → x ∷ xs ≡ y ∷ ys → xs ≡ ys
-cons-tail e = cc
-
-none-some : {C : Type 0} {y : ℤ} {ys : List ℤ} → [] ≡ y ∷ ys → C
-none-some e = let z : _≡_ {A = ℕ} 0 1 = cc in absurd (omega arith)
-
-some-none : {C : Type 0} {y : ℤ} {ys : List ℤ} → y ∷ ys ≡ [] → C
-some-none e = let z : _≡_ {A = ℕ} 0 1 = cc in absurd (omega arith)
-
-map-spelt : (f : ℕ → ℕ) (vs : List Said) (es : List Entry) → map (numberAs f) vs ≡ map numberOf es → Spelt f vs es
-map-spelt f [] [] e = tt
-map-spelt f [] (x ∷ es) e = none-some e
-map-spelt f (v ∷ vs) [] e = some-none e
-map-spelt f (v ∷ vs) (x ∷ es) e = (cons-head e, map-spelt f vs es (cons-tail e))
-
-spelt-map : {A : Type 0} (g : ℤ → A) (f : ℕ → ℕ) (vs : List Said) (es : List Entry) → Spelt f vs es → map (λ v. g (numberAs f v)) vs ≡ map (λ e. g (numberOf e)) es
-spelt-map g f [] [] h = refl
-spelt-map g f [] (x ∷ es) h = absurd h
-spelt-map g f (v ∷ vs) [] h = absurd h
-spelt-map g f (v ∷ vs) (x ∷ es) h = let r = spelt-map g f vs es (h .1) in λ i. g (h .0 i) ∷ r i
-
-spelt-length : (f : ℕ → ℕ) (vs : List Said) (es : List Entry) → Spelt f vs es → length vs ≡ length es
-spelt-length f [] [] h = refl
-spelt-length f [] (x ∷ es) h = absurd h
-spelt-length f (v ∷ vs) [] h = absurd h
-spelt-length f (v ∷ vs) (x ∷ es) h = ap (λ (k : ℕ). suc k) (spelt-length f vs es (h .1))
-
 numbers-are : (f : ℕ → ℕ) (vs : List Said) (es : List Entry) → Spelt f vs es → numbersAs f vs ≡ numbersFrom es
 unfolding numbersAs numbersFrom
-numbers-are f vs es h =
-    let c = spelt-length f vs es h in
-    let n = spelt-map isNegative f vs es h in
-    let m = spelt-map natAbs f vs es h in
+numbers-are f vs es e =
+    let c : length vs ≡ length es = sym (length-map vs (numberAs f)) ∙ ap length e ∙ length-map es numberOf in
+    let n = sym (map-map isNegative (numberAs f) vs) ∙ ap (map isNegative) e ∙ map-map isNegative numberOf es in
+    let m = sym (map-map natAbs (numberAs f) vs) ∙ ap (map natAbs) e ∙ map-map natAbs numberOf es in
     λ i. record { count = c i; negative = pad 24 false (n i); magnitude = pad 24 0 (m i) }
 
 empty-spelt : (f : ℕ → ℕ) (vs : List Said) → Fits [] vs → Spelt f vs []
-empty-spelt f [] h = tt
+empty-spelt f [] h = refl
 empty-spelt f (v ∷ vs) h = absurd h
 
 -- ---- the line
@@ -98,11 +69,10 @@ module _ (n : ℕ) (line : List ℕ) (i : Instruction) (vs : List Said) (l : lin
 
   line-turned : Fits (kind.Instruction ∷ []) vs → namesAll n vs ≡ true → map (numberAs (λ k. 0)) vs ≡ numbersOf i → Inside (formOf i) → Turned n Instruction entries (Follows n i) [] vs []
   unfolding numbersOf formOf
-  line-turned h g e s =
-      instruction-turned i vs (record { fits = h; named = g; zeros = subst (λ (es : List Entry). Spelt (λ k. 0) vs es) (sym (append-nil (entries i))) (map-spelt (λ k. 0) vs (entries i) e) }) s
+  line-turned h g e s = instruction-turned i vs (record { fits = h; named = g; zeros = subst (Spelt (λ k. 0) vs) (sym (append-nil (entries i))) e }) s
 
   turned-spelt : (t : Turned n Instruction entries (Follows n i) [] vs []) (f : ℕ → ℕ) → Bounded n f → Spelt f vs (entries (t .made f))
-  turned-spelt t f b = subst (λ (es : List Entry). Spelt f vs es) (append-nil (entries (t .made f))) (t .spells f b [] (empty-spelt f (t .rest) (t .left .fits)))
+  turned-spelt t f b = subst (Spelt f vs) (append-nil (entries (t .made f))) (t .spells f b [] (empty-spelt f (t .rest) (t .left .fits)))
 
 pub line-made : (n : ℕ) (line : List ℕ) → sizedOf n line .number ≡ 0 → LineMade n line
 unfolding sizedOf counted

@@ -1,5 +1,5 @@
 -- The size of an instruction does not depend on its targets.
-use Prim.Native.Nat.{ℕ, _+_, _*_}
+use Prim.Native.Nat.{ℕ, _*_}
 use mathlib.Core.Path.{_≡_, refl, ap, ap₂}
 use mathlib.Core.Bool.{Bool, true, false, not}
 use mathlib.Core.List.{List, _∷_, _++_}
@@ -96,7 +96,7 @@ either : {A B : Type 0} (b : Bool) (F : A → B) {x y x₂ y₂ u v u₂ v₂ : 
 either true F p q = p
 either false F p q = q
 
--- all that `size` computes
+-- `size`, and all that it computes with
 measured : Instruction → Measured
 unfolding sizeOf permits byteOfAddress single withData withAddress fromData moveParts moveaParts movemParts movepParts immediateParts quickParts intoDataParts arithmeticParts intoAddressParts boundsParts extendedParts cmpmParts mullParts divlParts tstParts logicalParts shiftParts shiftRegisterParts shiftMemoryParts bitParts dynamicParts staticParts bitFieldParts packParts branchParts bccParts dbccParts sccParts movesParts casParts registerParts transferParts pairParts wordParts unsizedRegisterParts unsizedOneParts unsizedPairParts oneParts branchesParts packsParts
 measured i = sizeOf i
