@@ -41,6 +41,19 @@ fn listing(text: &[u8], out: &mut [u8]) -> usize
     printed::print(text, &mut image, &mut scratch, out)
 }
 
+fn print_sheet(text: &[u8]) {
+    let mut out = output_places();
+    let n = listing(text, &mut out);
+    io::write_all(1, &out[..n]);
+}
+
+// What is printed for a longer text.
+fn print_longer() {
+    let mut out = output_places();
+    let n = printed::put_refusal(&mut out, 10, 0, 0, 0);
+    io::write_all(1, &out[..n]);
+}
+
 // Whether standard input has a byte more.
 fn has_more() -> bool {
     let mut byte: [u8; 1] = [0; 1];
@@ -49,13 +62,12 @@ fn has_more() -> bool {
 
 fn main() {
     let mut text = text_places();
-    let mut out = output_places();
     let n = io::read_full(0, &mut text);
-    let mut end = listing(&text[..n], &mut out);
     if n == 65536 {
         if has_more() {
-            end = printed::put_refusal(&mut out, 10, 0, 0, 0);
+            print_longer();
+            return;
         }
     }
-    io::write_all(1, &out[..end]);
+    print_sheet(&text[..n]);
 }
