@@ -11,7 +11,7 @@ use Rattle.form.specs.declared.Kind.the-variants as kind
 use Rattle.form.specs.Names.{bytes, instructionNames}
 use Rattle.form.specs.Line.{Said, plainly, naming, nothing, equal, isNone, asVariant}
 use Rattle.spelling.specs.NumberForm.{both}
-use Rattle.spelling.specs.NameForm.{Place, all, below, equal-is, place-is, name-back}
+use Rattle.spelling.specs.NameForm.{all, below, equal-is, place-is, name-back}
 use Rattle.names.specs.Hash.{hashOf, hashed, placeOf, nameAt, startOf}
 
 -- a table that passes a computed test follows the rule
@@ -87,9 +87,10 @@ found f n h s t =
     ap (asVariant kind.Instruction) q ∙ name-back kind.Instruction n h (subst (λ (g : List ℕ). 0 < length g) q s)
 
 module _ (f : List ℕ) (n : ℕ) (h : n ≡ placeOf (hashOf f)) (t : equal f (nameAt n) ≡ false) where
-  clash : (v : Said) → Place 0 f (map bytes instructionNames) v → ⊥
+  clash : (v : Said) → asVariant kind.Instruction f ≡ v → (v ≡ nothing → ⊥) → ⊥
   unfolding nameAt
-  clash v p =
+  clash v e s =
+      let p = place-is 0 f (map bytes instructionNames) v e s in
       let m = p .at in
       let q : f ≡ nameAt m = p .name in
       let o : n ≡ m = h ∙ ap (λ (g : List ℕ). placeOf (hashOf g)) q ∙ place-own m (p .here) (subst (λ (g : List ℕ). 0 < length g) q (p .some)) in
@@ -99,6 +100,6 @@ module _ (f : List ℕ) (n : ℕ) (h : n ≡ placeOf (hashOf f)) (t : equal f (n
   missed = go (asVariant kind.Instruction f) refl
     where
       go : (v : Said) → asVariant kind.Instruction f ≡ v → v ≡ nothing
-      go (plainly s k) q = absurd (clash (plainly s k) (place-is 0 f (map bytes instructionNames) (plainly s k) q (λ z. let o : _≡_ {A = ℕ} 0 1 = cc in omega arith)))
-      go (naming k) q = absurd (clash (naming k) (place-is 0 f (map bytes instructionNames) (naming k) q (λ z. let o : _≡_ {A = ℕ} 0 1 = cc in omega arith)))
+      go (plainly s k) q = absurd (clash (plainly s k) q (λ z. let o : _≡_ {A = ℕ} 0 1 = cc in omega arith))
+      go (naming k) q = absurd (clash (naming k) q (λ z. let o : _≡_ {A = ℕ} 0 1 = cc in omega arith))
       go nothing q = refl
