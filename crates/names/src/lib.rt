@@ -7,9 +7,12 @@ ghost use Rattle.form.specs.Line as line;
 ghost use Rattle.form.specs.Entries.{valueOf};
 ghost use Rattle.form.specs.Entries as entries;
 ghost use Rattle.names.specs.LineNumber.{lineAfter};
+use crate::instructions::instruction;
 use form::Kind;
 use form::Value;
 use text::Number;
+
+mod instructions;
 
 // Whether two texts are equal.
 pub fn equal(f: &[u8], g: &[u8]) -> bool
@@ -140,21 +143,6 @@ fn operand(f: &[u8]) -> Value
     find(
         b"Immediate\tRegister\tIndirect\tPostIndirect\tPreIndirect\tIndirectDisplacement\tIndirectIndex\t\
           PcDisplacement\tPcIndex\tExtended\tAbsolute",
-        f,
-    )
-}
-
-// IllegalWord and SIMHALT have no line: their places have no name.
-fn instruction(f: &[u8]) -> Value
-    ensures { λ r. ⌜ r ≡ valueOf (asVariant Kind.Instruction (now (f .entry))) ⌝ }
-{
-    find(
-        b"ADDA\tSUBA\tCMPA\tMOVEA\tMOVEM\tMOVE\tADD\tSUB\tADDX\tSUBX\tADDQ\tMOVEQ\tSUBQ\tADDI\tSUBI\tANDI\tORI\tEORI\t\
-          CMPI\tCMPM\tDIVx\tMULx\tSWAP\tCLR\tEXG\tLEA\tPEA\tNEG\tNEGX\tABCD\tSBCD\tNBCD\tEXT\tTST\tCMP\tBcc\tScc\t\
-          DBcc\tBRA\tLINK\tUNLK\tNOT\tOR\tAND\tEOR\tJSR\tASd\tROd\tLSd\tROXd\tBTST\tBCLR\tBSET\tBCHG\tJMP\tBSR\tTRAP\t\
-          RTE\tSTOP\tRESET\tMOVEUSP\tLINEA\tLINEF\tMOVEP\tMOVEtoCCR\tMOVEfromCCR\tMOVEtoSR\tMOVEfromSR\tANDItoCCR\t\
-          ORItoCCR\tEORItoCCR\tANDItoSR\tORItoSR\tEORItoSR\tTAS\tRTR\tCHK\tTRAPV\tILLEGAL\t\tRTS\tNOP\t\tRTD\tBKPT\t\
-          MOVEC\tMOVES\tCHKL\tLINKL\tTRAPcc\tMULL\tPACK\tUNPK\tCHK2\tCMP2\tCAS\tCAS2\tBF\tDIVL",
         f,
     )
 }
