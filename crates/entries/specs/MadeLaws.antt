@@ -14,7 +14,7 @@ use Rattle.numeric.specs.Build.{buildOf}
 use Rattle.form.specs.declared.Kind.{Kind}
 use Rattle.form.specs.declared.Kind.the-variants as kind
 use Rattle.form.specs.Line.{Said, plainly, naming, nothing, Parsed, says, no, lineOf}
-use Rattle.form.specs.Spell.{numberAs, Suits, following, Fits}
+use Rattle.form.specs.Spell.{numberAs, Suits, nextKinds, Fits}
 use Rattle.form.specs.Made.{numbersAs, madeAs, madeOf, names, namesAll, namesIn, addressIn}
 use Rattle.form.specs.Entries.{capped, isLine, negativeIn, magnitudeIn, noEntries, entriesFrom, entriesOf}
 use Rattle.spelling.specs.LineForm.{spelled-line}
@@ -98,7 +98,7 @@ fits-signed : (ks : List Kind) (vs : List Said) → Fits ks vs → AllSigned vs
 fits-signed [] [] h = tt
 fits-signed [] (v ∷ vs) h = absurd h
 fits-signed (k ∷ ks) [] h = absurd h
-fits-signed (k ∷ ks) (v ∷ vs) h = (suits-signed k v (h .0), fits-signed (following k v ++ ks) vs (h .1))
+fits-signed (k ∷ ks) (v ∷ vs) h = (suits-signed k v (h .0), fits-signed (nextKinds k v ++ ks) vs (h .1))
 
 pub line-signed : (line : List ℕ) (vs : List Said) → lineOf line ≡ says vs → AllSigned vs
 line-signed line vs e = fits-signed (kind.Instruction ∷ []) vs (spelled-line line vs e .0)

@@ -19,7 +19,7 @@ use Rattle.opcode.specs.Plain.{plain}
 use Rattle.opcode.specs.Read.{readOf}
 use Rattle.reads.specs.Statements as reads
 use Rattle.reads.specs.ReaderLaws.{complete}
-use Rattle.listing.specs.Sheet.{encodedAs, lineEncoded}
+use Rattle.listing.specs.Sheet.{encodedLine, lineEncoded}
 use Rattle.listing.specs.Translate.{countIn, addressesIn}
 use Rattle.listing.specs.Follow.{Next, on, to, either, stop, nextOf, target, lineAt, addressOf, countOf, instructionIn, plainLine, named}
 use Rattle.following.specs.Follows.{Aims, Within, wordsAt, LineStands, AllStand, address-is}
@@ -77,7 +77,7 @@ module _ (text : List ℕ) (places room : ℕ) (ok : Accepted text places room) 
 
     number-zero : encodeOf i a .number ≡ 0
     unfolding lineEncoded
-    number-zero = subst (λ (b : Built). encodedAs b a .number ≡ 0) made (ok .encoded n h g)
+    number-zero = subst (λ (b : Built). encodedLine b a .number ≡ 0) made (ok .encoded n h g)
 
     is-fine : refusalOf true i a ≡ item.fine
     unfolding encodeOf
@@ -85,7 +85,7 @@ module _ (text : List ℕ) (places room : ℕ) (ok : Accepted text places room) 
 
     words-are : wordsAt text n ≡ wordsOf i a
     unfolding lineEncoded encodeOf
-    words-are = ap (λ (b : Built). take (encodedAs b a .count) (encodedAs b a .words)) made ∙ taken (refusalOf true i a) (wordsOf i a) is-fine
+    words-are = ap (λ (b : Built). take (encodedLine b a .count) (encodedLine b a .words)) made ∙ taken (refusalOf true i a) (wordsOf i a) is-fine
 
     counts-are : length (wordsOf i a) ≡ countOf text n
     counts-are =

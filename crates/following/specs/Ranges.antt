@@ -6,7 +6,7 @@ use Rattle.isa.specs.declared.Measured.{Measured}
 use Rattle.numeric.specs.declared.Built.{Built}
 use Rattle.m68k.specs.Laws.{Outcome, range-law}
 use Rattle.form.specs.Made.{addressIn}
-use Rattle.listing.specs.Sheet.{encodedAs, lineEncoded}
+use Rattle.listing.specs.Sheet.{encodedLine, lineEncoded}
 use Rattle.listing.specs.Translate.{countIn, addressesIn}
 use Rattle.listing.specs.Follow.{lineAt, addressOf}
 use Rattle.following.specs.Bounds.{MeasuredSheet, line-at, addresses-bounded}
@@ -17,5 +17,5 @@ unfolding lineEncoded
 only-ranges text ok n h g =
     let l = line-at text ok n h g in
     let f = addressIn (addressesIn text) in
-    subst (λ (b : Built). Outcome (encodedAs b (addressOf text n))) (sym (l .makes f (addresses-bounded text ok)))
+    subst (λ (b : Built). Outcome (encodedLine b (addressOf text n))) (sym (l .makes f (addresses-bounded text ok)))
     (range-law (l .made f) (addressOf text n) (ap (λ (m : Measured). m .number) (l .follows .size f) ∙ l .number))

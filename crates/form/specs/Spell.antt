@@ -94,23 +94,23 @@ Suits kind.Operand v = Variant kind.Operand v
 Suits kind.Instruction v = Variant kind.Instruction v
 
 -- the fields that come next
-abbrev pub following : Kind → Said → List Kind
-following k (plainly negative n) = fieldsOf k n
-following k (naming n) = []
-following k nothing = []
+abbrev pub nextKinds : Kind → Said → List Kind
+nextKinds k (plainly negative n) = fieldsOf k n
+nextKinds k (naming n) = []
+nextKinds k nothing = []
 
 -- entries that suit the grammar, and their fields
 abbrev pub Fits : List Kind → List Said → Type 0
 Fits [] [] = Unit {0}
 Fits [] (v ∷ vs) = ⊥
 Fits (k ∷ ks) [] = ⊥
-Fits (k ∷ ks) (v ∷ vs) = Suits k v × Fits (following k v ++ ks) vs
+Fits (k ∷ ks) (v ∷ vs) = Suits k v × Fits (nextKinds k v ++ ks) vs
 
 abbrev pub fieldsFrom : List Kind → List Said → List (List ℕ)
 fieldsFrom [] [] = []
 fieldsFrom [] (v ∷ vs) = []
 fieldsFrom (k ∷ ks) [] = []
-fieldsFrom (k ∷ ks) (v ∷ vs) = spelled k v ∷ fieldsFrom (following k v ++ ks) vs
+fieldsFrom (k ∷ ks) (v ∷ vs) = spelled k v ∷ fieldsFrom (nextKinds k v ++ ks) vs
 
 -- parted by tabs
 abbrev pub joined : List (List ℕ) → List ℕ

@@ -7,11 +7,11 @@ use lib.ListN.{length}
 use Rattle.form.specs.declared.Kind.{Kind}
 use Rattle.form.specs.declared.Kind.the-variants as kind
 use Rattle.form.specs.Line.{Said, plainly, naming, nothing, says, lineOf}
-use Rattle.form.specs.Spell.{following, Fits}
+use Rattle.form.specs.Spell.{nextKinds, Fits}
 use Rattle.spelling.specs.LineForm.{spelled-line}
 use Rattle.kinds.specs.Weight.{most, total, most-next, most-rest}
 
-pub most-following : (k : Kind) (v : Said) (ks : List Kind) → total most (following k v ++ ks) < total most (k ∷ ks)
+pub most-following : (k : Kind) (v : Said) (ks : List Kind) → total most (nextKinds k v ++ ks) < total most (k ∷ ks)
 most-following k (plainly negative n) ks = most-next k ks n
 most-following k (naming n) ks = most-rest k ks
 most-following k nothing ks = most-rest k ks
@@ -20,7 +20,7 @@ few-from : (ks : List Kind) (vs : List Said) → Fits ks vs → length vs ≤ to
 few-from [] [] h = omega arith
 few-from [] (v ∷ vs) h = absurd h
 few-from (k ∷ ks) [] h = omega arith
-few-from (k ∷ ks) (v ∷ vs) h = omega (arith, few-from (following k v ++ ks) vs (h .1), most-following k v ks)
+few-from (k ∷ ks) (v ∷ vs) h = omega (arith, few-from (nextKinds k v ++ ks) vs (h .1), most-following k v ks)
 
 pub few : (line : List ℕ) (vs : List Said) → lineOf line ≡ says vs → length vs ≤ 24
 few line vs e = omega (arith, few-from (kind.Instruction ∷ []) vs (spelled-line line vs e .0))

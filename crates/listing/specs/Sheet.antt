@@ -85,9 +85,9 @@ addressesFrom n a [] = []
 addressesFrom n a (l ∷ ls) = a ∷ addressesFrom n (a + 2 * counted n l) ls
 
 -- a line encoded at its address, its names made addresses
-abbrev pub encodedAs : Built → ℕ → Encoded
-encodedAs (built.Instruction i) a = encodeOf i a
-encodedAs built.NotInForm a = record { words = replicate 11 0; count = 0; number = 7; detail = 0; value = pos 0 }
+abbrev pub encodedLine : Built → ℕ → Encoded
+encodedLine (built.Instruction i) a = encodeOf i a
+encodedLine built.NotInForm a = record { words = replicate 11 0; count = 0; number = 7; detail = 0; value = pos 0 }
 
 unfoldable pub lineEncoded : List ℕ → List ℕ → ℕ → Encoded
-lineEncoded addresses line a = encodedAs (madeOf (addressIn addresses) line) a
+lineEncoded addresses line a = encodedLine (madeOf (addressIn addresses) line) a

@@ -23,7 +23,7 @@ use Rattle.kinds.specs.Few.{few}
 use Rattle.entries.specs.Made.{madeWith, namesLines}
 use Rattle.entries.specs.MadeLaws.{made-line, made-unaddressed, names-in}
 use Rattle.lines.specs.LinesLaws.{lines-next}
-use Rattle.listing.specs.Sheet.{sizedAs, sizedOf, counted, total, addressesFrom, encodedAs, lineEncoded}
+use Rattle.listing.specs.Sheet.{sizedAs, sizedOf, counted, total, addressesFrom, encodedLine, lineEncoded}
 use Rattle.listing.specs.Translate.{orElse, asVerdict, sizesVerdict, rangesVerdict, lineWords, imageFrom, over}
 use Rattle.passes.specs.declared.Passed.{Passed}
 use Rattle.passes.specs.Passes.{linesAt, passedOf, filledOf, Placed, rangesAt, imageAt}
@@ -69,7 +69,7 @@ line-sized n line h e f g =
     rw (f, g, e, made-line [] (omega arith) line, made-unaddressed line, names-in n h (lineOf line) (few line))
 
 pub line-encoded : (addresses line : List ℕ) (a : ℕ) {e : Entries} {b : Built} → length addresses ≤ 4096 → e ≡ entriesOf (lineOf line)
-    → b ≡ madeWith e addresses → encodedAs b a ≡ lineEncoded addresses line a
+    → b ≡ madeWith e addresses → encodedLine b a ≡ lineEncoded addresses line a
 unfolding lineEncoded
 line-encoded addresses line a h e f = rw (f, e, made-line addresses h line)
 

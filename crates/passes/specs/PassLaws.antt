@@ -18,16 +18,16 @@ use Rattle.form.specs.Made.{addressIn, namesIn, madeOf}
 use Rattle.inverse.specs.Facts.{words-count, eqb-eq}
 use Rattle.m68k.specs.Lays.{instruction-lays}
 use Rattle.m68k.specs.Laws.{places-law, encode-most}
-use Rattle.listing.specs.Sheet.{sizedAs, sizedOf, counted, total, addressesFrom, encodedAs, lineEncoded}
+use Rattle.listing.specs.Sheet.{sizedAs, sizedOf, counted, total, addressesFrom, encodedLine, lineEncoded}
 use Rattle.listing.specs.Translate.{Verdict, fine, refused, orElse, asVerdict, sizesVerdict, lineWords}
 use Rattle.passes.specs.Passes.{filledOf}
 
 -- ---- an encoded line has eleven places, and so many words count
-as-places : (b : Built) (a : ℕ) → length (encodedAs b a .words) ≡ 11
+as-places : (b : Built) (a : ℕ) → length (encodedLine b a .words) ≡ 11
 as-places (built.Instruction i) a = places-law i a
 as-places built.NotInForm a = refl
 
-as-most : (b : Built) (a : ℕ) → encodedAs b a .count ≤ 11
+as-most : (b : Built) (a : ℕ) → encodedLine b a .count ≤ 11
 as-most (built.Instruction i) a = omega (arith, encode-most i a)
 as-most built.NotInForm a = omega arith
 

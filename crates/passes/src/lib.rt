@@ -2,7 +2,7 @@
 ghost use mathlib.Core.Path.{_≡_};
 ghost use Prim.Native.Nat.{_≤_};
 ghost use lib.ListN.{length, take};
-ghost use Rattle.listing.specs.Sheet.{turned, sizedAs, sizedOf, total, encodedAs, lineEncoded};
+ghost use Rattle.listing.specs.Sheet.{turned, sizedAs, sizedOf, total, encodedLine, lineEncoded};
 ghost use Rattle.listing.specs.Translate.{sizesVerdict, over};
 ghost use Rattle.passes.specs.Passes.{linesAt, passedOf, filledOf, Placed, rangesAt, imageAt};
 use isa::Encoded;
@@ -55,7 +55,7 @@ fn sized(line: &[u8], lines: usize) -> Measured
 }
 
 fn encoded_as(b: Built, address: u32) -> Encoded
-    ensures { λ r. ⌜ r ≡ encodedAs b address ⌝ }
+    ensures { λ r. ⌜ r ≡ encodedLine b address ⌝ }
 {
     match b {
         Built::Instruction(i) => m68k::encode(i, address),

@@ -57,7 +57,7 @@ use Rattle.form.specs.declared.Kind.the-variants as kind
 use Rattle.form.specs.Names.{bytes, namesOf}
 use Rattle.form.specs.Grammar.{fieldsOf}
 use Rattle.form.specs.Line.{Said, plainly, naming, nothing}
-use Rattle.form.specs.Spell.{numberAs, Suits, Variant, Fits, following, spell, Line}
+use Rattle.form.specs.Spell.{numberAs, Suits, Variant, Fits, nextKinds, spell, Line}
 use Rattle.form.specs.Made.{madeOf}
 use Rattle.spelling.specs.NumberForm.{both}
 use Rattle.spelling.specs.NameForm.{all, below}
@@ -84,7 +84,7 @@ field k m e = elim k [ kind.Number ↦ plain e | kind.Target ↦ elim m [ number
 abbrev pub fieldsBy : (ℕ → Mark) → List Kind → List Entry → List (Said × Entry)
 fieldsBy m ks [] = []
 fieldsBy m [] (e ∷ es) = []
-fieldsBy m (k ∷ ks) (e ∷ es) = field k (m 0) e ∷ fieldsBy (λ n. m (suc n)) (following k (field k (m 0) e .0) ++ ks) es
+fieldsBy m (k ∷ ks) (e ∷ es) = field k (m 0) e ∷ fieldsBy (λ n. m (suc n)) (nextKinds k (field k (m 0) e .0) ++ ks) es
 
 abbrev pub saying : (ℕ → Mark) → List Kind → List Entry → List Said
 saying m ks es = map (λ w. w .0) (fieldsBy m ks es)
@@ -121,7 +121,7 @@ fields-numbers m ks [] h = (refl, tt)
 fields-numbers m [] (e ∷ es) h = (refl, tt)
 fields-numbers m (k ∷ ks) (e ∷ es) h =
     let a = field-number k (m 0) e in
-    let b = fields-numbers (λ n. m (suc n)) (following k (field k (m 0) e .0) ++ ks) es (h .1) in
+    let b = fields-numbers (λ n. m (suc n)) (nextKinds k (field k (m 0) e .0) ++ ks) es (h .1) in
     ((λ i. a .0 i ∷ b .0 i), (a .1 (h .0), b .1))
 
 -- ---- a sort of values: its entries fit its kinds, and are those of a value when they are unaimed
@@ -158,7 +158,7 @@ s ⊗ t = record {
 }
 
 -- ---- one field that no fields follow
-abbrev one : {X : Type 0} (k : Kind) (e : X → Entry) (bare : Mark → X → X) → ((m : Mark) (x : X) → (field k m (e x) .1 ≡ e (bare m x)) × (following k (field k m (e x) .0) ≡ []) × (inside (e x) ≡ true → Suits k (field k m (e x) .0))) → Sort X
+abbrev one : {X : Type 0} (k : Kind) (e : X → Entry) (bare : Mark → X → X) → ((m : Mark) (x : X) → (field k m (e x) .1 ≡ e (bare m x)) × (nextKinds k (field k m (e x) .0) ≡ []) × (inside (e x) ≡ true → Suits k (field k m (e x) .0))) → Sort X
 one k e bare law = record {
   form = λ x. e x ∷ [];
   kinds = k ∷ [];

@@ -10,12 +10,12 @@ use Rattle.form.specs.declared.Kind.{Kind}
 use Rattle.form.specs.declared.Kind.the-variants as kind
 use Rattle.form.specs.Grammar.{fieldsOf}
 use Rattle.form.specs.Line.{Said, plainly, naming, nothing, said, Parsed, says, no, with, after, lineFrom, lineOf}
-use Rattle.form.specs.Spell.{spelled, Suits, following, Fits, fieldsFrom, joined, spell}
+use Rattle.form.specs.Spell.{spelled, Suits, nextKinds, Fits, fieldsFrom, joined, spell}
 use Rattle.spelling.specs.FieldForm.{said-spelled, spelled-said, field-solid, suits-some}
 use Rattle.spelling.specs.JoinForm.{Solid, joined-fields, fields-joined, joined-line}
 
 -- a field said, then the others
-said-on : (k : Kind) (ks : List Kind) (fs : List (List ℕ)) (v : Said) (vs : List Said) → Suits k v → lineFrom (following k v ++ ks) fs ≡ says vs
+said-on : (k : Kind) (ks : List Kind) (fs : List (List ℕ)) (v : Said) (vs : List Said) → Suits k v → lineFrom (nextKinds k v ++ ks) fs ≡ says vs
     → after v (λ n. lineFrom (fieldsOf k n ++ ks) fs) (lineFrom ks fs) ≡ says (v ∷ vs)
 said-on k ks fs (plainly s n) vs h e = ap (with (plainly s n)) e
 said-on k ks fs (naming n) vs h e = ap (with (naming n)) e
@@ -26,22 +26,22 @@ from-spelled [] [] h = refl
 from-spelled [] (v ∷ vs) h = absurd h
 from-spelled (k ∷ ks) [] h = absurd h
 from-spelled (k ∷ ks) (v ∷ vs) h =
-    let fs : List (List ℕ) = fieldsFrom (following k v ++ ks) vs in
+    let fs : List (List ℕ) = fieldsFrom (nextKinds k v ++ ks) vs in
     ap (λ (x : Said). after x (λ n. lineFrom (fieldsOf k n ++ ks) fs) (lineFrom ks fs)) (said-spelled k v (h .0))
-    ∙ said-on k ks fs v vs (h .0) (from-spelled (following k v ++ ks) vs (h .1))
+    ∙ said-on k ks fs v vs (h .0) (from-spelled (nextKinds k v ++ ks) vs (h .1))
 
 solid-from : (ks : List Kind) (vs : List Said) → Fits ks vs → Solid (fieldsFrom ks vs)
 solid-from [] [] h = tt
 solid-from [] (v ∷ vs) h = absurd h
 solid-from (k ∷ ks) [] h = absurd h
-solid-from (k ∷ ks) (v ∷ vs) h = (field-solid k v (h .0), solid-from (following k v ++ ks) vs (h .1))
+solid-from (k ∷ ks) (v ∷ vs) h = (field-solid k v (h .0), solid-from (nextKinds k v ++ ks) vs (h .1))
 
 pub line-spelled : (vs : List Said) → Fits (kind.Instruction ∷ []) vs → lineOf (spell vs) ≡ says vs
 unfolding lineOf spell
 line-spelled [] h = absurd h
 line-spelled (v ∷ vs) h =
     let ks : List Kind = kind.Instruction ∷ [] in
-    let fs : List (List ℕ) = fieldsFrom (following kind.Instruction v ++ []) vs in
+    let fs : List (List ℕ) = fieldsFrom (nextKinds kind.Instruction v ++ []) vs in
     ap (lineFrom ks) (fields-joined (spelled kind.Instruction v) fs (solid-from ks (v ∷ vs) h)) ∙ from-spelled ks (v ∷ vs) h
 
 -- a spelling and a line feed are the first line of a text that begins with them
@@ -60,14 +60,14 @@ naming-some e = let z : _≡_ {A = ℕ} 0 1 = cc in absurd (omega arith)
 
 -- what a line says with v first
 module _ (k : Kind) (ks : List Kind) (f : List ℕ) (fs : List (List ℕ)) (v : Said) (vs : List Said) (e : said k f ≡ v) (h : v ≡ nothing → ⊥) where
-  first : (p : Parsed) → with v p ≡ says vs → ((ws : List Said) → p ≡ says ws → Fits (following k v ++ ks) ws × (fs ≡ fieldsFrom (following k v ++ ks) ws))
+  first : (p : Parsed) → with v p ≡ says vs → ((ws : List Said) → p ≡ says ws → Fits (nextKinds k v ++ ks) ws × (fs ≡ fieldsFrom (nextKinds k v ++ ks) ws))
       → Fits (k ∷ ks) vs × (f ∷ fs ≡ fieldsFrom (k ∷ ks) vs)
   first (says ws) q next =
       let r : v ∷ ws ≡ vs = cc in
       let d = spelled-said k f v e h in
       let n = next ws refl in
       let g : f ≡ spelled k v = d .0 in
-      let gs : fs ≡ fieldsFrom (following k v ++ ks) ws = n .1 in
+      let gs : fs ≡ fieldsFrom (nextKinds k v ++ ks) ws = n .1 in
       rw (← r) ((d .1, n .0), (λ i. g i ∷ gs i))
   first no q next = absurd (no-says q)
 
