@@ -4,7 +4,7 @@
 ghost use mathlib.Core.Path.{_≡_};
 ghost use Prim.Native.Nat.{_+_, _^_, _≤_, _<_};
 ghost use lib.ListN.{length, replicate};
-ghost use Rattle.sheets.specs.Within.{noHeader, Within};
+ghost use Rattle.sheets.specs.Headers.{noHeader, headerOf, headerIn, Within};
 
 fn list_places() -> [u8; 1048576]
     ensures { λ r. ⌜ (r ≡ replicate 1048576 0) × (1048576 ≡ length r) ⌝ }
@@ -55,7 +55,7 @@ fn no_header() -> Header
 // The sheet's bytes come after the header's LF, which stands at `line`, so many bytes before the list's end.
 fn header_of(line: usize, left: usize, bytes: usize, places: usize, room: usize) -> Header
     requires { ⌜ line + left < 2 ^ 64 ⌝ }
-    ensures { λ r. ⌜ Within line (line + left) r ⌝ }
+    ensures { λ r. ⌜ (r ≡ headerOf line left bytes places room) × Within line (line + left) r ⌝ }
 {
     if left <= bytes {
         return no_header();
@@ -79,7 +79,7 @@ fn header_of(line: usize, left: usize, bytes: usize, places: usize, room: usize)
 // The header that begins at `from`: three numbers, none below 0.
 fn read_header(list: &[u8], from: usize) -> Header
     requires { ⌜ from < length (now list) ⌝ }
-    ensures { λ r. ⌜ Within from (length (now (list .entry))) r ⌝ }
+    ensures { λ r. ⌜ (r ≡ headerIn (now (list .entry)) from) × Within from (length (now (list .entry))) r ⌝ }
 {
     let line = text::line_end(list, from);
     let n = text::read_numbers(&list[from..line]);

@@ -44,17 +44,33 @@ pub fn check() -> usize {
 }
 
 fn differing(what: &str, examples: &[Example], answer_line: fn(&[u8]) -> String) -> usize {
-    let mut different = 0;
-    for example in examples {
-        let answer = answer_line(example.line.as_bytes());
-        if answer != example.answer {
+    let outcomes = examples.iter().map(|example| Outcome {
+        text: example.text,
+        by_hand: example.answer.to_string(),
+        answer: answer_line(example.line.as_bytes()),
+    });
+    count_different(what, "the Rust", outcomes)
+}
+
+pub struct Outcome {
+    pub text: &'static str,
+    pub by_hand: String,
+    pub answer: String,
+}
+
+/// Prints the outcomes that differ, and how many.
+pub fn count_different(what: &str, judge: &str, outcomes: impl Iterator<Item = Outcome>) -> usize {
+    let (mut all, mut different) = (0, 0);
+    for outcome in outcomes {
+        all += 1;
+        if outcome.answer != outcome.by_hand {
             different += 1;
             println!(
-                "{}: by hand {}, by the Rust {answer}",
-                example.text, example.answer
+                "{}: by hand {:?}, by {judge} {:?}",
+                outcome.text, outcome.by_hand, outcome.answer
             );
         }
     }
-    println!("{} {what}, {different} different", examples.len());
+    println!("{all} {what}, {different} different");
     different
 }

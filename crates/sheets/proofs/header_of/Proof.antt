@@ -1,25 +1,45 @@
 use borrow.Author.Needs.{needs}
 use Rattle.sheets.proofs.header_of.Statement.{statement}
 use Rattle.sheets.proofs.header_of.Tie as tie
-use Rattle.sheets.specs.Within.{none-within}
+use mathlib.Core.Path.{_≡_, sym, _∙_}
+use borrow.Author.Tests.{lt-ltb, le-ltb, le-leb, lt-leb}
+use Rattle.sheets.specs.Headers.{headerOf, none-within}
 
 no-header-requires : tie.Need-no-header-requires
 no-header-requires c κs = search needs
 
 returns : tie.Need-returns
-returns c = none-within (c .before .before .args .line) _ _ (c .no-header .ensures)
+unfolding headerOf
+returns c =
+    let a = c .before .before .args in
+    (c .no-header .ensures ∙ rw (le-ltb (a .bytes) (a .left) (c .before .if1 .taken)), none-within (a .line) _ _ (c .no-header .ensures))
 
 no-header-requires-2 : tie.Need-no-header-requires-2
 no-header-requires-2 c κs = search needs
 
 returns-2 : tie.Need-returns-2
-returns-2 c = none-within (c .before .before .before .args .line) _ _ (c .no-header2 .ensures)
+unfolding headerOf
+returns-2 c =
+    let a = c .before .before .before .args in (
+      c .no-header2 .ensures ∙ rw (lt-ltb (a .bytes) (a .left) (c .before .before .if1 .left), lt-leb (a .places) 4096 (c .before .if2 .taken)),
+      none-within (a .line) _ _ (c .no-header2 .ensures),
+    )
 
 no-header-requires-3 : tie.Need-no-header-requires-3
 no-header-requires-3 c κs = search needs
 
 returns-3 : tie.Need-returns-3
-returns-3 c = none-within (c .before .before .before .before .args .line) _ _ (c .no-header3 .ensures)
+unfolding headerOf
+returns-3 c =
+    let a = c .before .before .before .before .args in (
+      c .no-header3 .ensures
+          ∙ rw (
+            lt-ltb (a .bytes) (a .left) (c .before .before .before .if1 .left),
+            le-leb (a .places) 4096 (c .before .before .if2 .left),
+            lt-leb (a .room) 45056 (c .before .if3 .taken),
+          ),
+      none-within (a .line) _ _ (c .no-header3 .ensures),
+    )
 
 add-begin : tie.Need-add-begin
 add-begin c = search needs
@@ -28,7 +48,10 @@ add-t8 : tie.Need-add-t8
 add-t8 c = search needs
 
 returns-4 : tie.Need-returns-4
-returns-4 c = search needs
+unfolding headerOf
+returns-4 c =
+    let a = c .before .before .before .args in
+    (rw (lt-ltb (a .bytes) (a .left) (c .before .before .if1 .left), le-leb (a .places) 4096 (c .before .if2 .left), le-leb (a .room) 45056 (c .if3 .left)), search needs)
 
 pub header-of-spec : {M : Type 1} → statement M
 header-of-spec =

@@ -65,7 +65,7 @@ print-sheet-requires : tie.Need-print-sheet-requires Inv-loop μ-loop
 print-sheet-requires c κs = omega arith
 
 loop-less : tie.Need-loop-less Inv-loop μ-loop
-loop-less c = omega (arith, c .before .before .before .before .before .before .before .before .before .before .read-header .ensures .onward (not-false _ (c .before .before .before .before .before .before .before .before .if1 .left)))
+loop-less c = omega (arith, c .before .before .before .before .before .before .before .before .before .before .read-header .ensures .1 .onward (not-false _ (c .before .before .before .before .before .before .before .before .if1 .left)))
 
 loop-again : tie.Need-loop-again Inv-loop μ-loop
 loop-again c =

@@ -2,7 +2,8 @@ use borrow.Author.Needs.{needs}
 use Rattle.sheets.proofs.read_header.Statement.{statement}
 use Rattle.sheets.proofs.read_header.Tie as tie
 use native.Mathlib.Omega.{arith}
-use Rattle.sheets.specs.Within.{none-within, widen}
+use mathlib.Core.Path.{_∙_}
+use Rattle.sheets.specs.Headers.{header-yes, header-no, none-within, widen}
 
 line-end-requires : tie.Need-line-end-requires
 line-end-requires c κs = search needs
@@ -44,13 +45,22 @@ header-of-requires : tie.Need-header-of-requires
 header-of-requires c κs = search needs
 
 returns : tie.Need-returns
-returns c = widen (c .header-of .ensures) (omega arith) (omega arith)
+returns c =
+    let b = c .before .before .before .before in
+    let n = b .before .before .before .before in
+    let l = n .before .before in
+    let a = l .before .before .args in
+    (c .header-of .ensures .0 ∙ header-yes (a .list .now) (a .from) (l .line-end .result) (n .read-numbers .result) (l .line-end .ensures .0) (n .read-numbers .ensures) (b .if1 .taken), widen (c .header-of .ensures .1) (omega arith) (omega arith))
 
 no-header-requires : tie.Need-no-header-requires
 no-header-requires c κs = search needs
 
 returns-2 : tie.Need-returns-2
-returns-2 c = none-within (c .before .before .before .before .before .before .before .before .before .args .from) _ _ (c .no-header .ensures)
+returns-2 c =
+    let n = c .before .before .before .before .before in
+    let l = n .before .before in
+    let a = l .before .before .args in
+    (c .no-header .ensures ∙ header-no (a .list .now) (a .from) (l .line-end .result) (n .read-numbers .result) (l .line-end .ensures .0) (n .read-numbers .ensures) (c .before .if1 .left), none-within (a .from) _ _ (c .no-header .ensures))
 
 pub read-header-spec : {M : Type 1} → statement M
 read-header-spec =

@@ -2,6 +2,7 @@
 
 use super::answer::answer;
 use super::record::Record;
+use crate::manual::{count_different, Outcome};
 
 const SHEETS: &str = include_str!("../../sheets.txt");
 
@@ -42,18 +43,10 @@ fn spelled_out(text: &str) -> String {
 
 /// Checks every example; gives how many differ.
 pub fn check() -> usize {
-    let examples = examples();
-    let mut different = 0;
-    for example in &examples {
-        let answer = answer(&example.record);
-        if answer != example.answer {
-            different += 1;
-            println!(
-                "{}: by hand {:?}, by the judge {answer:?}",
-                example.what, example.answer
-            );
-        }
-    }
-    println!("{} sheets, {different} different", examples.len());
-    different
+    let outcomes = examples().into_iter().map(|example| Outcome {
+        text: example.what,
+        answer: answer(&example.record),
+        by_hand: example.answer,
+    });
+    count_different("sheets", "the judge", outcomes)
 }
