@@ -1,13 +1,3 @@
 pub mod Field
-pub mod Item
 pub mod ExtensionWord
 pub mod Code
-pub mod Ea
-pub mod Movement
-pub mod Arithmetic
-pub mod Logic
-pub mod Bits
-pub mod Control
-pub mod System
-pub mod Instruction
-pub mod Encode

@@ -22,14 +22,14 @@ use Rattle.isa.specs.declared.BranchOperation.the-variants.{BRA}
 use Rattle.isa.specs.declared.Instruction.{Instruction}
 use Rattle.isa.specs.declared.Instruction.the-variants.{Quick, Pair, UnsizedIntoRegister, OneOperand, Branch, SWAP, BF, MULL}
 use Rattle.isa.specs.Field.{holds, ranges}
-use Rattle.isa.specs.Item.{fine}
-use Rattle.isa.specs.Encode.{encodedAs, encodeOf, sizeOf}
-use Rattle.isa.specs.Ea.{permits, byteOfAddress, single, withAddress}
-use Rattle.isa.specs.Movement.{moveParts}
-use Rattle.isa.specs.Arithmetic.{quickParts, mullParts, swapParts}
-use Rattle.isa.specs.Bits.{bitFieldParts}
-use Rattle.isa.specs.Control.{branchParts}
-use Rattle.isa.specs.Instruction.{pairParts, unsizedRegisterParts, oneParts, branchesParts}
+use Rattle.encode_spec.specs.Item.{fine}
+use Rattle.encode_spec.specs.Encode.{encodedAs, encodeOf, sizeOf}
+use Rattle.encode_spec.specs.Ea.{permits, byteOfAddress, single, withAddress}
+use Rattle.encode_spec.specs.Movement.{moveParts}
+use Rattle.encode_spec.specs.Arithmetic.{quickParts, mullParts, swapParts}
+use Rattle.encode_spec.specs.Bits.{bitFieldParts}
+use Rattle.encode_spec.specs.Control.{branchParts}
+use Rattle.encode_spec.specs.Instruction.{pairParts, unsizedRegisterParts, oneParts, branchesParts}
 
 -- an instruction at an address has these words, or is refused by number 2 with this field and value
 abbrev Has : Instruction → ℕ → List ℕ → Type 0

@@ -13,8 +13,8 @@ use Rattle.isa.specs.declared.Instruction.{Instruction}
 use Rattle.isa.specs.declared.Encoded.{Encoded}
 use Rattle.isa.specs.declared.Measured.{Measured}
 use Rattle.isa.specs.Field.{holds}
-use Rattle.isa.specs.Item.{Item, Verdict, fine, malformed, outOfRange, noEncoding, word, check, range, unless, ranged, countOf, wordsIn, orElse, failure}
-use Rattle.isa.specs.Encode.{itemsOf, wordsOf, refusalOf, padded, refusedWords, encodedAs, encodeOf, measuredAs, sizeOf, bytesIn, short, bytesAs, bytesOf, lentAs, lentOf}
+use Rattle.encode_spec.specs.Item.{Item, Verdict, fine, malformed, outOfRange, noEncoding, word, check, range, unless, ranged, countOf, wordsIn, orElse, failure}
+use Rattle.encode_spec.specs.Encode.{itemsOf, wordsOf, refusalOf, padded, refusedWords, encodedAs, encodeOf, measuredAs, sizeOf, bytesIn, short, bytesAs, bytesOf, lentAs, lentOf}
 use Rattle.m68k.specs.Lays.{alike-count, alike-failure, instruction-lays}
 
 -- ---- lists of items

@@ -62,16 +62,16 @@ use Rattle.isa.specs.declared.QuickOperation.{QuickOperation}
 use Rattle.isa.specs.declared.Instruction.{Instruction}
 use Rattle.isa.specs.declared.Instruction.the-variants.{IntoRegister, MOVEM, Transfer, Pair, Quick, MOVEQ, ImmediateInto, WordIntoData, SWAP, EXG, UnsizedIntoRegister, UnsizedOne, UnsizedPair, EXT, OneOperand, Bcc, Scc, DBcc, Branch, Link, UNLK, Shift, Vector, Status, ConditionCode, MOVEUSP, Raw, Plain, RTD, MOVEC, TRAPcc, MULL, Pack, CAS, CAS2, BF, DIVL}
 use Rattle.isa.specs.Code.{sizeCode}
-use Rattle.isa.specs.Movement.{moveParts, moveaParts, movemParts, movepParts, movepItems, moveqParts, exgParts, linkParts, linklParts, unlkParts}
-use Rattle.isa.specs.Arithmetic.{immediateParts, quickParts, intoDataParts, arithmeticParts, intoAddressParts, boundsParts, extendedParts, cmpmParts, mullParts, divlParts, tstParts, extParts, swapParts}
-use Rattle.isa.specs.Logic.{logicalParts, shiftParts, shiftRegisterParts, shiftMemoryParts, countItems}
-use Rattle.isa.specs.Bits.{bitParts, dynamicParts, staticParts, bitFieldParts, packParts}
-use Rattle.isa.specs.Control.{branchParts, bccParts, dbccParts, sccParts, trapccParts, rtdParts, relativeWord, relativeLong, shortBranch}
-use Rattle.isa.specs.System.{statusParts, conditionCodeParts, vectorParts, moveuspParts, movecParts, movesParts, casParts, cas2Parts, rawParts, plainParts}
-use Rattle.isa.specs.Instruction.{partsOf, registerParts, transferParts, pairParts, wordParts, unsizedRegisterParts, unsizedOneParts, unsizedPairParts, oneParts, branchesParts, linksParts, packsParts}
+use Rattle.encode_spec.specs.Movement.{moveParts, moveaParts, movemParts, movepParts, movepItems, moveqParts, exgParts, linkParts, linklParts, unlkParts}
+use Rattle.encode_spec.specs.Arithmetic.{immediateParts, quickParts, intoDataParts, arithmeticParts, intoAddressParts, boundsParts, extendedParts, cmpmParts, mullParts, divlParts, tstParts, extParts, swapParts}
+use Rattle.encode_spec.specs.Logic.{logicalParts, shiftParts, shiftRegisterParts, shiftMemoryParts, countItems}
+use Rattle.encode_spec.specs.Bits.{bitParts, dynamicParts, staticParts, bitFieldParts, packParts}
+use Rattle.encode_spec.specs.Control.{branchParts, bccParts, dbccParts, sccParts, trapccParts, rtdParts, relativeWord, relativeLong, shortBranch}
+use Rattle.encode_spec.specs.System.{statusParts, conditionCodeParts, vectorParts, moveuspParts, movecParts, movesParts, casParts, cas2Parts, rawParts, plainParts}
+use Rattle.encode_spec.specs.Instruction.{partsOf, registerParts, transferParts, pairParts, wordParts, unsizedRegisterParts, unsizedOneParts, unsizedPairParts, oneParts, branchesParts, linksParts, packsParts}
 use Rattle.isa.specs.ExtensionWord.{pick, isFull, baseSize, outerSize}
-use Rattle.isa.specs.Item.{Item, Part, Verdict, noEncoding, dataVerdict, operation, word, check, range, fixed, countOf, laid, placed, failure}
-use Rattle.isa.specs.Ea.{immediateWords, displacementItems, fullItems, scaledItems, baseDisplacement, eaItems, effective, single, withData, withAddress, fromData, eaField, isRegister, isImmediate, registerIn, immediateIn, memoryAlterable, dataModes}
+use Rattle.encode_spec.specs.Item.{Item, Part, Verdict, noEncoding, dataVerdict, operation, word, check, range, fixed, countOf, laid, placed, failure}
+use Rattle.encode_spec.specs.Ea.{immediateWords, displacementItems, fullItems, scaledItems, baseDisplacement, eaItems, effective, single, withData, withAddress, fromData, eaField, isRegister, isImmediate, registerIn, immediateIn, memoryAlterable, dataModes}
 
 -- the same words and checks in the same order, whatever the words hold and the ranges ask
 abbrev pub Alike : List Item → List Item → Type 0

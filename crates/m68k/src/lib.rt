@@ -4,15 +4,15 @@ ghost use mathlib.Core.Bool.{true, false};
 ghost use mathlib.Core.List.{_++_};
 ghost use Prim.Native.Nat.{_*_, _/_, _%_, _≤_, _<_};
 ghost use lib.ListN.{length, take, drop};
-ghost use Rattle.isa.specs.Encode.{encodedAs, refusalOf, wordsOf, encodeOf, sizeOf, bytesOf, lentOf, bytesIn};
-ghost use Rattle.state.specs.Laws.{finished};
+ghost use Rattle.encode_spec.specs.Encode.{encodedAs, refusalOf, wordsOf, encodeOf, sizeOf, bytesOf, lentOf, bytesIn};
+ghost use Rattle.encode_state.specs.Laws.{finished};
 ghost use Rattle.m68k.specs.Laws.{measured};
-ghost use Rattle.opcode.specs.Read.{readOf};
+ghost use Rattle.read_spec.specs.Read.{readOf};
+use encode_state::Encoder;
 use isa::Encoded;
 use isa::Instruction;
 use isa::Measured;
-use opcode::Reading;
-use state::Encoder;
+use read_spec::Reading;
 
 // The words, or the refusal without words.
 pub fn finish(e: Encoder) -> Encoded
@@ -68,7 +68,7 @@ fn put_bytes(lent: &mut [u8], words: [u16; 11], count: usize)
 fn encoded(instruction: Instruction, address: u32, check: bool) -> Encoded
     ensures { λ r. ⌜ (r ≡ encodedAs (refusalOf check instruction address) (wordsOf instruction address)) × (r .count < 12) ⌝ }
 {
-    finish(instructions::instruction_words(state::begin(address, check), instruction))
+    finish(encode_instruction::instruction_words(encode_state::begin(address, check), instruction))
 }
 
 // The words of an instruction at an address.
@@ -124,5 +124,5 @@ pub fn encode_bytes(instruction: Instruction, address: u32, lent: &mut [u8]) -> 
 pub fn read(words: &[u16], address: u32) -> Reading
     ensures { λ r. ⌜ r ≡ readOf (now (words .entry)) address ⌝ }
 {
-    reader::read(words, address)
+    read_instruction::read(words, address)
 }

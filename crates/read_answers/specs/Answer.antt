@@ -4,14 +4,14 @@ use mathlib.Core.List.{List, [], _∷_, _++_}
 use Prim.Native.Nat.{ℕ}
 use lib.IntN.{ℤ, pos}
 use lib.ListN.{take}
-use Rattle.text.specs.Written.{decimalOf, signedOf}
-use Rattle.lines.specs.Wrote.{tab, refusedText, notInForm}
-use Rattle.numeric.specs.Form.{numbersOf}
-use Rattle.opcode.specs.declared.Reading.{Reading}
-use Rattle.opcode.specs.declared.Reading.the-variants.{Read, Short, Nothing}
-use Rattle.opcode.specs.Read.{readOf, readingNumber}
-use Rattle.runs.specs.declared.Run.{Run}
-use Rattle.runs.specs.Run.{runOf}
+use Rattle.base_text.specs.Written.{decimalOf, signedOf}
+use Rattle.base_text.specs.Wrote.{tab, refusedText, notInForm}
+use Rattle.numeric_build.specs.Form.{numbersOf}
+use Rattle.read_spec.specs.declared.Reading.{Reading}
+use Rattle.read_spec.specs.declared.Reading.the-variants.{Read, Short, Nothing}
+use Rattle.read_spec.specs.Read.{readOf, readingNumber}
+use Rattle.read_runs.specs.declared.Run.{Run}
+use Rattle.read_runs.specs.Run.{runOf}
 
 -- each number, and a tab
 abbrev pub numbersText : List ℤ → List ℕ

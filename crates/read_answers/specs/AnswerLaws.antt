@@ -9,15 +9,15 @@ use lib.IntN.{ℤ, pos, negsuc, natAbs}
 use lib.ListN.{length, take, getD, List·getD-map}
 use lib.Seq.{take-suc, take-length}
 use Rattle.isa.specs.declared.Instruction.{Instruction}
-use Rattle.text.specs.Written.{decimalOf, signedOf}
-use Rattle.lines.specs.Wrote.{tab, notInForm}
-use Rattle.fields.specs.declared.Numbers.{Numbers}
-use Rattle.fields.specs.Form.{Entry, unsigned, numberOf, isNegative, pad, numbersFrom}
-use Rattle.numeric.specs.Form.{formOf, numbersOf}
-use Rattle.numeric.specs.RoundTrip.{form-length}
-use Rattle.runs.specs.declared.Run.{Run}
-use Rattle.runs.specs.Run.{runOf}
-use Rattle.runs.specs.RunLaws.{run-count, run-places}
+use Rattle.base_text.specs.Written.{decimalOf, signedOf}
+use Rattle.base_text.specs.Wrote.{tab, notInForm}
+use Rattle.numeric_fields.specs.declared.Numbers.{Numbers}
+use Rattle.numeric_fields.specs.Form.{Entry, unsigned, numberOf, isNegative, pad, numbersFrom}
+use Rattle.numeric_build.specs.Form.{formOf, numbersOf}
+use Rattle.numeric_build.specs.RoundTrip.{form-length}
+use Rattle.read_runs.specs.declared.Run.{Run}
+use Rattle.read_runs.specs.Run.{runOf}
+use Rattle.read_runs.specs.RunLaws.{run-count, run-places}
 use Rattle.read_answers.specs.Answer.{numbersText, readText, runText, readAnswerOf}
 use Rattle.read_answers.specs.Put.{numberText, firstNumbers, putText}
 

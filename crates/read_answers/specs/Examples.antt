@@ -1,12 +1,12 @@
 -- The definition at work.
 use mathlib.Core.Path.{_≡_, refl}
 use mathlib.Core.List.{[], _∷_}
-use Rattle.text.specs.Written.{decimalOf}
-use Rattle.lines.specs.Wrote.{refusedText}
-use Rattle.numeric.specs.Form.{formOf, numbersOf}
-use Rattle.opcode.specs.Map.{map, shapeAt}
-use Rattle.opcode.specs.Read.{readOf}
-use Rattle.runs.specs.Run.{keptRun, noRun, runOf}
+use Rattle.base_text.specs.Written.{decimalOf}
+use Rattle.base_text.specs.Wrote.{refusedText}
+use Rattle.numeric_build.specs.Form.{formOf, numbersOf}
+use Rattle.read_spec.specs.Map.{map, shapeAt}
+use Rattle.read_spec.specs.Read.{readOf}
+use Rattle.read_runs.specs.Run.{keptRun, noRun, runOf}
 use Rattle.read_answers.specs.Answer.{readText, runText, readAnswerOf}
 
 -- 0⇥4e71 prints 81⇥=>⇥2

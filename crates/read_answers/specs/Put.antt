@@ -3,9 +3,9 @@ use mathlib.Core.Bool.{Bool, false, cond}
 use mathlib.Core.List.{List, [], _∷_, _++_}
 use Prim.Native.Nat.{ℕ, zero, suc}
 use lib.ListN.{getD}
-use Rattle.text.specs.Written.{decimalOf}
-use Rattle.lines.specs.Wrote.{tab}
-use Rattle.fields.specs.declared.Numbers.{Numbers}
+use Rattle.base_text.specs.Written.{decimalOf}
+use Rattle.base_text.specs.Wrote.{tab}
+use Rattle.numeric_fields.specs.declared.Numbers.{Numbers}
 
 -- `-` where it is negative
 abbrev pub signText : Bool → List ℕ

@@ -4,14 +4,14 @@ use mathlib.Core.Bool.{Bool, true, false, cond, _&&_}
 use mathlib.Core.List.{List, [], _∷_}
 use Prim.Native.Nat.{ℕ}
 use lib.ListN.{take}
-use Rattle.text.specs.Parts.{fields}
-use Rattle.text.specs.Number.{numberOf}
-use Rattle.text.specs.Numbers.{magnitudeOf}
-use Rattle.lines.specs.Wrote.{notInForm}
-use Rattle.opcode.specs.Read.{readOf}
-use Rattle.reads.specs.Kept.{read-kept}
-use Rattle.runs.specs.Run.{isAddress, allWords, wordsIn, keptRun, noRun, runIn, runOf}
-use Rattle.runs.specs.RunLaws.{kept-words}
+use Rattle.base_text.specs.Parts.{fields}
+use Rattle.base_text.specs.Number.{numberOf}
+use Rattle.base_text.specs.Numbers.{magnitudeOf}
+use Rattle.base_text.specs.Wrote.{notInForm}
+use Rattle.read_spec.specs.Read.{readOf}
+use Rattle.read_laws.specs.Kept.{read-kept}
+use Rattle.read_runs.specs.Run.{isAddress, allWords, wordsIn, keptRun, noRun, runIn, runOf}
+use Rattle.read_runs.specs.RunLaws.{kept-words}
 use Rattle.read_answers.specs.Answer.{readingText, runText, readAnswerOf}
 
 -- the fields of a line: an address, then words

@@ -2,22 +2,22 @@
 ghost use mathlib.Core.Path.{_≡_};
 ghost use Prim.Native.Nat.{_+_, _≤_};
 ghost use lib.ListN.{length};
-ghost use Rattle.text.specs.Written.{placed};
-ghost use Rattle.lines.specs.Wrote.{Wrote};
-ghost use Rattle.lines.specs.Lines.{Answered};
+ghost use Rattle.base_text.specs.Written.{placed};
+ghost use Rattle.base_text.specs.Wrote.{Wrote};
+ghost use Rattle.base_text.specs.Lines.{Answered};
 ghost use Rattle.read_answers.specs.Answer.{refusalText, readingText, runText, readAnswerOf};
 ghost use Rattle.read_answers.specs.Put.{signText, numberText, firstNumbers, putText};
-use fields::Numbers;
-use lines::Step;
-use opcode::Reading;
-use runs::Run;
+use base_text::Step;
+use numeric_fields::Numbers;
+use read_runs::Run;
+use read_spec::Reading;
 
 fn put_sign(out: &mut [u8], at: usize, negative: bool) -> usize
     requires { ⌜ at + 1 ≤ length (now out) ⌝ }
     ensures { λ r. ⌜ Wrote (now (out .entry)) at (signText negative) (now (out .exit)) r × (r ≤ at + 1) ⌝ }
 {
     if negative {
-        return text::put_byte(out, at, b'-');
+        return base_text::put_byte(out, at, b'-');
     }
     at
 }
@@ -28,8 +28,8 @@ fn put_number(out: &mut [u8], at: usize, negative: bool, magnitude: u64) -> usiz
     ensures { λ r. ⌜ Wrote (now (out .entry)) at (numberText negative magnitude) (now (out .exit)) r × (r ≤ at + 22) ⌝ }
 {
     let mut next = put_sign(out, at, negative);
-    next = text::put_decimal(out, next, magnitude);
-    text::put_byte(out, next, b'\t')
+    next = base_text::put_decimal(out, next, magnitude);
+    base_text::put_byte(out, next, b'\t')
 }
 
 // At most 17 numbers of at most 22 bytes.
@@ -53,9 +53,9 @@ fn put_read(out: &mut [u8], at: usize, numbers: Numbers, bytes: u32) -> usize
     ensures { λ r. ⌜ Wrote (now (out .entry)) at (putText numbers bytes) (now (out .exit)) r × (r ≤ at + 398) ⌝ }
 {
     let mut next = put_numbers(out, at, numbers);
-    next = text::put(out, next, b"=>\t");
-    next = text::put_decimal(out, next, bytes as u64);
-    text::put_byte(out, next, b'\n')
+    next = base_text::put(out, next, b"=>\t");
+    next = base_text::put_decimal(out, next, bytes as u64);
+    base_text::put_byte(out, next, b'\n')
 }
 
 // A refusal with no detail and no value.
@@ -63,8 +63,8 @@ fn put_refused(out: &mut [u8], at: usize, number: u8) -> usize
     requires { ⌜ at + 37 ≤ length (now out) ⌝ }
     ensures { λ r. ⌜ Wrote (now (out .entry)) at (refusalText number) (now (out .exit)) r × (r ≤ at + 37) ⌝ }
 {
-    let next = lines::put_refusal(out, at, number, 0, 0);
-    text::put_byte(out, next, b'\n')
+    let next = base_text::put_refusal(out, at, number, 0, 0);
+    base_text::put_byte(out, next, b'\n')
 }
 
 fn put_reading(out: &mut [u8], at: usize, reading: Reading) -> usize
@@ -72,7 +72,7 @@ fn put_reading(out: &mut [u8], at: usize, reading: Reading) -> usize
     ensures { λ r. ⌜ Wrote (now (out .entry)) at (readingText reading) (now (out .exit)) r × (r ≤ at + 398) ⌝ }
 {
     match reading {
-        Reading::Read(i, n) => put_read(out, at, numbered::numbers(i), n),
+        Reading::Read(i, n) => put_read(out, at, numeric_numbers::numbers(i), n),
         Reading::Short => put_refused(out, at, 5),
         Reading::Nothing => put_refused(out, at, 6),
     }
@@ -92,11 +92,11 @@ pub fn answer(line: &[u8], out: &mut [u8], at: usize) -> usize
     requires { ⌜ at + 398 ≤ length (now out) ⌝ }
     ensures { λ r. ⌜ (r ≡ at + length (readAnswerOf (now (line .entry)))) × (now (out .exit) ≡ placed (now (out .entry)) at (readAnswerOf (now (line .entry)))) × (r ≤ at + 398) ⌝ }
 {
-    let run = runs::read_run(line);
+    let run = read_runs::read_run(line);
     if run.ok {
         put_run(out, at, run)
     } else {
-        lines::put_not_in_form(out, at)
+        base_text::put_not_in_form(out, at)
     }
 }
 
@@ -110,7 +110,7 @@ pub fn answers(text: &[u8], from: usize, out: &mut [u8]) -> Step
         if out.len() - at < 512 {
             return Step { next, count: at };
         }
-        let e = text::line_end(text, next);
+        let e = base_text::line_end(text, next);
         at = answer(&text[next..e], out, at);
         next = e + 1;
     }

@@ -3,8 +3,8 @@
 ghost use mathlib.Core.Path.{_≡_};
 ghost use Prim.Native.Nat.{_≤_};
 ghost use lib.ListN.{length, replicate};
-ghost use Rattle.text.specs.Written.{placed};
-ghost use Rattle.printed.specs.Printed.{printedOf};
+ghost use Rattle.base_text.specs.Written.{placed};
+ghost use Rattle.sheet_print.specs.Printed.{printedOf};
 
 fn text_places() -> [u8; 65536]
     ensures { λ r. ⌜ (r ≡ replicate 65536 0) × (65536 ≡ length r) ⌝ }
@@ -38,7 +38,7 @@ fn listing(text: &[u8], out: &mut [u8]) -> usize
 {
     let mut image = image_places();
     let mut scratch = scratch_places();
-    printed::print(text, &mut image, &mut scratch, out)
+    sheet_print::print(text, &mut image, &mut scratch, out)
 }
 
 fn print_sheet(text: &[u8]) {
@@ -50,7 +50,7 @@ fn print_sheet(text: &[u8]) {
 // What is printed for a longer text.
 fn print_longer() {
     let mut out = output_places();
-    let n = printed::put_refusal(&mut out, 10, 0, 0, 0);
+    let n = sheet_print::put_refusal(&mut out, 10, 0, 0, 0);
     io::write_all(1, &out[..n]);
 }
 

@@ -81,8 +81,8 @@ fn read_header(list: &[u8], from: usize) -> Header
     requires { ⌜ from < length (now list) ⌝ }
     ensures { λ r. ⌜ (r ≡ headerIn (now (list .entry)) from) × Within from (length (now (list .entry))) r ⌝ }
 {
-    let line = text::line_end(list, from);
-    let n = text::read_numbers(&list[from..line]);
+    let line = base_text::line_end(list, from);
+    let n = base_text::read_numbers(&list[from..line]);
     if n.ok & (n.count == 3) & !n.negative[0] & !n.negative[1] & !n.negative[2] {
         return header_of(
             line,
@@ -98,8 +98,8 @@ fn read_header(list: &[u8], from: usize) -> Header
 fn print_sheet(sheet: &[u8], image: &mut [u16], scratch: &mut [u32], out: &mut [u8])
     requires { ⌜ 282625 ≤ length (now out) ⌝ }
 {
-    let n = printed::print(sheet, image, scratch, out);
-    let end = text::put_byte(out, n, b'\n');
+    let n = sheet_print::print(sheet, image, scratch, out);
+    let end = base_text::put_byte(out, n, b'\n');
     io::write_all(1, &out[..end]);
 }
 

@@ -1,7 +1,7 @@
 use borrow.Author.Needs.{needs}
 use Rattle.m68k.proofs.encode.Statement.{statement}
 use Rattle.m68k.proofs.encode.Tie as tie
-use Rattle.isa.specs.Encode.{encodeOf}
+use Rattle.encode_spec.specs.Encode.{encodeOf}
 
 encoded-requires : tie.Need-encoded-requires
 encoded-requires c κs = search needs

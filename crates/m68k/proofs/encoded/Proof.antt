@@ -3,9 +3,9 @@ use Rattle.m68k.proofs.encoded.Statement.{statement}
 use Rattle.m68k.proofs.encoded.Tie as tie
 use native.Mathlib.Omega.{arith}
 use mathlib.Core.Path.{_≡_}
-use Rattle.isa.specs.Encode.{encodedAs, refusalOf, wordsOf}
-use Rattle.isa.specs.Instruction.{partsOf}
-use Rattle.state.specs.Laws.{view}
+use Rattle.encode_spec.specs.Encode.{encodedAs, refusalOf, wordsOf}
+use Rattle.encode_spec.specs.Instruction.{partsOf}
+use Rattle.encode_state.specs.Laws.{view}
 use Rattle.m68k.specs.Laws.{few, count-most}
 
 begin-requires : tie.Need-begin-requires

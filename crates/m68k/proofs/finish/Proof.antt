@@ -2,7 +2,7 @@ use borrow.Author.Needs.{needs}
 use Rattle.m68k.proofs.finish.Statement.{statement}
 use Rattle.m68k.proofs.finish.Tie as tie
 use borrow.Author.Tests.{eq-eqb, ne-eqb}
-use Rattle.state.specs.Laws.{finished}
+use Rattle.encode_state.specs.Laws.{finished}
 use mir.Facts.{toZ-ofZ}
 use mir.Syntax.{w64}
 

@@ -5,7 +5,7 @@ use mathlib.Core.Path.{_≡_, refl}
 use mathlib.Core.List.{_++_}
 use native.Mathlib.Omega.{arith}
 use lib.ListN.{take, drop, length, length-set}
-use Rattle.isa.specs.Encode.{bytesIn}
+use Rattle.encode_spec.specs.Encode.{bytesIn}
 use Rattle.m68k.proofs.Laws.{turn}
 
 abbrev Inv-loop : tie.InvT-loop

@@ -2,7 +2,7 @@ use borrow.Author.Needs.{needs}
 use Rattle.m68k.proofs.size.Statement.{statement}
 use Rattle.m68k.proofs.size.Tie as tie
 use mathlib.Core.Bool.{false}
-use Rattle.isa.specs.Encode.{sizeOf, refusalOf, wordsOf}
+use Rattle.encode_spec.specs.Encode.{sizeOf, refusalOf, wordsOf}
 use Rattle.m68k.specs.Laws.{measured-as}
 
 encoded-requires : tie.Need-encoded-requires

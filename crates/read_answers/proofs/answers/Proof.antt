@@ -5,10 +5,10 @@ use mathlib.Core.List.{_++_}
 use Prim.Native.Nat.{_+_, _*_, _-_, _≤_}
 use native.Mathlib.Omega.{arith}
 use lib.ListN.{length, take, drop}
-use Rattle.lines.specs.Lines.{answersOf, linesOf, stepOver, stepOf}
+use Rattle.base_text.specs.Lines.{answersOf, linesOf, stepOver, stepOf}
 use Rattle.read_answers.specs.Answer.{readAnswerOf}
-use Rattle.lines.specs.WroteLaws.{wrote}
-use Rattle.lines.specs.LinesLaws.{answers-next, take-on, drop-on, step-start, step-on, step-full, step-end}
+use Rattle.base_text.specs.WroteLaws.{wrote}
+use Rattle.base_text.specs.LinesLaws.{answers-next, take-on, drop-on, step-start, step-on, step-full, step-end}
 
 abbrev Inv-loop : tie.InvT-loop
 Inv-loop text from out₀ next₀ at₀ out next at =

@@ -1,7 +1,7 @@
 use Rattle.read_answers.specs.AnswerLaws.{first-next}
 use Rattle.read_answers.specs.Put.{firstNumbers}
-use Rattle.lines.specs.WroteLaws.{wrote-none, wrote-then}
-use Rattle.lines.specs.Wrote.{Wrote}
+use Rattle.base_text.specs.WroteLaws.{wrote-none, wrote-then}
+use Rattle.base_text.specs.Wrote.{Wrote}
 use lib.ListN.{length}
 use native.Mathlib.Omega.{arith}
 use Prim.Native.Nat.{_+_, _*_, _-_, _≤_}

@@ -1,6 +1,6 @@
 use Rattle.read_answers.specs.Put.{putText}
-use Rattle.text.specs.WrittenLaws.{decimal-20}
-use Rattle.lines.specs.WroteLaws.{wrote, wrote-then}
+use Rattle.base_text.specs.WrittenLaws.{decimal-20}
+use Rattle.base_text.specs.WroteLaws.{wrote, wrote-then}
 use native.Mathlib.Omega.{arith}
 use borrow.Author.Needs.{needs}
 use Rattle.read_answers.proofs.put_read.Statement.{statement}

@@ -1,4 +1,4 @@
-use Rattle.lines.specs.WroteLaws.{wrote, wrote-then}
+use Rattle.base_text.specs.WroteLaws.{wrote, wrote-then}
 use native.Mathlib.Omega.{arith}
 use borrow.Author.Needs.{needs}
 use Rattle.read_answers.proofs.put_refused.Statement.{statement}

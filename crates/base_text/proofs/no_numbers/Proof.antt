@@ -1,0 +1,11 @@
+use mathlib.Core.Path.{refl}
+use Rattle.base_text.specs.Numbers.{noNumbers}
+use Rattle.base_text.proofs.no_numbers.Statement.{statement}
+use Rattle.base_text.proofs.no_numbers.Tie as tie
+
+returns : tie.Need-returns
+unfolding noNumbers
+returns c = refl
+
+pub no-numbers-spec : {M : Type 1} → statement M
+no-numbers-spec = tie.close (tie.spec returns)

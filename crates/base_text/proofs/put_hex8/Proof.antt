@@ -1,0 +1,42 @@
+use Rattle.base_text.specs.WrittenLaws.{placed-then}
+use native.Mathlib.Omega.{arith}
+use Prim.Native.Nat.{_/_, _%_}
+use Rattle.base_text.specs.Written.{hex4Of}
+use borrow.Author.Needs.{needs}
+use Rattle.base_text.proofs.put_hex8.Statement.{statement}
+use Rattle.base_text.proofs.put_hex8.Tie as tie
+
+cast-put-hex4 : tie.Need-cast-put-hex4
+cast-put-hex4 c = search needs
+
+put-hex4-requires : tie.Need-put-hex4-requires
+put-hex4-requires c κs = search needs
+
+cast-put-hex4-2 : tie.Need-cast-put-hex4-2
+cast-put-hex4-2 c = search needs
+
+put-hex4-requires-2 : tie.Need-put-hex4-requires-2
+put-hex4-requires-2 c κs = search needs
+
+same-length : tie.Need-same-length
+same-length c = search needs
+
+returns : tie.Need-returns
+returns c =
+    let a = c .before .before .before .before .before .before .before .before .before .args in
+    let h = c .before .before .before .before .before .before .put-hex4 in
+    let l = c .before .before .put-hex42 in (
+      omega arith,
+      placed-then (a .out .now) (h .last .0) (l .last .0) (a .at) (h .result) (hex4Of (a .x / 65536)) (hex4Of (a .x % 65536)) (omega arith) (h .ensures .0) (h .ensures .1) (l .ensures .1),
+    )
+
+pub put-hex8-spec : {M : Type 1} → statement M
+put-hex8-spec =
+    tie.close
+    (tie.spec
+    cast-put-hex4
+    put-hex4-requires
+    cast-put-hex4-2
+    put-hex4-requires-2
+    same-length
+    returns)

@@ -1,0 +1,14 @@
+pub mod Parts
+pub mod Number
+pub mod Numbers
+pub mod Written
+pub mod PartLaws
+pub mod NumberLaws
+pub mod NumbersLaws
+pub mod WrittenLaws
+pub mod ReadBack
+pub mod Examples
+pub mod Wrote
+pub mod WroteLaws
+pub mod Lines
+pub mod LinesLaws

@@ -1,0 +1,119 @@
+use Rattle.encode_answers.proofs.answers.Statement.{statement}
+use Rattle.encode_answers.proofs.answers.Tie as tie
+use mathlib.Core.Path.{_≡_, refl, sym, _∙_}
+use mathlib.Core.List.{_++_}
+use Prim.Native.Nat.{_+_, _*_, _-_, _≤_}
+use native.Mathlib.Omega.{arith}
+use lib.ListN.{length, take, drop}
+use Rattle.base_text.specs.Lines.{answersOf, linesOf, stepOver, stepOf}
+use Rattle.encode_answers.specs.Answer.{answerOf}
+use Rattle.base_text.specs.WroteLaws.{wrote}
+use Rattle.base_text.specs.LinesLaws.{answers-next, take-on, drop-on, step-start, step-on, step-full, step-end}
+
+abbrev Inv-loop : tie.InvT-loop
+Inv-loop text from out₀ next₀ at₀ out next at =
+    (at ≤ length out₀) × (length out ≡ length out₀) × (from ≤ next) × (at ≤ 95 * (next - from))
+    × (drop at out ≡ drop at out₀) × (answersOf answerOf (drop from text) ≡ take at out ++ answersOf answerOf (drop next text))
+    × (stepOf answerOf 128 text from (length out₀) ≡ stepOver answerOf 128 (linesOf (drop next text)) next (length out₀) at)
+
+abbrev μ-loop : tie.MeasureT-loop
+μ-loop text from out₀ next₀ at₀ out next at = length text - next
+
+loop-holds : tie.Need-loop-holds Inv-loop μ-loop
+loop-holds c = (omega arith, refl, omega arith, omega arith, refl, refl, step-start answerOf 128 _ _ _)
+
+sub-if1 : tie.Need-sub-if1 Inv-loop μ-loop
+sub-if1 c = omega arith
+
+same-length : tie.Need-same-length Inv-loop μ-loop
+same-length c = omega arith
+
+returns : tie.Need-returns Inv-loop μ-loop
+returns c =
+    let l = c .before .before .loop in
+    let a = c .before .before .before .before .before .args in
+    record {
+      step = sym (l .inv .6 ∙ step-full answerOf 128 (linesOf (drop (l .next) (a .text .now))) (l .next) (length (a .out .now)) (l .at) (omega arith));
+      all = l .inv .5;
+      rest = l .inv .4;
+      room = l .inv .0;
+      onward = λ h g. omega arith;
+    }
+
+line-end-requires : tie.Need-line-end-requires Inv-loop μ-loop
+line-end-requires c κs = omega arith
+
+sub-answer : tie.Need-sub-answer Inv-loop μ-loop
+sub-answer c = omega arith
+
+part-answer-start : tie.Need-part-answer-start Inv-loop μ-loop
+part-answer-start c = omega arith
+
+part-answer-end : tie.Need-part-answer-end Inv-loop μ-loop
+part-answer-end c = omega arith
+
+answer-requires : tie.Need-answer-requires Inv-loop μ-loop
+answer-requires c κs = omega arith
+
+add-next : tie.Need-add-next Inv-loop μ-loop
+add-next c = omega arith
+
+loop-less : tie.Need-loop-less Inv-loop μ-loop
+loop-less c = omega arith
+
+loop-again : tie.Need-loop-again Inv-loop μ-loop
+loop-again c =
+    let l = c .before .before .before .before .before .before .before .before .loop in
+    let a = c .before .before .before .before .before .before .before .before .before .before .before .args in
+    let e = c .before .before .before .before .before .line-end in
+    let text = a .text .now in
+    let r = c .before .before .answer .ensures in
+    let w = wrote (r .0, r .1) in
+    let here = answersOf answerOf (drop (l .next) text) in
+    let past = answersOf answerOf (drop (e .result + 1) text) in
+    let line = answers-next answerOf text (l .next) (e .result) (omega arith) (e .ensures .0) in
+    let more = take-on (answersOf answerOf (drop (a .from) text)) here past (l .inv .5) line w (omega arith) in (
+      omega arith,
+      omega arith,
+      omega arith,
+      omega arith,
+      drop-on (a .out .now) (l .inv .4) w (omega arith),
+      more,
+      l .inv .6 ∙ step-on answerOf 128 text (l .next) (e .result) (length (a .out .now)) (l .at) (c .before .before .answer .result) (omega arith) (e .ensures .0) (e .ensures .1) (omega arith) (r .0),
+    )
+
+same-length-2 : tie.Need-same-length-2 Inv-loop μ-loop
+same-length-2 c = omega arith
+
+returns-2 : tie.Need-returns-2 Inv-loop μ-loop
+returns-2 c =
+    let l = c .before .loop in
+    let a = c .before .before .before .before .args in
+    record {
+      step = sym (l .inv .6 ∙ step-end answerOf 128 (a .text .now) (l .next) (length (a .out .now)) (l .at) (omega arith));
+      all = l .inv .5;
+      rest = l .inv .4;
+      room = l .inv .0;
+      onward = λ h g. omega arith;
+    }
+
+pub answers-spec : {M : Type 1} → statement M
+answers-spec =
+    tie.close
+    (tie.spec
+    Inv-loop
+    μ-loop
+    loop-holds
+    sub-if1
+    same-length
+    returns
+    line-end-requires
+    sub-answer
+    part-answer-start
+    part-answer-end
+    answer-requires
+    add-next
+    loop-less
+    loop-again
+    same-length-2
+    returns-2)

@@ -1,0 +1,133 @@
+-- What the encoding of an instruction consists of, in order: words, and the checks between them.
+use Prim.Native.Nat.{ℕ, _+_, _*_, _%_, _^_}
+use mathlib.Core.Bool.{Bool, true, false}
+use mathlib.Core.List.{List, [], _∷_, _++_}
+use lib.Dec.{ltb}
+use lib.IntN.{ℤ, pos}
+use Rattle.isa.specs.declared.RegisterOperand.{RegisterOperand}
+use Rattle.isa.specs.declared.RegisterOperand.the-variants.{Address, Data}
+use Rattle.isa.specs.declared.Field.{Field}
+use Rattle.isa.specs.declared.Field.the-variants as field
+use Rattle.isa.specs.Field.{holds, numberOf}
+
+-- what a check says: that it passes, or the refusal (01, "Where a thing is turned back")
+pub data Verdict : Type 0 where
+  fine : Verdict
+  malformed : Verdict
+  outOfRange : Field → ℤ → Verdict
+  noEncoding : ℕ → Verdict
+
+-- 01's number, detail and value
+abbrev pub refusalNumber : Verdict → ℕ
+refusalNumber fine = 0
+refusalNumber malformed = 1
+refusalNumber (outOfRange f z) = 2
+refusalNumber (noEncoding r) = 3
+
+abbrev pub refusalDetail : Verdict → ℕ
+refusalDetail fine = 0
+refusalDetail malformed = 0
+refusalDetail (outOfRange f z) = numberOf f
+refusalDetail (noEncoding r) = r
+
+abbrev pub refusalValue : Verdict → ℤ
+refusalValue fine = pos 0
+refusalValue malformed = pos 0
+refusalValue (outOfRange f z) = z
+refusalValue (noEncoding r) = pos 0
+
+-- a verdict where a test fails
+abbrev pub unless : Bool → Verdict → Verdict
+unless true v = fine
+unless false v = v
+
+-- a word, a check, or a check that a field holds a value, which `size` skips
+pub data Item : Type 0 where
+  word : ℕ → Item
+  check : Verdict → Item
+  range : Field → ℤ → Item
+
+-- a register number is 0 to 7
+abbrev pub numberVerdict : ℕ → Verdict
+numberVerdict n = unless (ltb n 8) (outOfRange field.Register (pos n))
+
+abbrev pub register : ℕ → Item
+register n = check (numberVerdict n)
+
+abbrev pub dataVerdict : RegisterOperand → Verdict
+dataVerdict (Address n) = noEncoding 1
+dataVerdict (Data n) = numberVerdict n
+
+abbrev pub dataRegister : RegisterOperand → Item
+dataRegister r = check (dataVerdict r)
+
+abbrev pub addressVerdict : RegisterOperand → Verdict
+addressVerdict (Address n) = numberVerdict n
+addressVerdict (Data n) = noEncoding 2
+
+abbrev pub addressRegister : RegisterOperand → Item
+addressRegister r = check (addressVerdict r)
+
+-- no encoding, with a reason, where a test fails
+abbrev pub allow : Bool → ℕ → Item
+allow b reason = check (unless b (noEncoding reason))
+
+-- The operation word in its fields: bits 15 to 12, 11 to 9, 8 to 6, and the effective address in 5 to 0
+-- (the manual, section 2.1, "Instruction Format").
+abbrev pub operation : ℕ → ℕ → ℕ → ℕ → Item
+operation line x opmode ea = word ((line * 64 + x * 8 + opmode) * 64 + ea)
+
+-- A part of an encoding: its items, from the address of its first word.
+abbrev pub Part : Type 0
+Part = ℕ → List Item
+
+abbrev pub fixed : List Item → Part
+fixed xs at = xs
+
+-- the words of one item, and of several
+abbrev pub withWord : Item → List ℕ → List ℕ
+withWord (word w) ws = w ∷ ws
+withWord (check v) ws = ws
+withWord (range f z) ws = ws
+
+abbrev pub wordsIn : List Item → List ℕ
+wordsIn [] = []
+wordsIn (x ∷ xs) = withWord x (wordsIn xs)
+
+abbrev pub oneMore : Item → ℕ → ℕ
+oneMore (word w) n = n + 1
+oneMore (check v) n = n
+oneMore (range f z) n = n
+
+abbrev pub countOf : List Item → ℕ
+countOf [] = 0
+countOf (x ∷ xs) = oneMore x (countOf xs)
+
+-- the address of the word after n words from a
+abbrev pub placed : ℕ → ℕ → ℕ
+placed a n = (a + 2 * n) % 2 ^ 32
+
+-- the parts one after the other, each from the address that the words before it leave
+abbrev pub laid : List Part → ℕ → List Item
+laid [] a = []
+laid (p ∷ ps) a = p a ++ laid ps (placed a (countOf (p a)))
+
+-- the first check that fails; `size` skips the ranges
+abbrev pub orElse : Verdict → Verdict → Verdict
+orElse fine v = v
+orElse malformed v = malformed
+orElse (outOfRange f z) v = outOfRange f z
+orElse (noEncoding r) v = noEncoding r
+
+abbrev pub ranged : Bool → Field → ℤ → Verdict
+ranged true f z = unless (holds f z) (outOfRange f z)
+ranged false f z = fine
+
+abbrev pub verdict : Bool → Item → Verdict
+verdict ranges (word w) = fine
+verdict ranges (check v) = v
+verdict ranges (range f z) = ranged ranges f z
+
+abbrev pub failure : Bool → List Item → Verdict
+failure ranges [] = fine
+failure ranges (x ∷ xs) = orElse (verdict ranges x) (failure ranges xs)

@@ -1,0 +1,10 @@
+pub mod Item
+pub mod Ea
+pub mod Movement
+pub mod Arithmetic
+pub mod Logic
+pub mod Bits
+pub mod Control
+pub mod System
+pub mod Instruction
+pub mod Encode

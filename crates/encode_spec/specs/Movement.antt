@@ -1,0 +1,86 @@
+-- Data movement (the manual, section 3.1.1; section 4 has each format).
+use Prim.Native.Nat.{ℕ, _+_, _*_, _/_, _%_}
+use mathlib.Core.Bool.{Bool, true, false, not, _&&_, _||_}
+use mathlib.Core.List.{List, [], _∷_}
+use Rattle.isa.specs.declared.Size.{Size}
+use Rattle.isa.specs.declared.RegisterOperand.{RegisterOperand}
+use Rattle.isa.specs.declared.RegisterOperand.the-variants.{Address, Data}
+use Rattle.isa.specs.declared.Operand.{Operand}
+use Rattle.isa.specs.declared.Operand.the-variants.{Immediate, Register, Indirect, PostIndirect, PreIndirect, IndirectDisplacement, IndirectIndex, PcDisplacement, PcIndex, Extended, Absolute}
+use Rattle.isa.specs.declared.Field.the-variants as field
+use Rattle.base_signed.specs.Signed.{signed32}
+use Rattle.encode_spec.specs.Item.{Item, Part, noEncoding, word, check, register, dataRegister, addressRegister, allow, operation, fixed}
+use Rattle.isa.specs.Code.{moveCode, isByte, longBit, bit, numberIn, registerBits, general, toMemory, fromMemory}
+use Rattle.encode_spec.specs.Ea.{everyMode, dataAlterable, movemToMemory, movemFromMemory, byteOfAddress, eaField, modeField, registerField, longItems, wordItems, effective, withAddress}
+use Rattle.isa.specs.declared.TargetDirection.{TargetDirection}
+use Rattle.isa.specs.declared.TargetDirection.the-variants.{ToMemory, FromMemory}
+
+-- MOVE: the destination's register stands before its mode
+unfoldable pub moveParts : Operand → Operand → Size → List Part
+moveParts source destination s =
+    fixed (operation (moveCode s) (registerField destination) (modeField destination) (eaField source) ∷ allow (not (byteOfAddress s source)) 7 ∷ [])
+    ∷ effective source s everyMode 8 ∷ effective destination s dataAlterable 9 ∷ []
+
+unfoldable pub moveaParts : Operand → RegisterOperand → Size → List Part
+moveaParts source r s = fixed (allow (not (isByte s)) 10 ∷ []) ∷ withAddress (moveCode s) r 1 source s everyMode 11
+
+-- MOVEM: the direction dr, and the mask before the operand's words
+abbrev pub movemModes : TargetDirection → ℕ
+movemModes ToMemory = movemToMemory
+movemModes FromMemory = movemFromMemory
+
+abbrev pub movemReason : TargetDirection → ℕ
+movemReason ToMemory = 21
+movemReason FromMemory = 22
+
+unfoldable pub movemParts : TargetDirection → Size → ℕ → Operand → List Part
+movemParts direction s mask target =
+    fixed (operation 4 (4 + 2 * fromMemory direction) (2 + longBit s) (eaField target) ∷ allow (not (isByte s)) 20 ∷ word mask ∷ [])
+    ∷ effective target s (movemModes direction) (movemReason direction) ∷ []
+
+-- MOVEP reaches memory through d16(An) only
+abbrev pub movepItems : Operand → List Item
+movepItems (Immediate v) = check (noEncoding 5) ∷ []
+movepItems (Register r) = check (noEncoding 5) ∷ []
+movepItems (Indirect n) = check (noEncoding 5) ∷ []
+movepItems (PostIndirect n) = check (noEncoding 5) ∷ []
+movepItems (PreIndirect n) = check (noEncoding 5) ∷ []
+movepItems (IndirectDisplacement z base) = addressRegister base ∷ wordItems field.Displacement z
+movepItems (IndirectIndex base z x) = check (noEncoding 5) ∷ []
+movepItems (PcDisplacement t) = check (noEncoding 5) ∷ []
+movepItems (PcIndex t x) = check (noEncoding 5) ∷ []
+movepItems (Extended base w z outer) = check (noEncoding 5) ∷ []
+movepItems (Absolute a width) = check (noEncoding 5) ∷ []
+
+unfoldable pub movepParts : TargetDirection → Size → RegisterOperand → Operand → List Part
+movepParts direction s r target =
+    fixed (operation 0 (registerBits r) (4 + 2 * toMemory direction + longBit s) (8 + registerField target) ∷ dataRegister r ∷ [])
+    ∷ fixed (movepItems target) ∷ fixed (allow (not (isByte s)) 6 ∷ []) ∷ []
+
+-- MOVEQ: the data in bits 7 to 0
+unfoldable pub moveqParts : ℕ → RegisterOperand → List Part
+moveqParts v r = fixed (operation 7 (registerBits r) (v / 64) (v % 64) ∷ dataRegister r ∷ []) ∷ []
+
+-- EXG: bits 8 to 3 are 101000 for two data registers, 101001 for two address registers, 110001 for a data and an address register
+abbrev pub isAddress : RegisterOperand → Bool
+isAddress (Address n) = true
+isAddress (Data n) = false
+
+abbrev pub exgOpmode : RegisterOperand → RegisterOperand → ℕ
+exgOpmode x y = 5 + bit (not (isAddress x) && isAddress y)
+
+unfoldable pub exgParts : RegisterOperand → RegisterOperand → List Part
+exgParts x y =
+    fixed
+    (operation 12 (registerBits x) (exgOpmode x y) (general y) ∷ allow (not (isAddress x) || isAddress y) 43
+    ∷ register (numberIn x) ∷ register (numberIn y) ∷ [])
+    ∷ []
+
+unfoldable pub linkParts : RegisterOperand → ℕ → List Part
+linkParts r d = fixed (operation 4 7 1 (16 + registerBits r) ∷ addressRegister r ∷ wordItems field.LinkDisplacement (signed32 d)) ∷ []
+
+unfoldable pub linklParts : RegisterOperand → ℕ → List Part
+linklParts r d = fixed (operation 4 4 0 (8 + registerBits r) ∷ addressRegister r ∷ longItems d) ∷ []
+
+unfoldable pub unlkParts : RegisterOperand → List Part
+unlkParts r = fixed (operation 4 7 1 (24 + registerBits r) ∷ addressRegister r ∷ []) ∷ []

@@ -1,0 +1,57 @@
+-- The encoder's state, and what each item does to it. Once refused, nothing changes it.
+use Prim.Native.Nat.{ℕ, _+_, _*_, _%_, _^_}
+use mathlib.Core.Bool.{Bool}
+use mathlib.Core.List.{List, [], _∷_}
+use lib.Dec.{ltb, eqb}
+use lib.ListN.{set, length}
+use lib.IntN.{ℤ, pos}
+use Rattle.encode_state.specs.declared.Encoder.{Encoder}
+use Rattle.isa.specs.Field.{numberOf}
+use Rattle.isa.specs.ExtensionWord.{pick}
+use Rattle.encode_spec.specs.Item.{Item, Part, Verdict, fine, malformed, outOfRange, noEncoding, word, check, range, ranged}
+use Rattle.encode_spec.specs.Encode.{padded}
+
+-- e with one word more, where it is not refused and has room
+unfoldable pub pushed : Encoder → ℕ → Encoder
+pushed e w =
+    pick (eqb (e .number) 0)
+    (pick (ltb (e .count) 11)
+    (record { address = e .address; check = e .check; words = set (e .words) (e .count) w; count = e .count + 1; number = e .number; detail = e .detail; value = e .value })
+    e)
+    e
+
+-- e refused, where it is not refused yet
+unfoldable pub refused : Encoder → ℕ → ℕ → ℤ → Encoder
+refused e number detail value =
+    pick (eqb (e .number) 0)
+    (record { address = e .address; check = e .check; words = e .words; count = e .count; number = number; detail = detail; value = value })
+    e
+
+abbrev pub marked : Verdict → Encoder → Encoder
+marked fine e = e
+marked malformed e = refused e 1 0 (pos 0)
+marked (outOfRange f z) e = refused e 2 (numberOf f) z
+marked (noEncoding r) e = refused e 3 r (pos 0)
+
+abbrev pub step : Encoder → Item → Encoder
+step e (word w) = pushed e w
+step e (check v) = marked v e
+step e (range f z) = marked (ranged (e .check) f z) e
+
+abbrev pub run : List Item → Encoder → Encoder
+run [] e = e
+run (x ∷ xs) e = run xs (step e x)
+
+-- the address of the next word; a count is at most 11
+unfoldable pub nextOf : Encoder → ℕ
+nextOf e = (e .address + 2 * (e .count % 16)) % 2 ^ 32
+
+-- each part from where the one before it left the state
+abbrev pub runParts : List Part → Encoder → Encoder
+runParts [] e = e
+runParts (p ∷ ps) e = runParts ps (run (p (nextOf e)) e)
+
+-- a state that holds words and is not refused
+abbrev pub holding : ℕ → Bool → List ℕ → Encoder
+holding a ranges ws =
+    record { address = a; check = ranges; words = padded ws; count = length ws; number = 0; detail = 0; value = pos 0 }

@@ -1,0 +1,283 @@
+// The encoder's state: the words so far, or the first refusal. Once refused it stays as it is.
+ghost use mathlib.Core.Path.{_≡_};
+ghost use Prim.Native.Nat.{_<_, _%_};
+ghost use Rattle.encode_state.specs.Encoder.{pushed, refused, marked, step, run, nextOf, holding};
+ghost use mathlib.Core.List.{[]};
+ghost use Rattle.encode_spec.specs.Item as item;
+ghost use Rattle.isa.specs.Code.{sizeCode, moveCode, isByte, isWord, longBit, bit, numberIn, registerBits, general, toMemory, fromMemory};
+ghost use Rattle.encode_spec.specs.Ea.{longItems};
+use isa::Field;
+use isa::RegisterOperand;
+use isa::Size;
+use isa::TargetDirection;
+
+// The words of one instruction at an address. `size` does not check ranges.
+pub struct Encoder {
+    pub address: u32,
+    pub check: bool,
+    pub words: [u16; 11],
+    pub count: usize,
+    pub number: u8,
+    pub detail: u8,
+    pub value: i64,
+}
+
+// No words yet.
+pub fn begin(address: u32, check: bool) -> Encoder
+    ensures { λ r. ⌜ r ≡ holding address check [] ⌝ }
+{
+    Encoder {
+        address,
+        check,
+        words: [0; 11],
+        count: 0,
+        number: 0,
+        detail: 0,
+        value: 0,
+    }
+}
+
+// The address of the next word.
+pub fn next(e: Encoder) -> u32
+    ensures { λ r. ⌜ r ≡ nextOf e ⌝ }
+{
+    let n = (e.count % 16) as u32;
+    std::num::wrapping_add_u32(e.address, 2 * n)
+}
+
+// One word more.
+pub fn word(e: Encoder, w: u16) -> Encoder
+    ensures { λ r. ⌜ r ≡ step e (item.word w) ⌝ }
+{
+    let at = e.count;
+    if e.number == 0 {
+        if at < 11 {
+            let mut n = e;
+            n.words[at] = w;
+            n.count = at + 1;
+            n
+        } else {
+            e
+        }
+    } else {
+        e
+    }
+}
+
+// A long in two words, the high half first.
+pub fn long(e: Encoder, v: u32) -> Encoder
+    ensures { λ r. ⌜ r ≡ run (longItems v) e ⌝ }
+{
+    let e1 = word(e, (v / 65536) as u16);
+    word(e1, (v % 65536) as u16)
+}
+
+// The operation word in its fields.
+pub fn operation(e: Encoder, line: u16, x: u16, opmode: u16, ea: u16) -> Encoder
+    requires { ⌜ (line < 16) × (x < 8) × (opmode < 8) × (ea < 64) ⌝ }
+    ensures { λ r. ⌜ r ≡ step e (item.operation line x opmode ea) ⌝ }
+{
+    word(e, (line * 64 + x * 8 + opmode) * 64 + ea)
+}
+
+// Refused, where it is not refused yet.
+pub fn refuse(e: Encoder, number: u8, detail: u8, value: i64) -> Encoder
+    ensures { λ r. ⌜ r ≡ refused e number detail value ⌝ }
+{
+    if e.number == 0 {
+        let mut n = e;
+        n.number = number;
+        n.detail = detail;
+        n.value = value;
+        n
+    } else {
+        e
+    }
+}
+
+// Refused: the field does not hold the value.
+pub fn out_of_range(e: Encoder, field: Field, value: i64) -> Encoder
+    ensures { λ r. ⌜ r ≡ marked (item.outOfRange field value) e ⌝ }
+{
+    refuse(e, 2, isa_values::field::number(field), value)
+}
+
+// Refused: no encoding.
+pub fn no_encoding(e: Encoder, reason: u8) -> Encoder
+    ensures { λ r. ⌜ r ≡ marked (item.noEncoding reason) e ⌝ }
+{
+    refuse(e, 3, reason, 0)
+}
+
+// Refused: not a typed instruction.
+pub fn malformed(e: Encoder) -> Encoder
+    ensures { λ r. ⌜ r ≡ marked item.malformed e ⌝ }
+{
+    refuse(e, 1, 0, 0)
+}
+
+// Malformed where the test fails.
+pub fn well_formed(e: Encoder, ok: bool) -> Encoder
+    ensures { λ r. ⌜ r ≡ marked (item.unless ok item.malformed) e ⌝ }
+{
+    if ok { e } else { malformed(e) }
+}
+
+// No encoding where the test fails.
+pub fn allow(e: Encoder, ok: bool, reason: u8) -> Encoder
+    ensures { λ r. ⌜ r ≡ step e (item.allow ok reason) ⌝ }
+{
+    if ok { e } else { no_encoding(e, reason) }
+}
+
+// The field holds the value, where ranges are checked.
+pub fn fits(e: Encoder, field: Field, value: i64) -> Encoder
+    ensures { λ r. ⌜ r ≡ step e (item.range field value) ⌝ }
+{
+    if e.check {
+        if isa_values::field::holds(field, value) {
+            e
+        } else {
+            out_of_range(e, field, value)
+        }
+    } else {
+        e
+    }
+}
+
+// A register number is 0 to 7.
+pub fn register(e: Encoder, n: u8) -> Encoder
+    ensures { λ r. ⌜ r ≡ step e (item.register n) ⌝ }
+{
+    if n < 8 {
+        e
+    } else {
+        out_of_range(e, Field::Register, n as i64)
+    }
+}
+
+// A data register.
+pub fn data_register(e: Encoder, r: RegisterOperand) -> Encoder
+    ensures { λ x. ⌜ x ≡ step e (item.dataRegister r) ⌝ }
+{
+    match r {
+        RegisterOperand::Data(n) => register(e, n),
+        RegisterOperand::Address(_) => no_encoding(e, 1),
+    }
+}
+
+// An address register.
+pub fn address_register(e: Encoder, r: RegisterOperand) -> Encoder
+    ensures { λ x. ⌜ x ≡ step e (item.addressRegister r) ⌝ }
+{
+    match r {
+        RegisterOperand::Data(_) => no_encoding(e, 2),
+        RegisterOperand::Address(n) => register(e, n),
+    }
+}
+
+// The number of a register.
+pub fn number_in(r: RegisterOperand) -> u8
+    ensures { λ x. ⌜ x ≡ numberIn r ⌝ }
+{
+    match r {
+        RegisterOperand::Data(n) => n,
+        RegisterOperand::Address(n) => n,
+    }
+}
+
+// Its three bits.
+pub fn register_bits(r: RegisterOperand) -> u16
+    ensures { λ x. ⌜ (x ≡ registerBits r) × (x < 8) ⌝ }
+{
+    (number_in(r) % 8) as u16
+}
+
+// D/A and the three bits.
+pub fn general(r: RegisterOperand) -> u16
+    ensures { λ x. ⌜ (x ≡ general r) × (x < 16) ⌝ }
+{
+    match r {
+        RegisterOperand::Data(n) => (n % 8) as u16,
+        RegisterOperand::Address(n) => 8 + (n % 8) as u16,
+    }
+}
+
+// The size in two bits: byte 00, word 01, long 10.
+pub fn standard_size(size: Size) -> u16
+    ensures { λ r. ⌜ (r ≡ sizeCode size) × (r < 3) ⌝ }
+{
+    match size {
+        Size::Byte => 0,
+        Size::Word => 1,
+        Size::Long => 2,
+    }
+}
+
+// The size of MOVE and MOVEA: byte 01, word 11, long 10.
+pub fn move_size(size: Size) -> u16
+    ensures { λ r. ⌜ (r ≡ moveCode size) × (r < 4) ⌝ }
+{
+    match size {
+        Size::Byte => 1,
+        Size::Word => 3,
+        Size::Long => 2,
+    }
+}
+
+pub fn is_byte(size: Size) -> bool
+    ensures { λ r. ⌜ r ≡ isByte size ⌝ }
+{
+    match size {
+        Size::Byte => true,
+        Size::Word => false,
+        Size::Long => false,
+    }
+}
+
+pub fn is_word(size: Size) -> bool
+    ensures { λ r. ⌜ r ≡ isWord size ⌝ }
+{
+    match size {
+        Size::Byte => false,
+        Size::Word => true,
+        Size::Long => false,
+    }
+}
+
+// The bit that says long.
+pub fn long_bit(size: Size) -> u16
+    ensures { λ r. ⌜ (r ≡ longBit size) × (r < 2) ⌝ }
+{
+    match size {
+        Size::Byte => 0,
+        Size::Word => 0,
+        Size::Long => 1,
+    }
+}
+
+pub fn bit(b: bool) -> u16
+    ensures { λ r. ⌜ (r ≡ bit b) × (r < 2) ⌝ }
+{
+    if b { 1 } else { 0 }
+}
+
+// The bit that says to memory.
+pub fn to_memory(direction: TargetDirection) -> u16
+    ensures { λ r. ⌜ (r ≡ toMemory direction) × (r < 2) ⌝ }
+{
+    match direction {
+        TargetDirection::ToMemory => 1,
+        TargetDirection::FromMemory => 0,
+    }
+}
+
+// The bit that says from memory.
+pub fn from_memory(direction: TargetDirection) -> u16
+    ensures { λ r. ⌜ (r ≡ fromMemory direction) × (r < 2) ⌝ }
+{
+    match direction {
+        TargetDirection::ToMemory => 0,
+        TargetDirection::FromMemory => 1,
+    }
+}

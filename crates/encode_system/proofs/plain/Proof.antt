@@ -1,0 +1,113 @@
+use borrow.Author.Needs.{needs}
+use Rattle.encode_system.proofs.plain.Statement.{statement}
+use Rattle.encode_system.proofs.plain.Tie as tie
+use Rattle.encode_spec.specs.System.{plainParts}
+
+enum-told : tie.Need-enum-told
+enum-told c = search needs
+
+operation-requires : tie.Need-operation-requires
+operation-requires c κs = search needs
+
+enum-told-2 : tie.Need-enum-told-2
+enum-told-2 c = search needs
+
+operation-requires-2 : tie.Need-operation-requires-2
+operation-requires-2 c κs = search needs
+
+enum-told-3 : tie.Need-enum-told-3
+enum-told-3 c = search needs
+
+operation-requires-3 : tie.Need-operation-requires-3
+operation-requires-3 c κs = search needs
+
+enum-told-4 : tie.Need-enum-told-4
+enum-told-4 c = search needs
+
+operation-requires-4 : tie.Need-operation-requires-4
+operation-requires-4 c κs = search needs
+
+enum-told-5 : tie.Need-enum-told-5
+enum-told-5 c = search needs
+
+operation-requires-5 : tie.Need-operation-requires-5
+operation-requires-5 c κs = search needs
+
+enum-told-6 : tie.Need-enum-told-6
+enum-told-6 c = search needs
+
+operation-requires-6 : tie.Need-operation-requires-6
+operation-requires-6 c κs = search needs
+
+enum-told-7 : tie.Need-enum-told-7
+enum-told-7 c = search needs
+
+operation-requires-7 : tie.Need-operation-requires-7
+operation-requires-7 c κs = search needs
+
+enum-told-8 : tie.Need-enum-told-8
+enum-told-8 c = search needs
+
+long-requires : tie.Need-long-requires
+long-requires c κs = search needs
+
+returns : tie.Need-returns
+unfolding plainParts
+returns c = rw (c .operation .ensures, c .before .enum-told .given .1)
+
+returns-2 : tie.Need-returns-2
+unfolding plainParts
+returns-2 c = rw (c .operation2 .ensures, c .before .enum-told2 .given .1)
+
+returns-3 : tie.Need-returns-3
+unfolding plainParts
+returns-3 c = rw (c .operation3 .ensures, c .before .enum-told3 .given .1)
+
+returns-4 : tie.Need-returns-4
+unfolding plainParts
+returns-4 c = rw (c .operation4 .ensures, c .before .enum-told4 .given .1)
+
+returns-5 : tie.Need-returns-5
+unfolding plainParts
+returns-5 c = rw (c .operation5 .ensures, c .before .enum-told5 .given .1)
+
+returns-6 : tie.Need-returns-6
+unfolding plainParts
+returns-6 c = rw (c .operation6 .ensures, c .before .enum-told6 .given .1)
+
+returns-7 : tie.Need-returns-7
+unfolding plainParts
+returns-7 c = rw (c .operation7 .ensures, c .before .enum-told7 .given .1)
+
+returns-8 : tie.Need-returns-8
+unfolding plainParts
+returns-8 c = rw (c .long .ensures, c .before .enum-told8 .given .1)
+
+pub plain-spec : {M : Type 1} → statement M
+plain-spec =
+    tie.close
+    (tie.spec
+    enum-told
+    operation-requires
+    enum-told-2
+    operation-requires-2
+    enum-told-3
+    operation-requires-3
+    enum-told-4
+    operation-requires-4
+    enum-told-5
+    operation-requires-5
+    enum-told-6
+    operation-requires-6
+    enum-told-7
+    operation-requires-7
+    enum-told-8
+    long-requires
+    returns
+    returns-2
+    returns-3
+    returns-4
+    returns-5
+    returns-6
+    returns-7
+    returns-8)

@@ -1,0 +1,31 @@
+use borrow.Author.Needs.{needs}
+use Rattle.isa_values.proofs.field.holds.Statement.{statement}
+use Rattle.isa_values.proofs.field.holds.Tie as tie
+use mir.Facts.{toZ-ofZ}
+use mir.Syntax.{w64}
+use Rattle.isa.specs.Field.{holds}
+use Rattle.isa_values.proofs.Laws.{zero-bits}
+
+range-requires : tie.Need-range-requires
+range-requires c κs = search needs
+
+number-requires : tie.Need-number-requires
+number-requires c κs = search needs
+
+returns : tie.Need-returns
+unfolding holds
+returns c =
+    rw (
+      toZ-ofZ {w = w64} {z = c .before .before .before .range .result .low} (search needs),
+      toZ-ofZ {w = w64} {z = c .before .before .before .range .result .high} (search needs),
+    )
+    (simp (
+      zero-bits _ (c .before .before .before .before .fits .value),
+      toZ-ofZ {w = w64} (c .before .before .before .before .fits .value),
+      c .number .ensures .0,
+      c .before .before .before .range .ensures .0,
+      c .before .before .before .range .ensures .1,
+    ))
+
+pub holds-spec : {M : Type 1} → statement M
+holds-spec = tie.close (tie.spec range-requires number-requires returns)

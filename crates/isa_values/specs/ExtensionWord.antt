@@ -1,0 +1,62 @@
+-- Extension words made and read (the manual, section 2.2, figure 2-2 "Brief and Full Extension Word Formats", table 2-2).
+use Prim.Native.Nat.{ℕ, _+_, _*_, _/_, _%_}
+use mathlib.Core.Bool.{Bool, not, _||_}
+use lib.Dec.{leb, eqb}
+use Rattle.isa.specs.declared.Size.{Size}
+use Rattle.isa.specs.declared.Size.the-variants as size
+use Rattle.isa.specs.declared.RegisterOperand.{RegisterOperand}
+use Rattle.isa.specs.declared.RegisterOperand.the-variants as register
+use Rattle.isa.specs.declared.IndexRegister.{IndexRegister}
+use Rattle.isa.specs.declared.DisplacementSize.{DisplacementSize}
+use Rattle.isa.specs.declared.Indirection.{Indirection}
+use Rattle.isa.specs.declared.Indirection.the-variants as indirect
+use Rattle.isa.specs.Code.{longBit, general, bit}
+use Rattle.isa.specs.ExtensionWord.{pick, isFull, indexSuppressed, baseSize, outerSize}
+use Rattle.isa_values.specs.DisplacementSize.{displacementBytes, displacementCode}
+use Rattle.isa_values.specs.declared.extension_word.IndexChoice.{IndexChoice}
+use Rattle.isa_values.specs.declared.extension_word.IndexChoice.the-variants as choice
+
+-- D/A, bit 15, and REGISTER, bits 14 to 12
+abbrev pub indexOperand : ℕ → RegisterOperand
+indexOperand w = pick (eqb (w / 32768 % 2) 1) (register.Address (w / 4096 % 8)) (register.Data (w / 4096 % 8))
+
+-- W/L, bit 11
+abbrev pub indexSize : ℕ → Size
+indexSize w = pick (eqb (w / 2048 % 2) 1) size.Long size.Word
+
+abbrev pub indexRegister : ℕ → IndexRegister
+indexRegister w = record { register = indexOperand w; size = indexSize w }
+
+-- SCALE, bits 10 and 9: the index times 1, 2, 4 or 8
+abbrev pub scaleShift : ℕ → ℕ
+scaleShift w = w / 512 % 4
+
+abbrev pub index : ℕ → IndexChoice
+index w = pick (indexSuppressed w) choice.None (choice.Some (indexRegister w))
+
+-- the word and the displacements that follow it
+abbrev pub extensionBytes : ℕ → ℕ
+extensionBytes w = pick (isFull w) (2 + displacementBytes (baseSize w) + displacementBytes (outerSize w)) 2
+
+-- I/IS 100 is reserved; where the index is suppressed all of 1xx is, and the index bits are clear
+abbrev pub indexReserved : ℕ → Bool
+indexReserved w = pick (indexSuppressed w) (leb 4 (w % 8) || not (eqb (w / 512) 0)) (eqb (w % 8) 4)
+
+-- a scale other than 2, 4 and 8 counts as 1
+abbrev pub scaleCode : ℕ → ℕ
+scaleCode s = pick (eqb s 2) 1 (pick (eqb s 4) 2 (pick (eqb s 8) 3 0))
+
+-- bits 15 to 9
+abbrev pub indexBits : IndexRegister → ℕ → ℕ
+indexBits x s = general (x .register) * 4096 + longBit (x .size) * 2048 + scaleCode s * 512
+
+-- I/IS: 0 without indirection, and else the outer displacement's size, with 4 where the index is added after
+abbrev pub indirectionCode : Indirection → DisplacementSize → ℕ
+indirectionCode indirect.None outer = 0
+indirectionCode indirect.Preindexed outer = displacementCode outer
+indirectionCode indirect.Postindexed outer = 4 + displacementCode outer
+
+-- the index in bits 15 to 9, 1 in bit 8, BS, IS, BD SIZE and I/IS
+abbrev pub fullWord : IndexRegister → ℕ → Bool → Bool → DisplacementSize → Indirection → DisplacementSize → ℕ
+fullWord x s bs is bd i od =
+    indexBits x s + 256 + bit bs * 128 + bit is * 64 + (displacementCode bd * 16 + indirectionCode i od)

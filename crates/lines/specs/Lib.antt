@@ -1,4 +1,0 @@
-pub mod Wrote
-pub mod WroteLaws
-pub mod Lines
-pub mod LinesLaws

@@ -1,4 +1,0 @@
-pub mod Sheet
-pub mod Translate
-pub mod Follow
-pub mod Examples

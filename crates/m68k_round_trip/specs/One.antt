@@ -1,0 +1,136 @@
+-- Equal words have equal plain forms, short branches of -1 included: 01's rule for several instructions with the same words never applies.
+use Prim.Native.Nat.{ℕ, _+_, _*_, _/_, _%_, _^_, _<_}
+use mathlib.Core.Path.{_≡_, refl, ap, sym, _∙_}
+use mathlib.Core.Bool.{true}
+use mathlib.Core.List.{List, [], _∷_, _++_}
+use native.Mathlib.Omega.{arith}
+use lib.Dec.{leb}
+use lib.ListN.{length}
+use lib.IntN.{ℤ, negsuc}
+use Rattle.isa.specs.declared.BranchSize.the-variants.{Short, Long}
+use Rattle.isa.specs.declared.BranchOperation.{BranchOperation}
+use Rattle.isa.specs.declared.BranchOperation.the-variants.{BRA, BSR}
+use Rattle.isa.specs.declared.Condition.{Condition}
+use Rattle.isa.specs.declared.Instruction.{Instruction}
+use Rattle.isa.specs.declared.Instruction.the-variants.{Branch, Bcc}
+use Rattle.encode_spec.specs.Item.{fine, noEncoding, unless, placed}
+use Rattle.isa.specs.Code.{conditionCode}
+use Rattle.encode_spec.specs.Ea.{distance}
+use Rattle.encode_spec.specs.Control.{branchParts, bccParts}
+use Rattle.encode_spec.specs.Instruction.{branchesParts}
+use Rattle.encode_spec.specs.Encode.{wordsOf, refusalOf}
+use Rattle.isa_values.specs.Condition.{conditionOf, of-code, code-of}
+use Rattle.read_spec.specs.declared.Reading.the-variants as reading
+use Rattle.read_spec.specs.Number.{reach}
+use Rattle.read_spec.specs.Plain.{plain}
+use Rattle.read_spec.specs.Read.{readOf}
+use Rattle.read_operand_laws.specs.Facts.{reach-distance, placed-lt, leb-is, fine-both, unless-reason}
+use Rattle.read_laws.specs.Statements.{Accepted, TypedInstruction}
+use Rattle.read_laws.specs.ReaderLaws.{complete, one, short-exactly}
+
+-- a short branch of -1, at a
+pub data MinusOne (a : ℕ) : Instruction → Type 0 where
+  always : (op : BranchOperation) (t : ℕ) → distance t (placed a 1) ≡ negsuc 0 → MinusOne a (Branch op t Short)
+  where-true : (t : ℕ) (c : Condition) → distance t (placed a 1) ≡ negsuc 0 → MinusOne a (Bcc t c Short)
+
+-- what `encode` accepts, IllegalWord and SIMHALT apart
+pub data Accepts (a : ℕ) (i : Instruction) : Type 0 where
+  not-left-out : Accepted a i → Accepts a i
+  minus-one : TypedInstruction i → refusalOf true i a ≡ fine → MinusOne a i → Accepts a i
+
+-- its word, by the condition's code
+abbrev wordFor : ℕ → ℕ
+wordFor c = (6 * 64 + c / 2 * 8 + (4 * (c % 2) + 3)) * 64 + 63
+
+abbrev codeOf : BranchOperation → ℕ
+codeOf BRA = 0
+codeOf BSR = 1
+
+branch-word : (a t : ℕ) (op : BranchOperation) → distance t (placed a 1) ≡ negsuc 0 → wordsOf (Branch op t Short) a ≡ wordFor (codeOf op) ∷ []
+unfolding branchesParts branchParts
+branch-word a t BRA e = rw e
+branch-word a t BSR e = rw e
+
+bcc-word : (a t : ℕ) (c : Condition) → distance t (placed a 1) ≡ negsuc 0 → wordsOf (Bcc t c Short) a ≡ wordFor (conditionCode c) ∷ []
+unfolding bccParts branchParts
+bcc-word a t c e =
+    let p : placed (placed a 0) 1 ≡ placed a 1 = omega arith in
+    rw (p, e)
+
+-- the long branch of the same condition begins with the same word
+long-branch : (a : ℕ) (op : BranchOperation) → Accepted a (Branch op 0 Long)
+unfolding branchesParts branchParts
+long-branch a BRA = (omega arith, refl, refl)
+long-branch a BSR = (omega arith, refl, refl)
+
+branch-short : (a : ℕ) (op : BranchOperation) → readOf (wordFor (codeOf op) ∷ []) a ≡ reading.Short
+unfolding branchesParts branchParts
+branch-short a BRA = short-exactly a (wordFor 0 ∷ []) (_, _, Branch BRA 0 Long, long-branch a BRA, refl)
+branch-short a BSR = short-exactly a (wordFor 1 ∷ []) (_, _, Branch BSR 0 Long, long-branch a BSR, refl)
+
+bcc-fine : (a t : ℕ) (c : Condition) → refusalOf true (Bcc t c Short) a ≡ fine → leb 2 (conditionCode c) ≡ true
+unfolding bccParts
+bcc-fine a t c e = unless-reason (leb 2 (conditionCode c)) 36 (fine-both (unless (leb 2 (conditionCode c)) (noEncoding 36)) _ e .0)
+
+bcc-long : (a : ℕ) (c : Condition) → leb 2 (conditionCode c) ≡ true → Accepted a (Bcc 0 c Long)
+unfolding bccParts branchParts
+bcc-long a c h = (omega arith, rw h, refl)
+
+bcc-short : (a : ℕ) (c : Condition) → leb 2 (conditionCode c) ≡ true → readOf (wordFor (conditionCode c) ∷ []) a ≡ reading.Short
+unfolding bccParts branchParts
+bcc-short a c h = short-exactly a (wordFor (conditionCode c) ∷ []) (_, _, Bcc 0 c Long, bcc-long a c h, refl)
+
+-- so it shares its word with nothing that reads
+left-short : (a : ℕ) (i : Instruction) → refusalOf true i a ≡ fine → MinusOne a i → readOf (wordsOf i a) a ≡ reading.Short
+left-short a i e (always op t h) = rw (branch-word a t op h) (branch-short a op)
+left-short a i e (where-true t c h) = rw (bcc-word a t c h) (bcc-short a c (bcc-fine a t c e))
+
+append-nil : (ws : List ℕ) → ws ++ [] ≡ ws
+append-nil [] = refl
+append-nil (w ∷ ws) = ap (λ (l : List ℕ). w ∷ l) (append-nil ws)
+
+apart : {C : Type 0} (a : ℕ) (i j : Instruction) → refusalOf true i a ≡ fine → MinusOne a i → Accepted a j → wordsOf i a ≡ wordsOf j a → C
+apart a i j e m h w =
+    let r : readOf (wordsOf j a) a ≡ reading.Read (plain j) (2 * length (wordsOf j a)) = ap (λ (ws : List ℕ). readOf ws a) (sym (append-nil (wordsOf j a))) ∙ complete a j [] h in
+    let x : reading.Short ≡ reading.Read (plain j) (2 * length (wordsOf j a)) = sym (left-short a i e m) ∙ ap (λ (ws : List ℕ). readOf ws a) w ∙ r in
+    let z : _≡_ {A = ℕ} 0 1 = cc in
+    absurd (omega arith)
+
+-- two of them at an address have the same target
+same-target : (a t u : ℕ) → t < 2 ^ 32 → u < 2 ^ 32 → distance t (placed a 1) ≡ negsuc 0 → distance u (placed a 1) ≡ negsuc 0 → t ≡ u
+same-target a t u ht hu e f =
+    sym (reach-distance t (placed a 1) ht (placed-lt a 1)) ∙ ap (λ (z : ℤ). reach (placed a 1) z) (e ∙ sym f) ∙ reach-distance u (placed a 1) hu (placed-lt a 1)
+
+head-is : (v w : ℕ) → v ∷ [] ≡ w ∷ [] → v ≡ w
+head-is v w e = cc
+
+same-code : (c d : ℕ) → c < 16 → d < 16 → wordFor c ≡ wordFor d → c ≡ d
+same-code c d hc hd e = omega (arith, e)
+
+code-lt : (c : Condition) → conditionCode c < 16
+code-lt c = omega (arith, ap conditionCode (of-code c), code-of (conditionCode c))
+
+both : (a : ℕ) (i j : Instruction) → TypedInstruction i → TypedInstruction j → refusalOf true i a ≡ fine → refusalOf true j a ≡ fine
+    → MinusOne a i → MinusOne a j → wordsOf i a ≡ wordsOf j a → i ≡ j
+both a i j s t e f (always BRA x h) (always BRA y g) w = ap (λ (n : ℕ). Branch BRA n Short) (same-target a x y s t h g)
+both a i j s t e f (always BRA x h) (always BSR y g) w = absurd (omega (arith, head-is (wordFor 0) (wordFor 1) (sym (branch-word a x BRA h) ∙ w ∙ branch-word a y BSR g)))
+both a i j s t e f (always BSR x h) (always BRA y g) w = absurd (omega (arith, head-is (wordFor 1) (wordFor 0) (sym (branch-word a x BSR h) ∙ w ∙ branch-word a y BRA g)))
+both a i j s t e f (always BSR x h) (always BSR y g) w = ap (λ (n : ℕ). Branch BSR n Short) (same-target a x y s t h g)
+both a i j s t e f (always BRA x h) (where-true y d g) w =
+    absurd (omega (arith, same-code 0 (conditionCode d) (omega arith) (code-lt d) (head-is (wordFor 0) (wordFor (conditionCode d)) (sym (branch-word a x BRA h) ∙ w ∙ bcc-word a y d g)), leb-is 2 (conditionCode d) (bcc-fine a y d f)))
+both a i j s t e f (always BSR x h) (where-true y d g) w =
+    absurd (omega (arith, same-code 1 (conditionCode d) (omega arith) (code-lt d) (head-is (wordFor 1) (wordFor (conditionCode d)) (sym (branch-word a x BSR h) ∙ w ∙ bcc-word a y d g)), leb-is 2 (conditionCode d) (bcc-fine a y d f)))
+both a i j s t e f (where-true x c h) (always BRA y g) w =
+    absurd (omega (arith, same-code (conditionCode c) 0 (code-lt c) (omega arith) (head-is (wordFor (conditionCode c)) (wordFor 0) (sym (bcc-word a x c h) ∙ w ∙ branch-word a y BRA g)), leb-is 2 (conditionCode c) (bcc-fine a x c e)))
+both a i j s t e f (where-true x c h) (always BSR y g) w =
+    absurd (omega (arith, same-code (conditionCode c) 1 (code-lt c) (omega arith) (head-is (wordFor (conditionCode c)) (wordFor 1) (sym (bcc-word a x c h) ∙ w ∙ branch-word a y BSR g)), leb-is 2 (conditionCode c) (bcc-fine a x c e)))
+both a i j s t e f (where-true x c h) (where-true y d g) w =
+    let k = same-code (conditionCode c) (conditionCode d) (code-lt c) (code-lt d) (head-is (wordFor (conditionCode c)) (wordFor (conditionCode d)) (sym (bcc-word a x c h) ∙ w ∙ bcc-word a y d g)) in
+    let q : c ≡ d = sym (of-code c) ∙ ap conditionOf k ∙ of-code d in
+    ap (λ (n : ℕ). Bcc n c Short) (same-target a x y s t h g) ∙ ap (λ (x : Condition). Bcc y x Short) q
+
+pub one-of-all : (a : ℕ) (i j : Instruction) → Accepts a i → Accepts a j → wordsOf i a ≡ wordsOf j a → plain i ≡ plain j
+one-of-all a i j (not-left-out h) (not-left-out g) w = one a i j h g w
+one-of-all a i j (not-left-out h) (minus-one t e m) w = apart a j i e m h (sym w)
+one-of-all a i j (minus-one t e m) (not-left-out g) w = apart a i j e m g w
+one-of-all a i j (minus-one s e m) (minus-one t f n) w = ap plain (both a i j s t e f m n w)

@@ -1,0 +1,176 @@
+-- Enums and registers: the variant's place, then its fields.
+use Prim.Native.Nat.{ℕ}
+use mathlib.Core.List.{[], _∷_}
+use mathlib.Core.Bool.{true, _&&_}
+use lib.ListN.{getD}
+use Rattle.isa.specs.declared.Size.{Size}
+use Rattle.isa.specs.declared.Size.the-variants as size
+use Rattle.isa.specs.declared.TargetDirection.{TargetDirection}
+use Rattle.isa.specs.declared.TargetDirection.the-variants.{ToMemory, FromMemory}
+use Rattle.isa.specs.declared.AddressWidth.{AddressWidth}
+use Rattle.isa.specs.declared.AddressWidth.the-variants as width
+use Rattle.isa.specs.declared.Condition.{Condition}
+use Rattle.isa.specs.declared.Condition.the-variants.{True, False, High, LowOrSame, CarryClear, CarrySet, NotEqual, Equal, OverflowClear, OverflowSet, Plus, Minus, GreaterThanOrEqual, LessThan, GreaterThan, LessThanOrEqual}
+use Rattle.isa.specs.declared.BranchSize.{BranchSize}
+use Rattle.isa.specs.declared.BranchSize.the-variants as branch
+use Rattle.isa.specs.declared.ShiftDirection.{ShiftDirection}
+use Rattle.isa.specs.declared.ShiftDirection.the-variants.{Right, Left}
+use Rattle.isa.specs.declared.Sign.{Sign}
+use Rattle.isa.specs.declared.Sign.the-variants.{Signed, Unsigned}
+use Rattle.isa.specs.declared.BitFieldOperation.{BitFieldOperation}
+use Rattle.isa.specs.declared.BitFieldOperation.the-variants.{Test, ExtractUnsigned, Change, ExtractSigned, Clear, FindFirstOne, Set, Insert}
+use Rattle.isa.specs.declared.RegisterOperand.{RegisterOperand}
+use Rattle.isa.specs.declared.RegisterOperand.the-variants.{Address, Data}
+use Rattle.isa.specs.declared.FieldValue.{FieldValue}
+use Rattle.isa.specs.declared.FieldValue.the-variants as value
+use Rattle.isa.specs.declared.TrapOperand.the-variants as trap
+use Rattle.isa.specs.declared.RegisterChoice.the-variants as choice
+use Rattle.numeric_fields.specs.declared.Numbers.{Numbers}
+use Rattle.numeric_fields.specs.declared.SizeAt.{SizeAt}
+use Rattle.numeric_fields.specs.declared.TargetDirectionAt.{TargetDirectionAt}
+use Rattle.numeric_fields.specs.declared.AddressWidthAt.{AddressWidthAt}
+use Rattle.numeric_fields.specs.declared.ConditionAt.{ConditionAt}
+use Rattle.numeric_fields.specs.declared.BranchSizeAt.{BranchSizeAt}
+use Rattle.numeric_fields.specs.declared.ShiftDirectionAt.{ShiftDirectionAt}
+use Rattle.numeric_fields.specs.declared.SignAt.{SignAt}
+use Rattle.numeric_fields.specs.declared.BitFieldOperationAt.{BitFieldOperationAt}
+use Rattle.numeric_fields.specs.declared.RegisterAt.{RegisterAt}
+use Rattle.numeric_fields.specs.declared.IndexAt.{IndexAt}
+use Rattle.numeric_fields.specs.declared.FieldValueAt.{FieldValueAt}
+use Rattle.numeric_fields.specs.declared.BitFieldAt.{BitFieldAt}
+use Rattle.numeric_fields.specs.declared.TrapOperandAt.{TrapOperandAt}
+use Rattle.numeric_fields.specs.declared.RegisterChoiceAt.{RegisterChoiceAt}
+use Rattle.numeric_fields.specs.Number.{unsignedAt, byteAt, wordAt, longAt}
+
+abbrev pub sizeOf : ℕ → Size
+sizeOf place = getD (size.Byte ∷ size.Word ∷ size.Long ∷ []) place size.Byte
+
+unfoldable pub sizeAt : Numbers → ℕ → SizeAt
+sizeAt ns k =
+    let n = unsignedAt 2 ns k in
+    record { ok = n .ok; size = sizeOf (n .value); next = n .next }
+
+abbrev pub targetDirectionOf : ℕ → TargetDirection
+targetDirectionOf place = getD (ToMemory ∷ FromMemory ∷ []) place ToMemory
+
+unfoldable pub targetDirectionAt : Numbers → ℕ → TargetDirectionAt
+targetDirectionAt ns k =
+    let n = unsignedAt 1 ns k in
+    record { ok = n .ok; direction = targetDirectionOf (n .value); next = n .next }
+
+abbrev pub addressWidthOf : ℕ → AddressWidth
+addressWidthOf place = getD (width.Word ∷ width.Long ∷ []) place width.Word
+
+unfoldable pub addressWidthAt : Numbers → ℕ → AddressWidthAt
+addressWidthAt ns k =
+    let n = unsignedAt 1 ns k in
+    record { ok = n .ok; width = addressWidthOf (n .value); next = n .next }
+
+abbrev pub conditionOf : ℕ → Condition
+conditionOf place = getD (True ∷ False ∷ High ∷ LowOrSame ∷ CarryClear ∷ CarrySet ∷ NotEqual ∷ Equal ∷ OverflowClear ∷ OverflowSet ∷ Plus ∷ Minus ∷ GreaterThanOrEqual ∷ LessThan ∷ GreaterThan ∷ LessThanOrEqual ∷ []) place True
+
+unfoldable pub conditionAt : Numbers → ℕ → ConditionAt
+conditionAt ns k =
+    let n = unsignedAt 15 ns k in
+    record { ok = n .ok; condition = conditionOf (n .value); next = n .next }
+
+abbrev pub branchSizeOf : ℕ → BranchSize
+branchSizeOf place = getD (branch.Short ∷ branch.Word ∷ branch.Long ∷ []) place branch.Short
+
+unfoldable pub branchSizeAt : Numbers → ℕ → BranchSizeAt
+branchSizeAt ns k =
+    let n = unsignedAt 2 ns k in
+    record { ok = n .ok; size = branchSizeOf (n .value); next = n .next }
+
+abbrev pub shiftDirectionOf : ℕ → ShiftDirection
+shiftDirectionOf place = getD (Right ∷ Left ∷ []) place Right
+
+unfoldable pub shiftDirectionAt : Numbers → ℕ → ShiftDirectionAt
+shiftDirectionAt ns k =
+    let n = unsignedAt 1 ns k in
+    record { ok = n .ok; direction = shiftDirectionOf (n .value); next = n .next }
+
+abbrev pub signOf : ℕ → Sign
+signOf place = getD (Signed ∷ Unsigned ∷ []) place Signed
+
+unfoldable pub signAt : Numbers → ℕ → SignAt
+signAt ns k =
+    let n = unsignedAt 1 ns k in
+    record { ok = n .ok; sign = signOf (n .value); next = n .next }
+
+abbrev pub bitFieldOperationOf : ℕ → BitFieldOperation
+bitFieldOperationOf place = getD (Test ∷ ExtractUnsigned ∷ Change ∷ ExtractSigned ∷ Clear ∷ FindFirstOne ∷ Set ∷ Insert ∷ []) place Test
+
+unfoldable pub bitFieldOperationAt : Numbers → ℕ → BitFieldOperationAt
+bitFieldOperationAt ns k =
+    let n = unsignedAt 7 ns k in
+    record { ok = n .ok; operation = bitFieldOperationOf (n .value); next = n .next }
+
+unfoldable pub registerOf : ℕ → ℕ → RegisterOperand
+registerOf place number = getD (Address number ∷ Data number ∷ []) place (Address number)
+
+unfoldable pub registerAt : Numbers → ℕ → RegisterAt
+registerAt ns k =
+    let place = unsignedAt 1 ns k in
+    let number = byteAt ns (place .next) in
+    record { ok = place .ok && number .ok; register = registerOf (place .value) (number .value); next = number .next }
+
+unfoldable pub fieldValueOf : ℕ → ℕ → FieldValue
+fieldValueOf place number = getD (value.Immediate number ∷ value.Register number ∷ []) place (value.Immediate number)
+
+unfoldable pub fieldValueAt : Numbers → ℕ → FieldValueAt
+fieldValueAt ns k =
+    let place = unsignedAt 1 ns k in
+    let number = byteAt ns (place .next) in
+    record { ok = place .ok && number .ok; value = fieldValueOf (place .value) (number .value); next = number .next }
+
+unfoldable pub indexAt : Numbers → ℕ → IndexAt
+indexAt ns k =
+    let register = registerAt ns k in
+    let size = sizeAt ns (register .next) in
+    record {
+      ok = register .ok && size .ok;
+      index = record { register = register .register; size = size .size };
+      next = size .next;
+    }
+
+unfoldable pub bitFieldAt : Numbers → ℕ → BitFieldAt
+bitFieldAt ns k =
+    let offset = fieldValueAt ns k in
+    let width = fieldValueAt ns (offset .next) in
+    record { ok = offset .ok && width .ok; field = record { offset = offset .value; width = width .value }; next = width .next }
+
+-- the fields of TrapOperand's variants, from k on
+abbrev pub trapNone : ℕ → TrapOperandAt
+trapNone k = record { ok = true; operand = trap.None; next = k }
+
+abbrev pub trapWord : Numbers → ℕ → TrapOperandAt
+trapWord ns k = let n = wordAt ns k in record { ok = n .ok; operand = trap.Word (n .value); next = n .next }
+
+abbrev pub trapLong : Numbers → ℕ → TrapOperandAt
+trapLong ns k = let n = longAt ns k in record { ok = n .ok; operand = trap.Long (n .value); next = n .next }
+
+unfoldable pub trapOperandOf : ℕ → Numbers → ℕ → TrapOperandAt
+trapOperandOf place ns k = getD (trapNone k ∷ trapWord ns k ∷ trapLong ns k ∷ []) place (trapNone k)
+
+unfoldable pub trapOperandAt : Numbers → ℕ → TrapOperandAt
+trapOperandAt ns k =
+    let place = unsignedAt 2 ns k in
+    let rest = trapOperandOf (place .value) ns (place .next) in
+    record { ok = place .ok && rest .ok; operand = rest .operand; next = rest .next }
+
+-- the fields of the variants of an Option<u8>, from k on
+abbrev pub choiceNone : ℕ → RegisterChoiceAt
+choiceNone k = record { ok = true; register = choice.None; next = k }
+
+abbrev pub choiceSome : Numbers → ℕ → RegisterChoiceAt
+choiceSome ns k = let n = byteAt ns k in record { ok = n .ok; register = choice.Some (n .value); next = n .next }
+
+unfoldable pub registerChoiceOf : ℕ → Numbers → ℕ → RegisterChoiceAt
+registerChoiceOf place ns k = getD (choiceNone k ∷ choiceSome ns k ∷ []) place (choiceNone k)
+
+unfoldable pub registerChoiceAt : Numbers → ℕ → RegisterChoiceAt
+registerChoiceAt ns k =
+    let place = unsignedAt 1 ns k in
+    let rest = registerChoiceOf (place .value) ns (place .next) in
+    record { ok = place .ok && rest .ok; register = rest .register; next = rest .next }

@@ -1,0 +1,26 @@
+use borrow.Author.Needs.{needs}
+use mathlib.Core.Path.{sym, _∙_}
+use native.Mathlib.Omega.{arith}
+use denote.Ref.{now}
+use Rattle.read_instruction.specs.ReadAt.{read-none, read-some}
+use Rattle.read_instruction.proofs.read.Statement.{statement}
+use Rattle.read_instruction.proofs.read.Tie as tie
+
+shared-slice-read-read-word : tie.Need-shared-slice-read-read-word
+shared-slice-read-read-word c = search needs
+
+read-word-requires : tie.Need-read-word-requires
+read-word-requires c κs = search needs
+
+returns : tie.Need-returns
+returns c =
+    let a = c .before .before .args in
+    sym (read-none (a .address) (now (a .words)) (c .if1 .taken))
+
+returns-2 : tie.Need-returns-2
+returns-2 c =
+    let a = c .before .before .before .before .args in
+    c .read-word .ensures ∙ sym (read-some (a .address) (now (a .words)) (omega (arith, c .before .before .if1 .left)))
+
+pub read-spec : {M : Type 1} → statement M
+read-spec = tie.close (tie.spec shared-slice-read-read-word read-word-requires returns returns-2)

@@ -1,0 +1,69 @@
+// The reader: from words and an address to the instruction that they begin with.
+ghost use mathlib.Core.Path.{_≡_};
+ghost use Prim.Native.Nat.{_<_};
+ghost use Rattle.read_spec.specs.Read.{readOf};
+ghost use Rattle.read_instruction.specs.ReadAt.{formedAs, followingAt};
+use read_operands::Followed;
+use read_spec::Reading;
+use read_spec::Shape;
+
+// The instruction that an operation word and what was read behind it form.
+fn formed(
+    shape: Shape,
+    address: u32,
+    line: u8,
+    x: u8,
+    opmode: u8,
+    ea: u8,
+    read: Followed,
+) -> Reading
+    requires { ⌜ (line < 16) × (x < 8) × (opmode < 8) × (ea < 64) ⌝ }
+    ensures { λ r. ⌜ r ≡ formedAs address shape line x opmode ea read ⌝ }
+{
+    match read {
+        Followed::Got(fields, at) => {
+            let source = fields.source;
+            let destination = fields.destination;
+            let length = 2 * ((at % 16) as u32);
+            read_forming::form(
+                shape,
+                address,
+                line,
+                x,
+                opmode,
+                ea,
+                fields.value,
+                source,
+                destination,
+                length,
+            )
+        }
+        Followed::Short => Reading::Short,
+        Followed::Nothing => Reading::Nothing,
+    }
+}
+
+// The instruction whose operation word is w.
+fn read_word(words: &[u16], address: u32, w: u16) -> Reading
+    ensures { λ r. ⌜ r ≡ followingAt address (now (words .entry)) w ⌝ }
+{
+    let line = (w / 4096) as u8;
+    let x = (w / 512 % 8) as u8;
+    let opmode = (w / 64 % 8) as u8;
+    let ea = (w % 64) as u8;
+    let shape = read_layouts::map::shape(w / 64);
+    let layout = read_layouts::layout(shape, line, x, opmode, ea);
+    let read = read_operands::follow(words, address, layout);
+    formed(shape, address, line, x, opmode, ea, read)
+}
+
+// The instruction that words at an address begin with, in plain form, and its length in bytes.
+pub fn read(words: &[u16], address: u32) -> Reading
+    ensures { λ r. ⌜ r ≡ readOf (now (words .entry)) address ⌝ }
+{
+    if words.len() == 0 {
+        Reading::Short
+    } else {
+        read_word(words, address, words[0])
+    }
+}

@@ -1,0 +1,24 @@
+-- The fields that are in a group: the other way of `in-group`.
+use Prim.Native.Nat.{ℕ, _<_}
+use mathlib.Core.Path.{_≡_, ap, sym, _∙_}
+use mathlib.Core.Bool.{Bool, true}
+use lib.Dec.{eqb}
+use lib.ListN.{getD}
+use Rattle.read_spec.specs.declared.Shape.{Shape}
+use Rattle.read_spec.specs.declared.Shape.the-variants as shape
+use Rattle.read_spec.specs.Map.{shapeAt, groupNumber, shapes}
+use Rattle.read_operand_laws.specs.Facts.{all, below, eqb-eq}
+use Rattle.read_laws.specs.MapLaws.{number-shape, implies, everywhere}
+
+abbrev pub ofGroup : Shape → (ℕ → ℕ → ℕ → Bool) → ℕ → ℕ → ℕ → Bool
+ofGroup s p l x o = implies (p l x o) (eqb (groupNumber (shapeAt l x o)) (groupNumber s))
+
+pub of-group : (s : Shape) (p : ℕ → ℕ → ℕ → Bool) → everywhere (ofGroup s p) ≡ true
+    → (line x opmode : ℕ) → line < 16 → x < 8 → opmode < 8 → p line x opmode ≡ true → shapeAt line x opmode ≡ s
+of-group s p t line x opmode hl hx ho e =
+    let f : (ℕ → ℕ → ℕ → Bool) = ofGroup s p in
+    let u = below (λ l. all (λ x. all (λ o. f l x o) 8) 8) 16 t line hl in
+    let v = below (λ x. all (λ o. f line x o) 8) 8 u x hx in
+    let w : implies (p line x opmode) (eqb (groupNumber (shapeAt line x opmode)) (groupNumber s)) ≡ true = below (λ o. f line x o) 8 v opmode ho in
+    let n : groupNumber (shapeAt line x opmode) ≡ groupNumber s = eqb-eq (groupNumber (shapeAt line x opmode)) (groupNumber s) (rw e at w) in
+    sym (number-shape (shapeAt line x opmode)) ∙ ap (λ (k : ℕ). getD shapes k shape.Unused) n ∙ number-shape s

@@ -1,0 +1,105 @@
+-- What an accepted instruction lays down are words: below 65,536.
+use Prim.Native.Nat.{ℕ, _^_, _<_}
+use mathlib.Core.Path.{_≡_, _∙_, sym}
+use mathlib.Core.Bool.{Bool, true, false}
+use mathlib.Core.List.{List}
+use native.Mathlib.Omega.{arith}
+use lib.IntN.{ℤ, pos}
+use Rattle.isa.specs.declared.Size.{Size}
+use Rattle.isa.specs.declared.Size.the-variants.{Byte, Word, Long}
+use Rattle.isa.specs.declared.AddressWidth.the-variants as width
+use Rattle.isa.specs.declared.DisplacementSize.{DisplacementSize}
+use Rattle.isa.specs.declared.DisplacementSize.the-variants as displacement
+use Rattle.isa.specs.declared.RegisterOperand.{RegisterOperand}
+use Rattle.isa.specs.declared.RegisterOperand.the-variants.{Address, Data}
+use Rattle.isa.specs.declared.Field.{Field}
+use Rattle.isa.specs.declared.Field.the-variants as field
+use Rattle.isa.specs.declared.Operand.{Operand}
+use Rattle.isa.specs.declared.Operand.the-variants.{Immediate, Register, Indirect, PostIndirect, PreIndirect, IndirectDisplacement, IndirectIndex, PcDisplacement, PcIndex, Extended, Absolute}
+use Rattle.isa.specs.ExtensionWord.{pick, isFull, baseSize, outerSize}
+use Rattle.isa.specs.Code.{general, longBit}
+use Rattle.encode_spec.specs.Item.{Item, fine, ranged, wordsIn}
+use Rattle.encode_spec.specs.Ea.{eaItems, displacementItems, baseDisplacement, fullItems, scaledItems, immediateWords}
+use Rattle.read_spec.specs.declared.Specifier.{Specifier}
+use Rattle.read_spec.specs.declared.Specifier.the-variants as specifier
+use Rattle.read_spec.specs.declared.Layout.{Layout}
+use Rattle.read_spec.specs.declared.Fields.{Fields}
+use Rattle.read_spec.specs.Formed.{wordOf}
+use Rattle.read_operand_laws.specs.Facts.{fine-both, range-holds, immediate-holds, ltb-is, words-in-append}
+use Rattle.read_operand_laws.specs.TreeLaws.{Words, words-append}
+use Rattle.read_operand_laws.specs.Stands.{Stands}
+use Rattle.read_operand_laws.specs.Following.{specifierWords, SpecifierStands, sourceAt, destinationAt, Following, followingWords}
+
+general-lt : (r : RegisterOperand) → general r < 16
+general-lt (Address n) = omega arith
+general-lt (Data n) = omega arith
+
+long-lt : (s : Size) → longBit s < 2
+long-lt Byte = omega arith
+long-lt Word = omega arith
+long-lt Long = omega arith
+
+displacement-words : (k : DisplacementSize) (z : ℤ) (f : Field) → Words (wordsIn (displacementItems k z f))
+displacement-words displacement.Null z f = tt
+displacement-words displacement.Word z f = (omega arith, tt)
+displacement-words displacement.Long z f = (omega arith, (omega arith, tt))
+
+immediate-words : (s : Size) (v : ℕ) → v < 2 ^ 32 → Words (wordsIn (immediateWords v s))
+immediate-words Byte v h = (omega arith, tt)
+immediate-words Word v h = (omega arith, tt)
+immediate-words Long v h = (omega arith, (omega arith, tt))
+
+immediate-lt : (s : Size) (v : ℕ) → ranged true (field.Immediate s) (pos v) ≡ fine → v < 2 ^ 32
+immediate-lt Byte v e = omega (arith, ltb-is v 256 (sym (immediate-holds Byte v) ∙ range-holds (field.Immediate Byte) (pos v) e))
+immediate-lt Word v e = omega (arith, ltb-is v 65536 (sym (immediate-holds Word v) ∙ range-holds (field.Immediate Word) (pos v) e))
+immediate-lt Long v e = omega (arith, ltb-is v 4294967296 (sym (immediate-holds Long v) ∙ range-holds (field.Immediate Long) (pos v) e))
+
+pick-words : (b : Bool) (xs ys : List Item) → Words (wordsIn xs) → Words (wordsIn ys) → Words (wordsIn (pick b xs ys))
+pick-words true xs ys p q = p
+pick-words false xs ys p q = q
+
+full-words : (w : ℕ) (z outer : ℤ) → w < 65536 → Words (wordsIn (fullItems w z outer))
+full-words w z outer h = (
+  h,
+  rw (words-in-append (displacementItems (baseSize w) z field.BaseDisplacement) (displacementItems (outerSize w) outer field.OuterDisplacement))
+      (words-append (wordsIn (displacementItems (baseSize w) z field.BaseDisplacement)) (wordsIn (displacementItems (outerSize w) outer field.OuterDisplacement))
+      (displacement-words (baseSize w) z field.BaseDisplacement) (displacement-words (outerSize w) outer field.OuterDisplacement)),
+)
+
+pub operand-words : (s : Size) (at ea : ℕ) (o : Operand) → Stands s at ea o → Words (wordsIn (eaItems o s at))
+operand-words s at ea (Immediate v) h = immediate-words s v (immediate-lt s v (fine-both (ranged true (field.Immediate s) (pos v)) _ (h .0) .0))
+operand-words s at ea (Register r) h = tt
+operand-words s at ea (Indirect n) h = tt
+operand-words s at ea (PostIndirect n) h = tt
+operand-words s at ea (PreIndirect n) h = tt
+operand-words s at ea (IndirectDisplacement z base) h = (omega arith, tt)
+operand-words s at ea (IndirectIndex base z x) h = (omega (arith, general-lt (x .register), long-lt (x .size)), tt)
+operand-words s at ea (PcDisplacement t) h = (omega arith, tt)
+operand-words s at ea (PcIndex t x) h = (omega (arith, general-lt (x .register), long-lt (x .size)), tt)
+operand-words s at ea (Extended base w z outer) h =
+    pick-words (isFull w) (fullItems w (baseDisplacement base w z at) outer) (scaledItems base w (baseDisplacement base w z at))
+    (full-words w (baseDisplacement base w z at) outer (h .2 .0)) (omega (arith, h .2 .0), tt)
+operand-words s at ea (Absolute a width.Word) h = (omega arith, tt)
+operand-words s at ea (Absolute a width.Long) h = (omega arith, (omega arith, tt))
+
+specifier-words : (k : Specifier) (v : ℕ) → SpecifierStands k v → Words (specifierWords k v)
+specifier-words specifier.Nothing v h = tt
+specifier-words specifier.Word v h = (h .0, tt)
+specifier-words specifier.Byte v h = (h .0, tt)
+specifier-words specifier.General v h = (h .0, tt)
+specifier-words specifier.Multiply v h = (h .0, tt)
+specifier-words specifier.Divide v h = (h .0, tt)
+specifier-words specifier.Compare v h = (h .0, tt)
+specifier-words specifier.BitField v h = (h .0, tt)
+specifier-words specifier.Long v h = (omega (arith, h .0), (omega arith, tt))
+specifier-words specifier.CompareTwo v h = (omega (arith, h .0), (omega arith, tt))
+
+pub following-words : (a : ℕ) (l : Layout) (f : Fields) → Following a l f → Words (followingWords a l f)
+following-words a l f h =
+    words-append (specifierWords (l .specifier) (f .value)) _ (specifier-words (l .specifier) (f .value) (h .1))
+    (words-append (wordsIn (eaItems (f .source) (l .size) (sourceAt a l f))) _
+    (operand-words (l .size) (sourceAt a l f) (l .source) (f .source) (h .2))
+    (operand-words (l .size) (destinationAt a l f) (l .destination) (f .destination) (h .3)))
+
+pub word-lt : (line x opmode ea : ℕ) → line < 16 → x < 8 → opmode < 8 → ea < 64 → wordOf line x opmode ea < 65536
+word-lt line x opmode ea hl hx ho he = omega arith

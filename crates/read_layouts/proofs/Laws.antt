@@ -1,0 +1,98 @@
+-- Laws of the tables. Assumes nothing.
+use Prim.Native.Nat.{ℕ, zero, suc, _+_, _≤_, _<_}
+use mathlib.Core.Path.{_≡_, refl, sym, ap, subst, _∙_}
+use mathlib.Core.Bool.{Bool, true, _&&_}
+use mathlib.Core.Logic.{inl, inr}
+use mathlib.Core.List.{List, [], _∷_}
+use native.Mathlib.Omega.{arith}
+use lib.Dec.{T, eqb, ltb, eqb→eq}
+use lib.ListN.{length, getD, List·getD-eq-default}
+use types.Run.{OneOf}
+use denote.Enum.Declared.{tagOf}
+use Rattle.isa_values.specs.Condition.{both}
+use Rattle.read_spec.proofs.Shape.{the-type}
+use Rattle.read_spec.specs.declared.Shape.{Shape}
+use Rattle.read_spec.specs.declared.Shape.the-variants as shape
+use Rattle.read_spec.specs.declared.Layout.{Layout}
+use Rattle.read_spec.specs.Map.{shapes, groupNumber}
+use Rattle.read_spec.specs.Layout.{bare}
+use Rattle.read_spec.specs.Layouts.{layoutOf}
+
+-- in the list the default does not matter
+pub inside : {A : Type 0} (xs : List A) (k : ℕ) (d e : A) → k < length xs → getD xs k d ≡ getD xs k e
+inside [] k d e h = absurd (omega arith)
+inside (x ∷ xs) zero d e h = refl
+inside (x ∷ xs) (suc k) d e h = inside xs k d e (omega arith)
+
+pub outside : {A : Type 0} (xs : List A) (k : ℕ) (d : A) → length xs ≤ k → d ≡ getD xs k d
+outside xs k d h = sym (List·getD-eq-default xs d h)
+
+-- a test of each entry against a rule, counted from k
+abbrev pub follows : (ℕ → ℕ) → ℕ → List ℕ → Bool
+follows f k [] = true
+follows f k (x ∷ xs) = eqb x (f k) && follows f (suc k) xs
+
+from : (f : ℕ → ℕ) (xs : List ℕ) (k : ℕ) → T (follows f k xs) → (i : ℕ) → i < length xs → getD xs i 0 ≡ f (k + i)
+from f [] k t i h = absurd (omega arith)
+from f (x ∷ xs) k t zero h = eqb→eq x (f k) (both (eqb x (f k)) (follows f (suc k) xs) t .0) ∙ ap f (omega arith)
+from f (x ∷ xs) k t (suc i) h = from f xs (suc k) (both (eqb x (f k)) (follows f (suc k) xs) t .1) i (omega arith) ∙ ap f (omega arith)
+
+-- a table that passes it follows the rule
+pub by-rule : (f : ℕ → ℕ) (xs : List ℕ) (i : ℕ) → T (follows f 0 xs) → i < length xs → getD xs i 0 ≡ f i
+by-rule f xs i t h = from f xs 0 t i h ∙ ap f (omega arith)
+
+-- the groups by their numbers, which are also the variants' tags
+pub numbered : (s : Shape) → (getD shapes (groupNumber s) shape.Unused ≡ s) × T (ltb (groupNumber s) 35) × (tagOf the-type s ≡ groupNumber s)
+numbered shape.Unused = (refl, tt, refl)
+numbered shape.ImmediateInto = (refl, tt, refl)
+numbered shape.StaticBit = (refl, tt, refl)
+numbered shape.DynamicBit = (refl, tt, refl)
+numbered shape.MOVES = (refl, tt, refl)
+numbered shape.Bounds = (refl, tt, refl)
+numbered shape.CAS = (refl, tt, refl)
+numbered shape.MOVE = (refl, tt, refl)
+numbered shape.OneOperand = (refl, tt, refl)
+numbered shape.UnsizedOne = (refl, tt, refl)
+numbered shape.NBCD = (refl, tt, refl)
+numbered shape.PEA = (refl, tt, refl)
+numbered shape.MOVEM = (refl, tt, refl)
+numbered shape.MULL = (refl, tt, refl)
+numbered shape.DIVL = (refl, tt, refl)
+numbered shape.System = (refl, tt, refl)
+numbered shape.LEA = (refl, tt, refl)
+numbered shape.CHK = (refl, tt, refl)
+numbered shape.Quick = (refl, tt, refl)
+numbered shape.Conditional = (refl, tt, refl)
+numbered shape.Branch = (refl, tt, refl)
+numbered shape.MOVEQ = (refl, tt, refl)
+numbered shape.IntoData = (refl, tt, refl)
+numbered shape.Arithmetic = (refl, tt, refl)
+numbered shape.Decimal = (refl, tt, refl)
+numbered shape.Pack = (refl, tt, refl)
+numbered shape.Exchange = (refl, tt, refl)
+numbered shape.Compare = (refl, tt, refl)
+numbered shape.WordIntoData = (refl, tt, refl)
+numbered shape.IntoAddress = (refl, tt, refl)
+numbered shape.ShiftRegister = (refl, tt, refl)
+numbered shape.ShiftMemory = (refl, tt, refl)
+numbered shape.BitField = (refl, tt, refl)
+numbered shape.LineA = (refl, tt, refl)
+numbered shape.LineF = (refl, tt, refl)
+
+-- MOVEQ, ShiftRegister, LineA and LineF
+abbrev pub bareTags : List ℕ
+bareTags = 21 ∷ 30 ∷ 33 ∷ 34 ∷ []
+
+module _ (line x opmode ea : ℕ) where
+  abbrev atNumber : ℕ → Layout
+  atNumber n = layoutOf (getD shapes n shape.Unused) line x opmode ea
+
+  bare-number : (n : ℕ) → OneOf bareTags n → atNumber n ≡ bare
+  bare-number n (inl e) = ap atNumber e
+  bare-number n (inr (inl e)) = ap atNumber e
+  bare-number n (inr (inr (inl e))) = ap atNumber e
+  bare-number n (inr (inr (inr e))) = ap atNumber e
+
+  pub bare-shape : (s : Shape) → OneOf bareTags (tagOf the-type s) → bare ≡ layoutOf s line x opmode ea
+  bare-shape s k =
+      sym (bare-number (groupNumber s) (subst (OneOf bareTags) (numbered s .2) k)) ∙ ap (λ (t : Shape). layoutOf t line x opmode ea) (numbered s .0)

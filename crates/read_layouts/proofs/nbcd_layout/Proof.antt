@@ -1,0 +1,19 @@
+use borrow.Author.Needs.{needs}
+use borrow.Author.Tests.{eq-eqb, ne-eqb}
+use Rattle.read_layouts.proofs.nbcd_layout.Statement.{statement}
+use Rattle.read_layouts.proofs.nbcd_layout.Tie as tie
+
+alone-requires : tie.Need-alone-requires
+alone-requires c κs = search needs
+
+unsized-layout-requires : tie.Need-unsized-layout-requires
+unsized-layout-requires c κs = search needs
+
+returns : tie.Need-returns
+returns c = rw (c .alone .ensures, eq-eqb _ _ (c .before .if1 .taken))
+
+returns-2 : tie.Need-returns-2
+returns-2 c = rw (c .unsized-layout .ensures, ne-eqb _ _ (c .before .if1 .left))
+
+pub nbcd-layout-spec : {M : Type 1} → statement M
+nbcd-layout-spec = tie.close (tie.spec alone-requires unsized-layout-requires returns returns-2)

@@ -1,0 +1,494 @@
+// What an operation word is, and what follows it (the manual, section 4, each instruction's format; section 8).
+// line, x, opmode and ea are bits 15 to 12, 11 to 9, 8 to 6 and 5 to 0 of the operation word.
+ghost use mathlib.Core.Path.{_≡_};
+ghost use Prim.Native.Nat.{_<_};
+ghost use Rattle.isa.specs.declared.Size.the-variants.{Long, Word};
+ghost use Rattle.isa.specs.ExtensionWord.{pick};
+ghost use Rattle.encode_spec.specs.Bits.{staticModes};
+ghost use Rattle.encode_spec.specs.Movement.{movemModes};
+ghost use Rattle.read_spec.specs.Layout.{two, one, alone, bare, noLayout};
+ghost use Rattle.read_spec.specs.Layouts.{readableModes, immediateSpecifier, immediateLayout, dynamicLayout, casLayout, moveaLayout, moveLayout, oneLayout, unsizedModes, unsizedSize, unsizedLayout, unsizedOneLayout, nbcdLayout, peaLayout, movemLayout, systemSpecifier, systemLayout, leaLayout, quickLayout, trapSpecifier, conditionalLayout, branchLayout, intoDataLayout, fromDataLayout, isExchange, exchangeLayout, compareLayout, bitFieldLayout, layoutOf};
+use crate::operation::bit_field_at;
+use crate::operation::less;
+use crate::operation::move_size;
+use crate::operation::size_at;
+use crate::operation::to_memory_at;
+use crate::operation::to_status;
+use crate::operation::unsized_at;
+use isa::BitFieldOperation;
+use isa::Size;
+use isa::TargetDirection;
+use isa::UnsizedOneOperation;
+use isa_operands::ALL;
+use isa_operands::ALTERABLE;
+use isa_operands::BIT_FIELD_READ;
+use isa_operands::BIT_FIELD_WRITTEN;
+use isa_operands::CONTROL;
+use isa_operands::DATA;
+use isa_operands::DATA_ALTERABLE;
+use isa_operands::DATA_NOT_IMMEDIATE;
+use isa_operands::MEMORY_ALTERABLE;
+use isa_operands::MOVEM_FROM_MEMORY;
+use isa_operands::MOVEM_TO_MEMORY;
+use isa_values::bit_field_operation;
+use read_spec::Layout;
+use read_spec::Shape;
+use read_spec::Specifier;
+
+pub mod map; // the group of an operation word
+pub mod operation; // what its fields name
+
+// A specifier and two operands.
+fn two(
+    specifier: Specifier,
+    size: Size,
+    source: u8,
+    readable: u16,
+    destination: u8,
+    writable: u16,
+) -> Layout
+    ensures { λ r. ⌜ r ≡ two specifier size source readable destination writable ⌝ }
+{
+    Layout {
+        accepted: true,
+        specifier,
+        size,
+        source,
+        readable,
+        destination,
+        writable,
+    }
+}
+
+// A specifier and one operand. A missing operand stands as D0, which takes no words.
+fn one(specifier: Specifier, size: Size, ea: u8, modes: u16) -> Layout
+    ensures { λ r. ⌜ r ≡ one specifier size ea modes ⌝ }
+{
+    two(specifier, size, ea, modes, 0, 1)
+}
+
+// A specifier alone.
+fn alone(specifier: Specifier) -> Layout
+    ensures { λ r. ⌜ r ≡ alone specifier ⌝ }
+{
+    one(specifier, Size::Byte, 0, 1)
+}
+
+// Nothing more.
+fn bare() -> Layout
+    ensures { λ r. ⌜ r ≡ bare ⌝ }
+{
+    alone(Specifier::Nothing)
+}
+
+// No instruction.
+fn no_layout() -> Layout
+    ensures { λ r. ⌜ r ≡ noLayout ⌝ }
+{
+    Layout {
+        accepted: false,
+        specifier: Specifier::Nothing,
+        size: Size::Byte,
+        source: 0,
+        readable: 1,
+        destination: 0,
+        writable: 1,
+    }
+}
+
+// One of two sets of modes.
+fn pick(test: bool, yes: u16, no: u16) -> u16
+    ensures { λ r. ⌜ r ≡ pick test yes no ⌝ }
+{
+    if test { yes } else { no }
+}
+
+// A long, or else a word.
+fn long_if(test: bool) -> Size
+    ensures { λ r. ⌜ r ≡ pick test Long Word ⌝ }
+{
+    if test { Size::Long } else { Size::Word }
+}
+
+// Any mode, but not a byte of an address register.
+fn readable_modes(size: Size) -> u16
+    ensures { λ r. ⌜ r ≡ readableModes size ⌝ }
+{
+    pick(encode_state::is_byte(size), DATA, ALL)
+}
+
+// An immediate before the destination.
+fn immediate_specifier(size: Size) -> Specifier
+    ensures { λ r. ⌜ r ≡ immediateSpecifier size ⌝ }
+{
+    match size {
+        Size::Byte => Specifier::Byte,
+        Size::Word => Specifier::Word,
+        Size::Long => Specifier::Long,
+    }
+}
+
+// The modes of BTST, BCHG, BCLR and BSET with a number; BTST only reads its operand.
+fn static_modes(kind: u8) -> u16
+    ensures { λ r. ⌜ r ≡ staticModes kind ⌝ }
+{
+    pick(kind == 0, DATA_NOT_IMMEDIATE, DATA_ALTERABLE)
+}
+
+// ORI, ANDI, SUBI, ADDI, EORI and CMPI, and to CCR and SR.
+fn immediate_layout(x: u8, opmode: u8, ea: u8) -> Layout
+    ensures { λ r. ⌜ r ≡ immediateLayout x opmode ea ⌝ }
+{
+    let size = size_at(opmode);
+    let specifier = immediate_specifier(size);
+    let modes = pick(x == 6, DATA_NOT_IMMEDIATE, DATA_ALTERABLE);
+    if to_status(x, opmode, ea) {
+        alone(specifier)
+    } else {
+        one(specifier, size, ea, modes)
+    }
+}
+
+// BTST, BCHG, BCLR and BSET with a data register, and MOVEP.
+fn dynamic_layout(opmode: u8, ea: u8) -> Layout
+    ensures { λ r. ⌜ r ≡ dynamicLayout opmode ea ⌝ }
+{
+    let kind = less(opmode, 4);
+    let modes = pick(kind == 0, DATA, DATA_ALTERABLE);
+    if ea / 8 == 1 {
+        one(Specifier::Nothing, Size::Word, 40 + ea % 8, 32)
+    } else {
+        one(Specifier::Nothing, Size::Byte, ea, modes)
+    }
+}
+
+// CAS and CAS2.
+fn cas_layout(x: u8, ea: u8) -> Layout
+    ensures { λ r. ⌜ r ≡ casLayout x ea ⌝ }
+{
+    let size = size_at(less(x, 5));
+    if (ea == 60) & (6 <= x) {
+        alone(Specifier::CompareTwo)
+    } else {
+        one(Specifier::Compare, size, ea, MEMORY_ALTERABLE)
+    }
+}
+
+// MOVEA has no byte.
+fn movea_layout(size: Size, ea: u8) -> Layout
+    ensures { λ r. ⌜ r ≡ moveaLayout size ea ⌝ }
+{
+    if encode_state::is_byte(size) {
+        no_layout()
+    } else {
+        one(Specifier::Nothing, size, ea, ALL)
+    }
+}
+
+// MOVE: the destination's register before its mode.
+fn move_layout(size: Size, x: u8, opmode: u8, ea: u8) -> Layout
+    requires { ⌜ (x < 8) × (opmode < 8) ⌝ }
+    ensures { λ r. ⌜ r ≡ moveLayout size x opmode ea ⌝ }
+{
+    let modes = readable_modes(size);
+    if opmode == 1 {
+        movea_layout(size, ea)
+    } else {
+        two(
+            Specifier::Nothing,
+            size,
+            ea,
+            modes,
+            opmode * 8 + x,
+            DATA_ALTERABLE,
+        )
+    }
+}
+
+// NEGX, CLR, NEG, NOT and TST.
+fn one_layout(size: Size, x: u8, ea: u8) -> Layout
+    ensures { λ r. ⌜ r ≡ oneLayout size x ea ⌝ }
+{
+    let modes = pick(x == 5, readable_modes(size), DATA_ALTERABLE);
+    one(Specifier::Nothing, size, ea, modes)
+}
+
+fn unsized_modes(operation: UnsizedOneOperation) -> u16
+    ensures { λ r. ⌜ r ≡ unsizedModes operation ⌝ }
+{
+    match operation {
+        UnsizedOneOperation::PEA => CONTROL,
+        UnsizedOneOperation::NBCD => DATA_ALTERABLE,
+        UnsizedOneOperation::JSR => CONTROL,
+        UnsizedOneOperation::JMP => CONTROL,
+        UnsizedOneOperation::TAS => DATA_ALTERABLE,
+        UnsizedOneOperation::MOVEtoCCR => DATA,
+        UnsizedOneOperation::MOVEfromCCR => DATA_ALTERABLE,
+        UnsizedOneOperation::MOVEtoSR => DATA,
+        UnsizedOneOperation::MOVEfromSR => DATA_ALTERABLE,
+    }
+}
+
+fn unsized_size(operation: UnsizedOneOperation) -> Size
+    ensures { λ r. ⌜ r ≡ unsizedSize operation ⌝ }
+{
+    match operation {
+        UnsizedOneOperation::PEA => Size::Long,
+        UnsizedOneOperation::NBCD => Size::Byte,
+        UnsizedOneOperation::JSR => Size::Long,
+        UnsizedOneOperation::JMP => Size::Long,
+        UnsizedOneOperation::TAS => Size::Byte,
+        UnsizedOneOperation::MOVEtoCCR => Size::Word,
+        UnsizedOneOperation::MOVEfromCCR => Size::Word,
+        UnsizedOneOperation::MOVEtoSR => Size::Word,
+        UnsizedOneOperation::MOVEfromSR => Size::Word,
+    }
+}
+
+fn unsized_layout(operation: UnsizedOneOperation, ea: u8) -> Layout
+    ensures { λ r. ⌜ r ≡ unsizedLayout operation ea ⌝ }
+{
+    one(
+        Specifier::Nothing,
+        unsized_size(operation),
+        ea,
+        unsized_modes(operation),
+    )
+}
+
+// ILLEGAL stands where TAS would have an immediate operand.
+fn unsized_one_layout(x: u8, opmode: u8, ea: u8) -> Layout
+    ensures { λ r. ⌜ r ≡ unsizedOneLayout x opmode ea ⌝ }
+{
+    if (x == 5) & (ea == 60) {
+        bare()
+    } else {
+        unsized_layout(unsized_at(x, opmode), ea)
+    }
+}
+
+// NBCD, and LINK with a long.
+fn nbcd_layout(ea: u8) -> Layout
+    ensures { λ r. ⌜ r ≡ nbcdLayout ea ⌝ }
+{
+    if ea / 8 == 1 {
+        alone(Specifier::Long)
+    } else {
+        unsized_layout(UnsizedOneOperation::NBCD, ea)
+    }
+}
+
+// PEA, SWAP and BKPT.
+fn pea_layout(ea: u8) -> Layout
+    ensures { λ r. ⌜ r ≡ peaLayout ea ⌝ }
+{
+    if ea < 16 {
+        bare()
+    } else {
+        unsized_layout(UnsizedOneOperation::PEA, ea)
+    }
+}
+
+fn movem_modes(direction: TargetDirection) -> u16
+    ensures { λ r. ⌜ r ≡ movemModes direction ⌝ }
+{
+    match direction {
+        TargetDirection::ToMemory => MOVEM_TO_MEMORY,
+        TargetDirection::FromMemory => MOVEM_FROM_MEMORY,
+    }
+}
+
+// MOVEM, and EXT.
+fn movem_layout(x: u8, opmode: u8, ea: u8) -> Layout
+    ensures { λ r. ⌜ r ≡ movemLayout x opmode ea ⌝ }
+{
+    let size = size_at(less(opmode, 1));
+    let modes = movem_modes(to_memory_at(less(5, x)));
+    if (x == 4) & (ea < 8) {
+        bare()
+    } else {
+        one(Specifier::Word, size, ea, modes)
+    }
+}
+
+// LINK, STOP, RTD and MOVEC have a word.
+fn system_specifier(ea: u8) -> Specifier
+    ensures { λ r. ⌜ r ≡ systemSpecifier ea ⌝ }
+{
+    if (ea / 8 == 2) | (ea == 50) | (ea == 52) | (56 <= ea) {
+        Specifier::Word
+    } else {
+        Specifier::Nothing
+    }
+}
+
+// TRAP, LINK, UNLK, MOVE USP, RESET, NOP, STOP, RTE, RTD, RTS, TRAPV, RTR and MOVEC.
+fn system_layout(ea: u8) -> Layout
+    ensures { λ r. ⌜ r ≡ systemLayout ea ⌝ }
+{
+    if (ea < 56) | (ea / 2 == 29) {
+        alone(system_specifier(ea))
+    } else {
+        no_layout()
+    }
+}
+
+// LEA, and EXTB.L.
+fn lea_layout(x: u8, ea: u8) -> Layout
+    ensures { λ r. ⌜ r ≡ leaLayout x ea ⌝ }
+{
+    if (x == 4) & (ea < 8) {
+        bare()
+    } else {
+        one(Specifier::Nothing, Size::Long, ea, CONTROL)
+    }
+}
+
+// ADDQ and SUBQ.
+fn quick_layout(size: Size, ea: u8) -> Layout
+    ensures { λ r. ⌜ r ≡ quickLayout size ea ⌝ }
+{
+    let modes = pick(encode_state::is_byte(size), DATA_ALTERABLE, ALTERABLE);
+    one(Specifier::Nothing, size, ea, modes)
+}
+
+// The operand of TRAPcc.
+fn trap_specifier(ea: u8) -> Specifier
+    ensures { λ r. ⌜ r ≡ trapSpecifier ea ⌝ }
+{
+    if ea == 58 {
+        Specifier::Word
+    } else if ea == 59 {
+        Specifier::Long
+    } else {
+        Specifier::Nothing
+    }
+}
+
+// Scc, DBcc and TRAPcc.
+fn conditional_layout(ea: u8) -> Layout
+    ensures { λ r. ⌜ r ≡ conditionalLayout ea ⌝ }
+{
+    if ea / 8 == 1 {
+        alone(Specifier::Word)
+    } else if (58 <= ea) & (ea <= 60) {
+        alone(trap_specifier(ea))
+    } else {
+        one(Specifier::Nothing, Size::Byte, ea, DATA_ALTERABLE)
+    }
+}
+
+// The displacement's byte: $00 before a word, $FF before a long.
+fn branch_layout(byte: u8) -> Layout
+    ensures { λ r. ⌜ r ≡ branchLayout byte ⌝ }
+{
+    if byte == 0 {
+        alone(Specifier::Word)
+    } else if byte == 255 {
+        alone(Specifier::Long)
+    } else {
+        bare()
+    }
+}
+
+// <ea>,Dn of OR, AND, SUB, CMP and ADD.
+fn into_data_layout(line: u8, size: Size, ea: u8) -> Layout
+    ensures { λ r. ⌜ r ≡ intoDataLayout line size ea ⌝ }
+{
+    let modes = pick((line == 8) | (line == 12), DATA, readable_modes(size));
+    one(Specifier::Nothing, size, ea, modes)
+}
+
+// Dn,<ea> of these; below 16 stand the forms Dy,Dx and -(Ay),-(Ax) of others.
+fn from_data_layout(specifier: Specifier, size: Size, ea: u8) -> Layout
+    ensures { λ r. ⌜ r ≡ fromDataLayout specifier size ea ⌝ }
+{
+    if ea < 16 {
+        alone(specifier)
+    } else {
+        one(Specifier::Nothing, size, ea, MEMORY_ALTERABLE)
+    }
+}
+
+// EXG of two data registers, two address registers, or a data and an address register.
+pub fn is_exchange(opmode: u8, ea: u8) -> bool
+    ensures { λ r. ⌜ r ≡ isExchange opmode ea ⌝ }
+{
+    (ea < 16) & ((opmode == 5) | (8 <= ea))
+}
+
+fn exchange_layout(opmode: u8, ea: u8) -> Layout
+    ensures { λ r. ⌜ r ≡ exchangeLayout opmode ea ⌝ }
+{
+    let size = size_at(less(opmode, 4));
+    if is_exchange(opmode, ea) {
+        bare()
+    } else {
+        one(Specifier::Nothing, size, ea, MEMORY_ALTERABLE)
+    }
+}
+
+// CMPM takes two (An)+ only; EOR.
+fn compare_layout(x: u8, opmode: u8, ea: u8) -> Layout
+    requires { ⌜ x < 8 ⌝ }
+    ensures { λ r. ⌜ r ≡ compareLayout x opmode ea ⌝ }
+{
+    let size = size_at(less(opmode, 4));
+    if ea / 8 == 1 {
+        two(Specifier::Nothing, Size::Byte, 24 + ea % 8, 8, 24 + x, 8)
+    } else {
+        one(Specifier::Nothing, size, ea, DATA_ALTERABLE)
+    }
+}
+
+fn bit_field_layout(operation: BitFieldOperation, ea: u8) -> Layout
+    ensures { λ r. ⌜ r ≡ bitFieldLayout operation ea ⌝ }
+{
+    let modes = pick(
+        bit_field_operation::writes(operation),
+        BIT_FIELD_WRITTEN,
+        BIT_FIELD_READ,
+    );
+    one(Specifier::BitField, Size::Byte, ea, modes)
+}
+
+// What follows the operation words of a group.
+pub fn layout(shape: Shape, line: u8, x: u8, opmode: u8, ea: u8) -> Layout
+    requires { ⌜ (x < 8) × (opmode < 8) × (ea < 64) ⌝ }
+    ensures { λ r. ⌜ r ≡ layoutOf shape line x opmode ea ⌝ }
+{
+    match shape {
+        Shape::Unused => no_layout(),
+        Shape::ImmediateInto => immediate_layout(x, opmode, ea),
+        Shape::StaticBit => one(Specifier::Byte, Size::Byte, ea, static_modes(opmode)),
+        Shape::DynamicBit => dynamic_layout(opmode, ea),
+        Shape::MOVES => one(Specifier::General, size_at(opmode), ea, MEMORY_ALTERABLE),
+        Shape::Bounds => one(Specifier::General, size_at(x), ea, CONTROL),
+        Shape::CAS => cas_layout(x, ea),
+        Shape::MOVE => move_layout(move_size(line), x, opmode, ea),
+        Shape::OneOperand => one_layout(size_at(opmode), x, ea),
+        Shape::UnsizedOne => unsized_one_layout(x, opmode, ea),
+        Shape::NBCD => nbcd_layout(ea),
+        Shape::PEA => pea_layout(ea),
+        Shape::MOVEM => movem_layout(x, opmode, ea),
+        Shape::MULL => one(Specifier::Multiply, Size::Long, ea, DATA),
+        Shape::DIVL => one(Specifier::Divide, Size::Long, ea, DATA),
+        Shape::System => system_layout(ea),
+        Shape::LEA => lea_layout(x, ea),
+        Shape::CHK => one(Specifier::Nothing, long_if(opmode == 4), ea, DATA),
+        Shape::Quick => quick_layout(size_at(opmode % 4), ea),
+        Shape::Conditional => conditional_layout(ea),
+        Shape::Branch => branch_layout(opmode % 4 * 64 + ea),
+        Shape::IntoData => into_data_layout(line, size_at(opmode), ea),
+        Shape::Arithmetic => from_data_layout(Specifier::Nothing, size_at(less(opmode, 4)), ea),
+        Shape::Decimal => from_data_layout(Specifier::Nothing, Size::Byte, ea),
+        Shape::Pack => from_data_layout(Specifier::Word, size_at(less(opmode, 4)), ea),
+        Shape::Exchange => exchange_layout(opmode, ea),
+        Shape::Compare => compare_layout(x, opmode, ea),
+        Shape::WordIntoData => one(Specifier::Nothing, Size::Word, ea, DATA),
+        Shape::IntoAddress => one(Specifier::Nothing, long_if(opmode == 7), ea, ALL),
+        Shape::ShiftMemory => one(Specifier::Nothing, Size::Word, ea, MEMORY_ALTERABLE),
+        Shape::BitField => bit_field_layout(bit_field_at(less(x, 4) * 2 + opmode / 4), ea),
+        Shape::MOVEQ | Shape::ShiftRegister | Shape::LineA | Shape::LineF => bare(),
+    }
+}

@@ -1,0 +1,175 @@
+// Line 0: immediate data, bits, MOVEP, MOVES, CHK2, CMP2 and CAS.
+ghost use mathlib.Core.Path.{_≡_};
+ghost use Prim.Native.Nat.{_-_};
+ghost use Rattle.read_opcodes_0_7.specs.ReadAs.{readAs};
+ghost use Rattle.isa.specs.declared.Instruction.the-variants.{UnsizedPair};
+ghost use Rattle.isa.specs.declared.Operand.the-variants.{Immediate};
+ghost use Rattle.read_spec.specs.Formed.{dataOperand, immediateFormed, movepFormed, dynamicFormed, boundsFormed, movesFormed, cas2Formed, casFormed};
+ghost use Rattle.read_spec.specs.Operation.{bitAt};
+ghost use Rattle.read_opcodes_0_7.specs.Parts.{statusFormed, displacedFormed, boundsAt};
+use crate::part::data_operand;
+use crate::part::general_in;
+use crate::read;
+use isa::Instruction;
+use isa::Operand;
+use isa::RegisterOperand;
+use isa::RegisterOperation;
+use isa::TransferOperation;
+use read_layouts::operation::bit_at;
+use read_layouts::operation::condition_code_at;
+use read_layouts::operation::immediate_at;
+use read_layouts::operation::less;
+use read_layouts::operation::size_at;
+use read_layouts::operation::status_at;
+use read_layouts::operation::to_memory_at;
+use read_layouts::operation::to_status;
+use read_spec::Reading;
+
+// ORI, ANDI and EORI to CCR, and to SR.
+pub fn status(x: u8, opmode: u8, value: u32) -> Instruction
+    ensures { λ r. ⌜ r ≡ statusFormed x opmode value ⌝ }
+{
+    if opmode == 0 {
+        let operation = condition_code_at(x);
+        return Instruction::ConditionCode(operation, (value % 256) as u8);
+    }
+    let operation = status_at(x);
+    Instruction::Status(operation, (value % 65536) as u16)
+}
+
+// ORI, ANDI, SUBI, ADDI, EORI and CMPI, and those.
+pub fn immediate_into(x: u8, opmode: u8, ea: u8, value: u32, source: Operand) -> Instruction
+    ensures { λ r. ⌜ r ≡ immediateFormed x opmode ea value source ⌝ }
+{
+    if to_status(x, opmode, ea) {
+        return status(x, opmode, value);
+    }
+    let operation = immediate_at(x);
+    let size = size_at(opmode);
+    Instruction::ImmediateInto(operation, value, source, size)
+}
+
+// BTST, BCHG, BCLR and BSET by an immediate number.
+pub fn static_bit(opmode: u8, value: u32, source: Operand) -> Instruction
+    ensures { λ r. ⌜ r ≡ UnsizedPair (bitAt opmode) (Immediate value) source ⌝ }
+{
+    let operation = bit_at(opmode);
+    let number = Operand::Immediate(value);
+    Instruction::UnsizedPair(operation, number, source)
+}
+
+// The same by a data register.
+pub fn bit_by_register(x: u8, opmode: u8, source: Operand) -> Instruction
+    ensures { λ r. ⌜ r ≡ UnsizedPair (bitAt (opmode - 4)) (dataOperand x) source ⌝ }
+{
+    let operation = bit_at(less(opmode, 4));
+    let number = data_operand(x);
+    Instruction::UnsizedPair(operation, number, source)
+}
+
+// MOVEP of d16(An).
+pub fn displaced(x: u8, opmode: u8, offset: i32, base: RegisterOperand) -> Instruction
+    ensures { λ r. ⌜ r ≡ displacedFormed x opmode offset base ⌝ }
+{
+    let direction = to_memory_at(opmode / 2 % 2);
+    let size = size_at(1 + opmode % 2);
+    let register = RegisterOperand::Data(x);
+    let target = Operand::IndirectDisplacement { offset, base };
+    Instruction::Transfer {
+        operation: TransferOperation::MOVEP,
+        direction,
+        size,
+        register,
+        target,
+    }
+}
+
+// MOVEP takes d16(An) only.
+pub fn movep(x: u8, opmode: u8, source: Operand, length: u32) -> Reading
+    ensures { λ r. ⌜ r ≡ readAs (movepFormed x opmode source) length ⌝ }
+{
+    let Operand::IndirectDisplacement { offset, base } = source else {
+        return Reading::Nothing;
+    };
+    read(displaced(x, opmode, offset, base), length)
+}
+
+// A bit by a data register, and MOVEP.
+pub fn dynamic_bit(x: u8, opmode: u8, ea: u8, source: Operand, length: u32) -> Reading
+    ensures { λ r. ⌜ r ≡ readAs (dynamicFormed x opmode ea source) length ⌝ }
+{
+    if ea / 8 == 1 {
+        return movep(x, opmode, source, length);
+    }
+    read(bit_by_register(x, opmode, source), length)
+}
+
+// MOVES.
+pub fn moves(opmode: u8, value: u32, source: Operand) -> Instruction
+    ensures { λ r. ⌜ r ≡ movesFormed opmode value source ⌝ }
+{
+    let direction = to_memory_at((value / 2048 % 2) as u8);
+    let size = size_at(opmode);
+    let register = general_in(value);
+    Instruction::Transfer {
+        operation: TransferOperation::MOVES,
+        direction,
+        size,
+        register,
+        target: source,
+    }
+}
+
+// CHK2 or CMP2, which bit 11 of the specifier says.
+pub fn bounds_at(value: u32) -> RegisterOperation
+    ensures { λ r. ⌜ r ≡ boundsAt value ⌝ }
+{
+    if value / 2048 % 2 == 1 {
+        RegisterOperation::CHK2
+    } else {
+        RegisterOperation::CMP2
+    }
+}
+
+pub fn bounds(x: u8, value: u32, source: Operand) -> Instruction
+    ensures { λ r. ⌜ r ≡ boundsFormed x value source ⌝ }
+{
+    let operation = bounds_at(value);
+    let register = general_in(value);
+    let size = size_at(x);
+    Instruction::IntoRegister(operation, source, register, size)
+}
+
+// CAS2, by the words of its two comparisons.
+pub fn cas2(x: u8, first: u32, second: u32) -> Instruction
+    ensures { λ r. ⌜ r ≡ cas2Formed x first second ⌝ }
+{
+    let pointer1 = general_in(first);
+    let pointer2 = general_in(second);
+    let size = size_at(less(x, 5));
+    Instruction::CAS2 {
+        compare1: (first % 8) as u8,
+        compare2: (second % 8) as u8,
+        update1: (first / 64 % 8) as u8,
+        update2: (second / 64 % 8) as u8,
+        pointer1,
+        pointer2,
+        size,
+    }
+}
+
+// CAS and CAS2.
+pub fn cas(x: u8, ea: u8, value: u32, source: Operand) -> Instruction
+    ensures { λ r. ⌜ r ≡ casFormed x ea value source ⌝ }
+{
+    if (ea == 60) & (6 <= x) {
+        return cas2(x, value / 65536, value % 65536);
+    }
+    let size = size_at(less(x, 5));
+    Instruction::CAS {
+        compare: (value % 8) as u8,
+        update: (value / 64 % 8) as u8,
+        target: source,
+        size,
+    }
+}

@@ -1,0 +1,161 @@
+// Lines 1 to 4: MOVE, and the instructions of line 4 up to $4E3F.
+ghost use mathlib.Core.Path.{_≡_};
+ghost use Rattle.isa.specs.declared.Instruction.the-variants.{OneOperand, UnsizedIntoRegister};
+ghost use Rattle.isa.specs.declared.RegisterOperand.the-variants.{Data};
+ghost use Rattle.read_spec.specs.Formed.{moveFormed, unsizedOneFormed, nbcdFormed, peaFormed, movemFormed, mullFormed, divlFormed, leaFormed};
+ghost use Rattle.read_spec.specs.Operation.{oneAt, sizeAt};
+ghost use Rattle.read_opcodes_0_7.specs.Parts.{chkAt};
+use crate::part::high_at;
+use isa::Instruction;
+use isa::LinkOperation;
+use isa::Operand;
+use isa::PairOperation;
+use isa::PlainOperation;
+use isa::RegisterOperand;
+use isa::RegisterOperation;
+use isa::Size;
+use isa::UnsizedOneOperation;
+use isa::UnsizedRegisterOperation;
+use isa::VectorOperation;
+use read_layouts::operation::less;
+use read_layouts::operation::move_size;
+use read_layouts::operation::one_at;
+use read_layouts::operation::sign_at;
+use read_layouts::operation::size_at;
+use read_layouts::operation::to_memory_at;
+use read_layouts::operation::unsized_at;
+
+// MOVE and MOVEA.
+pub fn move_data(line: u8, x: u8, opmode: u8, source: Operand, destination: Operand) -> Instruction
+    ensures { λ r. ⌜ r ≡ moveFormed line x opmode source destination ⌝ }
+{
+    let size = move_size(line);
+    if opmode == 1 {
+        let register = RegisterOperand::Address(x);
+        return Instruction::IntoRegister(RegisterOperation::MOVEA, source, register, size);
+    }
+    Instruction::Pair(PairOperation::MOVE, source, destination, size)
+}
+
+// NEGX, CLR, NEG, NOT and TST.
+pub fn one_operand(x: u8, opmode: u8, source: Operand) -> Instruction
+    ensures { λ r. ⌜ r ≡ OneOperand (oneAt x) source (sizeAt opmode) ⌝ }
+{
+    let operation = one_at(x);
+    let size = size_at(opmode);
+    Instruction::OneOperand(operation, source, size)
+}
+
+// MOVE from and to SR and CCR, JSR, JMP, TAS and ILLEGAL.
+pub fn unsized_one(x: u8, opmode: u8, ea: u8, source: Operand) -> Instruction
+    ensures { λ r. ⌜ r ≡ unsizedOneFormed x opmode ea source ⌝ }
+{
+    if (x == 5) & (ea == 60) {
+        return Instruction::Plain(PlainOperation::ILLEGAL);
+    }
+    let operation = unsized_at(x, opmode);
+    Instruction::UnsizedOne(operation, source)
+}
+
+// NBCD, and LINK by a long.
+pub fn nbcd(ea: u8, value: u32, source: Operand) -> Instruction
+    ensures { λ r. ⌜ r ≡ nbcdFormed ea value source ⌝ }
+{
+    if ea / 8 == 1 {
+        let register = RegisterOperand::Address(ea % 8);
+        return Instruction::Link(LinkOperation::LINKL, register, value);
+    }
+    Instruction::UnsizedOne(UnsizedOneOperation::NBCD, source)
+}
+
+// PEA, SWAP and BKPT.
+pub fn pea(ea: u8, source: Operand) -> Instruction
+    ensures { λ r. ⌜ r ≡ peaFormed ea source ⌝ }
+{
+    if ea < 8 {
+        let register = RegisterOperand::Data(ea);
+        return Instruction::SWAP(register);
+    }
+    if ea < 16 {
+        return Instruction::Vector(VectorOperation::BKPT, ea % 8);
+    }
+    Instruction::UnsizedOne(UnsizedOneOperation::PEA, source)
+}
+
+// MOVEM and EXT.
+pub fn movem(x: u8, opmode: u8, ea: u8, value: u32, source: Operand) -> Instruction
+    ensures { λ r. ⌜ r ≡ movemFormed x opmode ea value source ⌝ }
+{
+    let size = size_at(less(opmode, 1));
+    if (x == 4) & (ea < 8) {
+        let register = RegisterOperand::Data(ea);
+        let from = size_at(less(opmode, 2));
+        return Instruction::EXT(register, from, size);
+    }
+    let direction = to_memory_at(less(5, x));
+    Instruction::MOVEM {
+        direction,
+        size,
+        registers_mask: (value % 65536) as u16,
+        target: source,
+    }
+}
+
+// MULU and MULS of longs.
+pub fn mull(value: u32, source: Operand) -> Instruction
+    ensures { λ r. ⌜ r ≡ mullFormed value source ⌝ }
+{
+    let high = high_at(value);
+    let sign = sign_at((value / 2048 % 2) as u8);
+    Instruction::MULL {
+        source,
+        low: (value / 4096 % 8) as u8,
+        high,
+        sign,
+    }
+}
+
+// DIVU, DIVS, DIVUL and DIVSL of longs.
+pub fn divl(value: u32, source: Operand) -> Instruction
+    ensures { λ r. ⌜ r ≡ divlFormed value source ⌝ }
+{
+    let sign = sign_at((value / 2048 % 2) as u8);
+    Instruction::DIVL {
+        source,
+        quotient: (value / 4096 % 8) as u8,
+        remainder: (value % 8) as u8,
+        wide: value / 1024 % 2 == 1,
+        sign,
+    }
+}
+
+// LEA, and EXTB.
+pub fn lea(x: u8, ea: u8, source: Operand) -> Instruction
+    ensures { λ r. ⌜ r ≡ leaFormed x ea source ⌝ }
+{
+    if (x == 4) & (ea < 8) {
+        let register = RegisterOperand::Data(ea);
+        return Instruction::EXT(register, Size::Byte, Size::Long);
+    }
+    let register = RegisterOperand::Address(x);
+    Instruction::UnsizedIntoRegister(UnsizedRegisterOperation::LEA, source, register)
+}
+
+// CHK of a long or of a word.
+pub fn chk_at(opmode: u8) -> UnsizedRegisterOperation
+    ensures { λ r. ⌜ r ≡ chkAt opmode ⌝ }
+{
+    if opmode == 4 {
+        UnsizedRegisterOperation::CHKL
+    } else {
+        UnsizedRegisterOperation::CHK
+    }
+}
+
+pub fn chk(x: u8, opmode: u8, source: Operand) -> Instruction
+    ensures { λ r. ⌜ r ≡ UnsizedIntoRegister (chkAt opmode) source (Data x) ⌝ }
+{
+    let operation = chk_at(opmode);
+    let register = RegisterOperand::Data(x);
+    Instruction::UnsizedIntoRegister(operation, source, register)
+}

@@ -1,0 +1,34 @@
+-- Parts of the instructions.
+use Prim.Native.Nat.{ℕ, _/_, _%_}
+use lib.Dec.{eqb}
+use Rattle.isa.specs.declared.Size.{Size}
+use Rattle.isa.specs.declared.Size.the-variants.{Word, Long}
+use Rattle.isa.specs.declared.RegisterOperand.{RegisterOperand}
+use Rattle.isa.specs.declared.RegisterOperand.the-variants.{Address, Data}
+use Rattle.isa.specs.declared.BitField.{BitField}
+use Rattle.isa.specs.declared.UnsizedPairOperation.{UnsizedPairOperation}
+use Rattle.isa.specs.declared.UnsizedPairOperation.the-variants.{ABCD, SBCD}
+use Rattle.isa.specs.declared.PackOperation.{PackOperation}
+use Rattle.isa.specs.declared.PackOperation.the-variants.{PACK, UNPK}
+use Rattle.isa.specs.declared.WordOperation.{WordOperation}
+use Rattle.isa.specs.declared.WordOperation.the-variants.{DIVx, MULx}
+use Rattle.isa.specs.ExtensionWord.{pick}
+use Rattle.read_spec.specs.Operation.{valueAt}
+
+abbrev pub decimalAt : ℕ → UnsizedPairOperation
+decimalAt line = pick (eqb line 8) SBCD ABCD
+
+abbrev pub packAt : ℕ → PackOperation
+packAt opmode = pick (eqb opmode 5) PACK UNPK
+
+abbrev pub wordAt : ℕ → WordOperation
+wordAt line = pick (eqb line 8) DIVx MULx
+
+abbrev pub exchangedAt : ℕ → ℕ → RegisterOperand
+exchangedAt x opmode = pick (eqb opmode 5) (Address x) (Data x)
+
+abbrev pub longAt : ℕ → Size
+longAt opmode = pick (eqb opmode 7) Long Word
+
+abbrev pub fieldIn : ℕ → BitField
+fieldIn v = record { offset = valueAt (v / 64 % 64); width = valueAt (v % 64) }

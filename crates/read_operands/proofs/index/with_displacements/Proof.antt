@@ -1,0 +1,58 @@
+use borrow.Author.Needs.{needs}
+use Rattle.read_operands.proofs.index.with_displacements.Statement.{statement}
+use Rattle.read_operands.proofs.index.with_displacements.Tie as tie
+use mir.Syntax.{w32}
+use mir.Facts.{toZ-ofZ}
+use denote.Ref.{now}
+use Rattle.isa.specs.ExtensionWord.{baseSize}
+use Rattle.read_spec.specs.Operand.{displacementTree}
+use Rattle.read_spec.specs.Tree.{runAt}
+use Rattle.read_spec.specs.At.{runAt-bind}
+use Rattle.read_operands.specs.ReadLaws.{displacement-found, displacement-ended, displacement-refused}
+
+base-displacement-size-requires : tie.Need-base-displacement-size-requires
+base-displacement-size-requires c κs = search needs
+
+displacement-requires : tie.Need-displacement-requires
+displacement-requires c κs = search needs
+
+enum-known-read : tie.Need-enum-known-read
+enum-known-read c = search needs
+
+with-outer-requires : tie.Need-with-outer-requires
+with-outer-requires c κs = search needs
+
+enum-told : tie.Need-enum-told
+enum-told c = search needs
+
+enum-told-2 : tie.Need-enum-told-2
+enum-told-2 c = search needs
+
+returns : tie.Need-returns
+returns c a =
+    let s = c .before .before .before .before .before .before .before in
+    rw (runAt-bind, displacement-found (runAt (displacementTree (baseSize (s .args .w))) a (now (s .args .words)) (s .args .at)) (rw (c .before .before .before .before .before .base-displacement-size .ensures) at (c .before .before .before .before .displacement .ensures a)) (c .before .before .read .given .1)) (rw (toZ-ofZ {w = w32} {z = c .before .before .read .given .0 .0} (search needs)) at (c .with-outer .ensures a))
+
+returns-2 : tie.Need-returns-2
+returns-2 c a =
+    let s = c .before .before .before .before .before in
+    rw (runAt-bind, displacement-ended (runAt (displacementTree (baseSize (s .args .w))) a (now (s .args .words)) (s .args .at)) (rw (c .before .before .before .base-displacement-size .ensures) at (c .before .before .displacement .ensures a)) (c .enum-told .given .1))
+
+returns-3 : tie.Need-returns-3
+returns-3 c a =
+    let s = c .before .before .before .before .before in
+    rw (runAt-bind, displacement-refused (runAt (displacementTree (baseSize (s .args .w))) a (now (s .args .words)) (s .args .at)) (rw (c .before .before .before .base-displacement-size .ensures) at (c .before .before .displacement .ensures a)) (c .enum-told2 .given .1))
+
+pub with-displacements-spec : {M : Type 1} → statement M
+with-displacements-spec =
+    tie.close
+    (tie.spec
+    base-displacement-size-requires
+    displacement-requires
+    enum-known-read
+    with-outer-requires
+    enum-told
+    enum-told-2
+    returns
+    returns-2
+    returns-3)

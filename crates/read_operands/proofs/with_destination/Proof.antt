@@ -1,0 +1,40 @@
+use borrow.Author.Needs.{needs}
+use Rattle.read_operands.proofs.with_destination.Statement.{statement}
+use Rattle.read_operands.proofs.with_destination.Tie as tie
+use denote.Ref.{now}
+use Rattle.read_spec.specs.Operand.{operandTree}
+use Rattle.read_spec.specs.Tree.{runAt}
+use Rattle.read_spec.specs.At.{runAt-bind}
+use Rattle.read_operands.specs.ReadLaws.{operand-found, operand-ended, operand-refused}
+
+operand-requires : tie.Need-operand-requires
+operand-requires c κs = search needs
+
+enum-known-read : tie.Need-enum-known-read
+enum-known-read c = search needs
+
+enum-told : tie.Need-enum-told
+enum-told c = search needs
+
+enum-told-2 : tie.Need-enum-told-2
+enum-told-2 c = search needs
+
+returns : tie.Need-returns
+returns c =
+    let s = c .before .before .before .before .before in
+    rw (runAt-bind, operand-found (runAt (operandTree (s .args .layout .size) (s .args .layout .destination)) (s .args .address) (now (s .args .words)) (s .args .at)) (c .before .before .before .operand .ensures) (c .before .read .given .1))
+
+returns-2 : tie.Need-returns-2
+returns-2 c =
+    let s = c .before .before .before .before in
+    rw (runAt-bind, operand-ended (runAt (operandTree (s .args .layout .size) (s .args .layout .destination)) (s .args .address) (now (s .args .words)) (s .args .at)) (c .before .before .operand .ensures) (c .enum-told .given .1))
+
+returns-3 : tie.Need-returns-3
+returns-3 c =
+    let s = c .before .before .before .before in
+    rw (runAt-bind, operand-refused (runAt (operandTree (s .args .layout .size) (s .args .layout .destination)) (s .args .address) (now (s .args .words)) (s .args .at)) (c .before .before .operand .ensures) (c .enum-told2 .given .1))
+
+pub with-destination-spec : {M : Type 1} → statement M
+with-destination-spec =
+    tie.close
+    (tie.spec operand-requires enum-known-read enum-told enum-told-2 returns returns-2 returns-3)

@@ -1,0 +1,39 @@
+-- What a run of words reads as (01, "The reading").
+use Prim.Native.Nat.{ℕ, _*_, _/_, _%_}
+use mathlib.Core.List.{List}
+use Rattle.isa.specs.declared.Instruction.{Instruction}
+use Rattle.read_spec.specs.declared.Shape.{Shape}
+use Rattle.read_spec.specs.declared.Reading.{Reading}
+use Rattle.read_spec.specs.declared.Reading.the-variants.{Read, Short, Nothing}
+use Rattle.read_spec.specs.Tree.{Tree, more, bind, run, Out, got, short, none}
+use Rattle.read_spec.specs.Layout.{fieldsTree}
+use Rattle.read_spec.specs.Map.{shapeAt}
+use Rattle.read_spec.specs.Layouts.{layoutOf}
+use Rattle.read_spec.specs.Formed.{formed}
+
+-- what follows an operation word of a group, in its fields
+abbrev pub shapeTree : ℕ → Shape → ℕ → ℕ → ℕ → ℕ → Tree Instruction
+shapeTree a s line x opmode ea =
+    bind (fieldsTree (layoutOf s line x opmode ea)) (λ f. formed a s line x opmode ea (f .value) (f .source) (f .destination))
+
+abbrev pub wordTree : ℕ → ℕ → ℕ → ℕ → ℕ → Tree Instruction
+wordTree a line x opmode ea = shapeTree a (shapeAt line x opmode) line x opmode ea
+
+-- an instruction at a
+abbrev pub reader : ℕ → Tree Instruction
+reader a = more (λ at w. wordTree a (w / 4096) (w / 512 % 8) (w / 64 % 8) (w % 64))
+
+-- the instruction and its length in bytes, or that the words end, or that nothing reads
+abbrev pub readingOf : Out Instruction → Reading
+readingOf (got i n ws) = Read i (2 * n)
+readingOf short = Short
+readingOf none = Nothing
+
+unfoldable pub readOf : List ℕ → ℕ → Reading
+readOf ws a = readingOf (run (reader a) a 0 ws)
+
+-- 01's number: 5 where the words end and some longer run reads, 6 where none does and no beginning does; detail and value are 0
+abbrev pub readingNumber : Reading → ℕ
+readingNumber (Read i n) = 0
+readingNumber Short = 5
+readingNumber Nothing = 6

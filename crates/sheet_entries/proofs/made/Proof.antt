@@ -1,0 +1,24 @@
+use mathlib.Core.Path.{sym, ap, _∙_}
+use borrow.Author.Needs.{needs}
+use Rattle.numeric_fields.specs.declared.Numbers.{Numbers}
+use Rattle.numeric_build.specs.Build.{buildOf}
+use Rattle.sheet_entries.proofs.Laws.{made-ok, made-not}
+use Rattle.sheet_entries.proofs.made.Statement.{statement}
+use Rattle.sheet_entries.proofs.made.Tie as tie
+
+numbers-requires : tie.Need-numbers-requires
+numbers-requires c κs = search needs
+
+build-requires : tie.Need-build-requires
+build-requires c κs = search needs
+
+returns : tie.Need-returns
+returns c =
+    let a = c .before .before .before .before .args in
+    c .build .ensures ∙ ap (λ (ns : Numbers). buildOf ns 0) (c .before .numbers .ensures) ∙ sym (made-ok (a .addresses .now) (a .e) (c .before .before .if1 .taken))
+
+returns-2 : tie.Need-returns-2
+returns-2 c = let a = c .before .before .args in sym (made-not (a .addresses .now) (a .e) (c .if1 .left))
+
+pub made-spec : {M : Type 1} → statement M
+made-spec = tie.close (tie.spec numbers-requires build-requires returns returns-2)

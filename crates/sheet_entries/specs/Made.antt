@@ -1,0 +1,38 @@
+-- The lines that entries name, and the instruction that they make, with the lines at given addresses.
+use Prim.Native.Nat.{ℕ}
+use mathlib.Core.Bool.{Bool, true, cond, not, _&&_, _||_}
+use mathlib.Core.List.{List, [], _∷_}
+use lib.Dec.{leb}
+use Rattle.numeric_fields.specs.declared.Numbers.{Numbers}
+use Rattle.numeric_build.specs.declared.Built.{Built}
+use Rattle.numeric_build.specs.declared.Built.the-variants as built
+use Rattle.numeric_build.specs.Build.{buildOf}
+use Rattle.sheet_spec.specs.declared.Entries.{Entries}
+use Rattle.sheet_spec.specs.Made.{addressIn}
+
+-- where it is named, k is 1 to n
+abbrev pub namesOne : ℕ → Bool → ℕ → Bool
+namesOne n t k = not t || (leb 1 k && leb k n)
+
+abbrev pub namesEach : ℕ → List Bool → List ℕ → Bool
+namesEach n [] ks = true
+namesEach n (t ∷ ts) [] = true
+namesEach n (t ∷ ts) (k ∷ ks) = namesOne n t k && namesEach n ts ks
+
+unfoldable pub namesLines : Entries → ℕ → Bool
+namesLines e n = namesEach n (e .named) (e .magnitude)
+
+-- where it is named, the address of line k
+abbrev pub numberIn : List ℕ → Bool → ℕ → ℕ
+numberIn addresses t k = cond t (addressIn addresses k) k
+
+abbrev pub numbersIn : List ℕ → List Bool → List ℕ → List ℕ
+numbersIn addresses [] ks = []
+numbersIn addresses (t ∷ ts) [] = []
+numbersIn addresses (t ∷ ts) (k ∷ ks) = numberIn addresses t k ∷ numbersIn addresses ts ks
+
+unfoldable pub numbersWith : Entries → List ℕ → Numbers
+numbersWith e addresses = record { count = e .count; negative = e .negative; magnitude = numbersIn addresses (e .named) (e .magnitude) }
+
+unfoldable pub madeWith : Entries → List ℕ → Built
+madeWith e addresses = cond (e .ok) (buildOf (numbersWith e addresses) 0) built.NotInForm

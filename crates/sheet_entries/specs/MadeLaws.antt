@@ -1,0 +1,163 @@
+-- What the entries of a line name and make is what the line names and makes. Assumes nothing.
+use Prim.Native.Nat.{ℕ, zero, suc, _≤_, _<_}
+use mathlib.Core.Path.{_≡_, refl, sym, ap, _∙_}
+use mathlib.Core.Bool.{Bool, true, false, cond, _&&_}
+use mathlib.Core.List.{List, [], _∷_, _++_, map}
+use native.Mathlib.Omega.{arith}
+use lib.Dec.{leb}
+use lib.ListN.{length, List·getD-eq-default}
+use lib.IntN.{natAbs}
+use borrow.Author.Tests.{le-leb, lt-leb, leb-false}
+use Rattle.numeric_fields.specs.declared.Numbers.{Numbers}
+use Rattle.numeric_fields.specs.Form.{isNegative, pad}
+use Rattle.numeric_build.specs.Build.{buildOf}
+use Rattle.sheet_spec.specs.declared.Kind.{Kind}
+use Rattle.sheet_spec.specs.declared.Kind.the-variants as kind
+use Rattle.sheet_spec.specs.Line.{Said, plainly, naming, nothing, Parsed, says, no, lineOf}
+use Rattle.sheet_spec.specs.Spell.{numberAs, Suits, nextKinds, Fits}
+use Rattle.sheet_spec.specs.Made.{numbersAs, madeAs, madeOf, names, namesAll, namesIn, addressIn}
+use Rattle.sheet_spec.specs.Entries.{capped, isLine, negativeIn, magnitudeIn, noEntries, entriesFrom, entriesOf}
+use Rattle.sheet_form_laws.specs.LineForm.{spelled-line}
+use Rattle.sheet_entries.specs.Made.{namesOne, namesEach, namesLines, numberIn, numbersIn, numbersWith, madeWith}
+
+-- by whether a number is above 4,096
+capped-cases : (P : ℕ → Type 0) (k : ℕ) → P k → (4096 < k → P 4097) → P (capped k)
+capped-cases P k low high = go (leb k 4096) refl
+  where
+    go : (t : Bool) → leb k 4096 ≡ t → P (cond t k 4097)
+    go true e = low
+    go false e = high (leb-false k 4096 e)
+
+-- a number above 4,096 names no line
+module _ (n : ℕ) (few : n ≤ 4096) where
+  names-capped : (k : ℕ) → leb 1 (capped k) && leb (capped k) n ≡ leb 1 k && leb k n
+  names-capped k =
+      capped-cases (λ x. leb 1 x && leb x n ≡ leb 1 k && leb k n) k refl
+      (λ h. rw (lt-leb 4097 n (omega arith), le-leb 1 k (omega arith), lt-leb k n (omega arith)))
+
+  names-said : (v : Said) → namesOne n (isLine v) (magnitudeIn v) ≡ names n v
+  names-said (plainly s k) = refl
+  names-said (naming k) = names-capped k
+  names-said nothing = refl
+
+  names-pad : (m : ℕ) (vs : List Said) → length vs ≤ m → namesEach n (pad m false (map isLine vs)) (pad m 0 (map magnitudeIn vs)) ≡ namesAll n vs
+  names-pad zero [] h = refl
+  names-pad zero (v ∷ vs) h = absurd (omega arith)
+  names-pad (suc m) [] h = names-pad m [] (omega arith)
+  names-pad (suc m) (v ∷ vs) h = λ i. names-said v i && names-pad m vs (omega arith) i
+
+  pub names-lines : (vs : List Said) → length vs ≤ 24 → namesLines (entriesFrom vs) n ≡ namesAll n vs
+  unfolding namesLines entriesFrom
+  names-lines vs h = names-pad 24 vs h
+
+  names-none : namesLines noEntries n ≡ true
+  unfolding namesLines noEntries
+  names-none = refl
+
+  pub names-in : (p : Parsed) → ((vs : List Said) → p ≡ says vs → length vs ≤ 24) → namesLines (entriesOf p) n ≡ namesIn n p
+  names-in (says vs) h = names-lines vs (h vs refl)
+  names-in no h = names-none
+
+-- no entry is -0
+abbrev pub Signed : Said → Type 0
+Signed (plainly true n) = 0 < n
+Signed (plainly false n) = Unit {0}
+Signed (naming n) = Unit {0}
+Signed nothing = Unit {0}
+
+abbrev pub AllSigned : List Said → Type 0
+AllSigned [] = Unit {0}
+AllSigned (v ∷ vs) = Signed v × AllSigned vs
+
+negative-suits : (k : Kind) (n : ℕ) → Suits k (plainly true n) → 0 < n
+negative-suits kind.Number n h = h .0
+negative-suits kind.Target n h = absurd h
+negative-suits kind.Place n h = h .0
+negative-suits kind.Size n h = absurd h
+negative-suits kind.TargetDirection n h = absurd h
+negative-suits kind.RegisterOperand n h = absurd h
+negative-suits kind.AddressWidth n h = absurd h
+negative-suits kind.Condition n h = absurd h
+negative-suits kind.BranchSize n h = absurd h
+negative-suits kind.ShiftDirection n h = absurd h
+negative-suits kind.Sign n h = absurd h
+negative-suits kind.BitFieldOperation n h = absurd h
+negative-suits kind.FieldValue n h = absurd h
+negative-suits kind.TrapOperand n h = absurd h
+negative-suits kind.RegisterChoice n h = absurd h
+negative-suits kind.Operand n h = absurd h
+negative-suits kind.Instruction n h = absurd h
+
+suits-signed : (k : Kind) (v : Said) → Suits k v → Signed v
+suits-signed k (plainly true n) h = negative-suits k n h
+suits-signed k (plainly false n) h = tt
+suits-signed k (naming n) h = tt
+suits-signed k nothing h = tt
+
+fits-signed : (ks : List Kind) (vs : List Said) → Fits ks vs → AllSigned vs
+fits-signed [] [] h = tt
+fits-signed [] (v ∷ vs) h = absurd h
+fits-signed (k ∷ ks) [] h = absurd h
+fits-signed (k ∷ ks) (v ∷ vs) h = (suits-signed k v (h .0), fits-signed (nextKinds k v ++ ks) vs (h .1))
+
+pub line-signed : (line : List ℕ) (vs : List Said) → lineOf line ≡ says vs → AllSigned vs
+line-signed line vs e = fits-signed (kind.Instruction ∷ []) vs (spelled-line line vs e .0)
+
+-- a number above 4,096 has no address
+module _ (addresses : List ℕ) (few : length addresses ≤ 4096) where
+  address-beyond : (k : ℕ) → 4096 < k → addressIn addresses k ≡ 0
+  address-beyond k h = List·getD-eq-default (0 ∷ addresses) 0 {n = k} (omega arith)
+
+  address-capped : (k : ℕ) → addressIn addresses (capped k) ≡ addressIn addresses k
+  address-capped k =
+      capped-cases (λ x. addressIn addresses x ≡ addressIn addresses k) k refl
+      (λ h. address-beyond 4097 (omega arith) ∙ sym (address-beyond k h))
+
+  number-said : (v : Said) → numberIn addresses (isLine v) (magnitudeIn v) ≡ natAbs (numberAs (addressIn addresses) v)
+  number-said (plainly true zero) = refl
+  number-said (plainly true (suc n)) = refl
+  number-said (plainly false n) = refl
+  number-said (naming k) = address-capped k
+  number-said nothing = refl
+
+  sign-said : (v : Said) → Signed v → negativeIn v ≡ isNegative (numberAs (addressIn addresses) v)
+  sign-said (plainly true zero) h = absurd (omega arith)
+  sign-said (plainly true (suc n)) h = refl
+  sign-said (plainly false n) h = refl
+  sign-said (naming k) h = refl
+  sign-said nothing h = refl
+
+  signs-said : (vs : List Said) → AllSigned vs → map negativeIn vs ≡ map (λ v. isNegative (numberAs (addressIn addresses) v)) vs
+  signs-said [] h = refl
+  signs-said (v ∷ vs) h = λ i. sign-said v (h .0) i ∷ signs-said vs (h .1) i
+
+  numbers-pad : (m : ℕ) (vs : List Said)
+      → numbersIn addresses (pad m false (map isLine vs)) (pad m 0 (map magnitudeIn vs)) ≡ pad m 0 (map (λ v. natAbs (numberAs (addressIn addresses) v)) vs)
+  numbers-pad zero vs = refl
+  numbers-pad (suc m) [] = ap (λ (t : List ℕ). 0 ∷ t) (numbers-pad m [])
+  numbers-pad (suc m) (v ∷ vs) = λ i. number-said v i ∷ numbers-pad m vs i
+
+  pub numbers-as : (vs : List Said) → AllSigned vs → numbersWith (entriesFrom vs) addresses ≡ numbersAs (addressIn addresses) vs
+  unfolding numbersWith entriesFrom numbersAs
+  numbers-as vs h = λ i. record { count = length vs; negative = pad 24 false (signs-said vs h i); magnitude = numbers-pad 24 vs i }
+
+  made-from : (vs : List Said) → madeWith (entriesFrom vs) addresses ≡ buildOf (numbersWith (entriesFrom vs) addresses) 0
+  unfolding madeWith entriesFrom
+  made-from vs = refl
+
+  made-parsed : (p : Parsed) → ((vs : List Said) → p ≡ says vs → AllSigned vs) → madeWith (entriesOf p) addresses ≡ madeAs (addressIn addresses) p
+  unfolding madeWith noEntries
+  made-parsed (says vs) h = made-from vs ∙ ap (λ (ns : Numbers). buildOf ns 0) (numbers-as vs (h vs refl))
+  made-parsed no h = refl
+
+  pub made-line : (line : List ℕ) → madeWith (entriesOf (lineOf line)) addresses ≡ madeOf (addressIn addresses) line
+  unfolding madeOf
+  made-line line = made-parsed (lineOf line) (line-signed line)
+
+-- with no addresses `@` is as 0
+no-address : (k : ℕ) → addressIn [] k ≡ 0
+no-address zero = refl
+no-address (suc k) = refl
+
+pub made-unaddressed : (line : List ℕ) → madeOf (addressIn []) line ≡ madeOf (λ k. 0) line
+made-unaddressed line = λ i. madeOf (λ k. no-address k i) line

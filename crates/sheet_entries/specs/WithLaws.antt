@@ -1,0 +1,70 @@
+-- Laws of one field more. Assumes nothing.
+use Prim.Native.Nat.{ℕ, zero, suc, _≤_, _<_}
+use mathlib.Core.Path.{_≡_, refl, ap}
+use mathlib.Core.Bool.{Bool, true, false}
+use mathlib.Core.List.{List, [], _∷_, _++_, map}
+use native.Mathlib.Omega.{arith}
+use lib.ListN.{length, set, length-append, length-map}
+use borrow.Author.Tests.{lt-ltb, le-ltb}
+use Rattle.numeric_fields.specs.Form.{pad}
+use Rattle.sheet_spec.specs.declared.Value.{Value}
+use Rattle.sheet_spec.specs.declared.Value.the-variants as value
+use Rattle.sheet_spec.specs.declared.Entries.{Entries}
+use Rattle.sheet_spec.specs.Line.{Said, plainly, naming, nothing}
+use Rattle.sheet_spec.specs.Entries.{valueOf, isLine, negativeIn, magnitudeIn, noEntries, entriesFrom}
+use Rattle.sheet_entries.specs.With.{placedEntry, withValue}
+
+module _ {A : Type 0} {B : Type 0} where
+  map-more : (f : A → B) (l : List A) (a : A) → map f (l ++ (a ∷ [])) ≡ map f l ++ (f a ∷ [])
+  map-more f [] a = refl
+  map-more f (x ∷ xs) a = ap (λ (t : List B). f x ∷ t) (map-more f xs a)
+
+module _ {A : Type 0} where
+  pad-more : (n : ℕ) (z : A) (l : List A) (k : ℕ) (a : A) → length l ≡ k → k < n → set (pad n z l) k a ≡ pad n z (l ++ (a ∷ []))
+  pad-more zero z l k a e h = absurd (omega arith)
+  pad-more (suc n) z [] zero a e h = refl
+  pad-more (suc n) z [] (suc k) a e h = absurd (omega arith)
+  pad-more (suc n) z (x ∷ xs) zero a e h = absurd (omega arith)
+  pad-more (suc n) z (x ∷ xs) (suc k) a e h = ap (λ (t : List A). x ∷ t) (pad-more n z xs k a (omega arith) (omega arith))
+
+place : (vs : List Said) (v : Said) → length vs < 24 → placedEntry (entriesFrom vs) (isLine v) (negativeIn v) (magnitudeIn v) ≡ entriesFrom (vs ++ (v ∷ []))
+unfolding placedEntry entriesFrom
+place vs v h =
+    rw (
+      lt-ltb (length vs) 24 h,
+      map-more isLine vs v,
+      map-more negativeIn vs v,
+      map-more magnitudeIn vs v,
+      length-append vs (v ∷ []),
+      pad-more 24 false (map isLine vs) (length vs) (isLine v) (length-map vs isLine) h,
+      pad-more 24 false (map negativeIn vs) (length vs) (negativeIn v) (length-map vs negativeIn) h,
+      pad-more 24 0 (map magnitudeIn vs) (length vs) (magnitudeIn v) (length-map vs magnitudeIn) h,
+    )
+
+-- something said is one entry more
+pub with-more : (vs : List Said) (v : Said) → length vs < 24 → (v ≡ nothing → ⊥) → withValue (entriesFrom vs) (valueOf v) ≡ entriesFrom (vs ++ (v ∷ []))
+with-more vs (plainly s n) h t = place vs (plainly s n) h
+with-more vs (naming n) h t = place vs (naming n) h
+with-more vs nothing h t = absurd (t refl)
+
+pub with-nothing : (e : Entries) → withValue e (valueOf nothing) ≡ noEntries
+with-nothing e = refl
+
+full : (vs : List Said) (t s : Bool) (n : ℕ) → 24 ≤ length vs → placedEntry (entriesFrom vs) t s n ≡ noEntries
+unfolding placedEntry entriesFrom
+full vs t s n h = rw (le-ltb (length vs) 24 h)
+
+-- a 25th field is in no form
+pub with-full : (vs : List Said) (v : Value) → 24 ≤ length vs → withValue (entriesFrom vs) v ≡ noEntries
+with-full vs (value.Number s n) h = full vs false s n h
+with-full vs (value.Line n) h = full vs true false n h
+with-full vs value.None h = refl
+
+none : (t s : Bool) (n : ℕ) → placedEntry noEntries t s n ≡ noEntries
+unfolding placedEntry noEntries
+none t s n = refl
+
+pub with-none : (v : Value) → withValue noEntries v ≡ noEntries
+with-none (value.Number s n) = none false s n
+with-none (value.Line n) = none true false n
+with-none value.None = refl

@@ -1,0 +1,56 @@
+use borrow.Author.Needs.{needs}
+use mathlib.Core.Path.{sym, ap, _∙_}
+use mathlib.Core.List.{map}
+use native.Mathlib.Omega.{arith}
+use Rattle.sheet_spec.specs.Names.{bytes, instructionNames}
+use Rattle.sheet_spec.specs.Entries.{valueOf}
+use Rattle.sheet_field.specs.Hash.{placeOf}
+use Rattle.sheet_field.proofs.Laws.{place-none}
+use Rattle.sheet_field.proofs.Hashed.{place-fits, found, missed}
+use Rattle.sheet_field.proofs.instructions.instruction.Statement.{statement}
+use Rattle.sheet_field.proofs.instructions.instruction.Tie as tie
+
+returns : tie.Need-returns
+returns c = sym (ap valueOf (place-none (c .before .before .args .f .now) (c .if1 .taken) 0 (map bytes instructionNames)))
+
+hash-requires : tie.Need-hash-requires
+hash-requires c κs = search needs
+
+place-of-requires : tie.Need-place-of-requires
+place-of-requires c κs = search needs
+
+cast-is-name : tie.Need-cast-is-name
+cast-is-name c = search needs
+
+is-name-requires : tie.Need-is-name-requires
+is-name-requires c κs = omega (arith, c .place-of .ensures, place-fits (c .before .hash .result))
+
+cast-t6 : tie.Need-cast-t6
+cast-t6 c = search needs
+
+returns-2 : tie.Need-returns-2
+returns-2 c =
+    let f = c .before .before .before .before .before .before .args .f .now in
+    let n = c .before .before .place-of in
+    let h = c .before .before .before .hash .result in
+    sym (ap valueOf (found f (n .result) (omega (arith, n .ensures, place-fits h)) (omega (arith, c .before .before .before .before .if1 .left)) (sym (c .before .is-name .ensures) ∙ c .if2 .taken)))
+
+returns-3 : tie.Need-returns-3
+returns-3 c =
+    let f = c .before .before .before .before .before .before .args .f .now in
+    let n = c .before .before .place-of in
+    let h = c .before .before .before .hash .ensures in
+    sym (ap valueOf (missed f (n .result) (n .ensures ∙ ap placeOf h) (sym (c .before .is-name .ensures) ∙ c .if2 .left)))
+
+pub instruction-spec : {M : Type 1} → statement M
+instruction-spec =
+    tie.close
+    (tie.spec
+    returns
+    hash-requires
+    place-of-requires
+    cast-is-name
+    is-name-requires
+    cast-t6
+    returns-2
+    returns-3)

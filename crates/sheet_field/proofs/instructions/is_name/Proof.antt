@@ -1,0 +1,59 @@
+use borrow.Author.Needs.{needs}
+use native.Mathlib.Omega.{arith}
+use Rattle.sheet_field.specs.Hash.{nameAt, startOf}
+use Rattle.sheet_field.proofs.Hashed.{start-within, part-name}
+use Rattle.sheet_field.proofs.instructions.is_name.Statement.{statement}
+use Rattle.sheet_field.proofs.instructions.is_name.Tie as tie
+
+start-requires : tie.Need-start-requires
+start-requires c κs = search needs
+
+cast-from : tie.Need-cast-from
+cast-from c = search needs
+
+add-start : tie.Need-add-start
+add-start c = search needs
+
+start-requires-2 : tie.Need-start-requires-2
+start-requires-2 c κs = search needs
+
+cast-next : tie.Need-cast-next
+cast-next c = search needs
+
+slice-aggregate-is-part : tie.Need-slice-aggregate-is-part
+slice-aggregate-is-part c = search needs
+
+sub-is-part : tie.Need-sub-is-part
+sub-is-part c =
+    let s = c .before .before .before .before in
+    omega (arith, c .before .start2 .ensures, start-within (s .args .place) (s .pre))
+
+is-part-requires : tie.Need-is-part-requires
+is-part-requires c κs =
+    let s = c .before .before .before .before in
+    let w = start-within (s .args .place) (s .pre) in
+    let a = c .before .before .start .ensures in
+    let b = c .before .start2 .ensures in
+    (omega (arith, a, b, w), omega (arith, b, w))
+
+returns : tie.Need-returns
+unfolding startOf nameAt
+returns c =
+    let s = c .before .before .before .before .before in
+    let a = c .before .before .before .start in
+    let b = c .before .before .start2 in
+    part-name (s .args .f .now) (s .args .place) (a .result) (b .result) (s .pre) (a .ensures) (b .ensures) (c .is-part .result) _ tt (c .is-part .ensures)
+
+pub is-name-spec : {M : Type 1} → statement M
+is-name-spec =
+    tie.close
+    (tie.spec
+    start-requires
+    cast-from
+    add-start
+    start-requires-2
+    cast-next
+    slice-aggregate-is-part
+    sub-is-part
+    is-part-requires
+    returns)

@@ -1,0 +1,83 @@
+use mathlib.Core.Path.{_≡_, refl, sym, _∙_}
+use Prim.Native.Nat.{_+_, _*_, _-_, _≤_}
+use native.Mathlib.Omega.{arith}
+use lib.ListN.{length, drop, getD}
+use Rattle.sheet_field.specs.LineNumber.{lineAfter}
+use Rattle.sheet_field.proofs.Laws.{line-more, line-low, line-high, line-end, capped-fits}
+use Rattle.sheet_field.proofs.line_number.Statement.{statement}
+use Rattle.sheet_field.proofs.line_number.Tie as tie
+
+abbrev Inv-loop : tie.InvT-loop
+Inv-loop f a₀ i₀ a i = (i ≤ length f) × (a ≤ 4097) × (lineAfter 0 f ≡ lineAfter a (drop i f))
+
+abbrev μ-loop : tie.MeasureT-loop
+μ-loop f a₀ i₀ a i = length f - i
+
+loop-holds : tie.Need-loop-holds Inv-loop μ-loop
+loop-holds c = (omega arith, omega arith, refl)
+
+shared-slice-read-b : tie.Need-shared-slice-read-b Inv-loop μ-loop
+shared-slice-read-b c = omega arith
+
+returns : tie.Need-returns Inv-loop μ-loop
+returns c =
+    let b = c .before .before .before in
+    let f = b .before .before .args .f .now in
+    sym (b .loop .inv .2 ∙ line-low f (b .loop .i) (b .loop .a) (omega arith) (c .if1 .taken))
+
+returns-2 : tie.Need-returns-2 Inv-loop μ-loop
+returns-2 c =
+    let b = c .before .before .before .before in
+    let f = b .before .before .args .f .now in
+    sym (b .loop .inv .2 ∙ line-high f (b .loop .i) (b .loop .a) (omega arith) (c .if2 .taken))
+
+mul-capped : tie.Need-mul-capped Inv-loop μ-loop
+mul-capped c = omega arith
+
+cast-capped : tie.Need-cast-capped Inv-loop μ-loop
+cast-capped c = omega arith
+
+add-capped : tie.Need-add-capped Inv-loop μ-loop
+add-capped c = omega arith
+
+capped-requires : tie.Need-capped-requires Inv-loop μ-loop
+capped-requires c κs = tt
+
+add-i : tie.Need-add-i Inv-loop μ-loop
+add-i c = omega arith
+
+loop-less : tie.Need-loop-less Inv-loop μ-loop
+loop-less c = omega arith
+
+loop-again : tie.Need-loop-again Inv-loop μ-loop
+loop-again c =
+    let b = c .before .before .before .before .before in
+    let f = b .before .before .args .f .now in
+    let d = b .loop .a * 10 + (getD f (b .loop .i) 0 - 48) in
+    let m = line-more f (b .loop .i) (b .loop .a) (omega arith) (omega arith) (omega arith) in
+    (omega arith, rw (c .capped .ensures) (capped-fits d), rw (c .capped .ensures) (b .loop .inv .2 ∙ m))
+
+returns-3 : tie.Need-returns-3 Inv-loop μ-loop
+returns-3 c =
+    let b = c .before in
+    let f = b .before .before .args .f .now in
+    sym (b .loop .inv .2 ∙ line-end f (b .loop .i) (b .loop .a) (omega arith) (omega arith))
+
+pub line-number-spec : {M : Type 1} → statement M
+line-number-spec =
+    tie.close
+    (tie.spec
+    Inv-loop
+    μ-loop
+    loop-holds
+    shared-slice-read-b
+    returns
+    returns-2
+    mul-capped
+    cast-capped
+    add-capped
+    capped-requires
+    add-i
+    loop-less
+    loop-again
+    returns-3)

@@ -1,0 +1,12 @@
+-- The line whose number digits write.
+use mathlib.Core.Bool.{cond}
+use mathlib.Core.List.{List}
+use Prim.Native.Nat.{ℕ}
+use Rattle.base_text.specs.Number.{allDigits, valueFrom}
+use Rattle.sheet_spec.specs.declared.Value.{Value}
+use Rattle.sheet_spec.specs.declared.Value.the-variants as value
+use Rattle.sheet_spec.specs.Entries.{capped}
+
+-- after digits that write a
+abbrev pub lineAfter : ℕ → List ℕ → Value
+lineAfter a bs = cond (allDigits bs) (value.Line (capped (valueFrom a bs))) value.None

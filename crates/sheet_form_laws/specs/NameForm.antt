@@ -1,0 +1,122 @@
+-- A variant's place and its name: each from the other. Assumes nothing.
+use Prim.Native.Nat.{ℕ, zero, suc, _+_, _<_}
+use mathlib.Core.Path.{_≡_, refl, sym, ap, _∙_, subst}
+use mathlib.Core.Bool.{Bool, true, false, cond, not, _&&_, _||_, false≢true}
+use mathlib.Core.List.{List, [], _∷_, map}
+use native.Mathlib.Omega.{arith}
+use lib.Dec.{eqb, ltb}
+use lib.ListN.{length, getD}
+use borrow.Author.Tests.{eqb-true, ltb-true, ltb-false}
+use Rattle.sheet_spec.specs.declared.Kind.{Kind}
+use Rattle.sheet_spec.specs.declared.Kind.the-variants as kind
+use Rattle.sheet_spec.specs.Names.{bytes, namesOf}
+use Rattle.sheet_spec.specs.Line.{Said, plainly, naming, nothing, equal, isNone, placeFrom, asVariant}
+use Rattle.sheet_form_laws.specs.NumberForm.{both}
+
+-- every byte is above 10, so none is a tab or a line feed
+abbrev pub solid : List ℕ → Bool
+solid [] = true
+solid (b ∷ bs) = ltb 10 b && solid bs
+
+pub equal-is : (f g : List ℕ) → equal f g ≡ true → f ≡ g
+equal-is [] [] e = refl
+equal-is [] (y ∷ ys) e = absurd (false≢true e)
+equal-is (x ∷ xs) [] e = absurd (false≢true e)
+equal-is (x ∷ xs) (y ∷ ys) e =
+    let t = both (eqb x y) (equal xs ys) e in
+    let h : x ≡ y = eqb-true x y (t .0) in
+    let r : xs ≡ ys = equal-is xs ys (t .1) in
+    λ i. h i ∷ r i
+
+some-is : (f : List ℕ) → not (isNone f) ≡ true → 0 < length f
+some-is [] e = absurd (false≢true e)
+some-is (b ∷ bs) e = omega arith
+
+-- a field that says a place is the name there
+pub record Place (k : ℕ) (f : List ℕ) (ns : List (List ℕ)) (v : Said) : Type 0 where
+  pub at : ℕ
+  pub says : v ≡ plainly false (k + at)
+  pub here : at < length ns
+  pub name : f ≡ getD ns at []
+  pub some : 0 < length f
+
+pub place-is : (k : ℕ) (f : List ℕ) (ns : List (List ℕ)) (v : Said) → placeFrom k f ns ≡ v → (v ≡ nothing → ⊥) → Place k f ns v
+place-is k f [] v e h = absurd (h (sym e))
+place-is k f (n ∷ ns) v e h = go (equal f n && not (isNone f)) refl e (λ q. place-is (suc k) f ns v q h)
+  where
+    go : (t : Bool) → equal f n && not (isNone f) ≡ t → cond t (plainly false k) (placeFrom (suc k) f ns) ≡ v → (placeFrom (suc k) f ns ≡ v → Place (suc k) f ns v) → Place k f (n ∷ ns) v
+    go true t q next =
+        let b = both (equal f n) (not (isNone f)) t in
+        let z : k ≡ k + 0 = omega arith in
+        record { at = 0; says = sym q ∙ ap (plainly false) z; here = omega arith; name = equal-is f n (b .0); some = some-is f (b .1) }
+    go false t q next =
+        let p = next q in
+        let z : suc k + p .at ≡ k + suc (p .at) = omega arith in
+        record { at = suc (p .at); says = p .says ∙ ap (plainly false) z; here = omega (arith, p .here); name = p .name; some = p .some }
+
+-- the names are distinct and hold no tab and no line feed: a computed test
+abbrev is : ℕ → Said → Bool
+is n (plainly true m) = false
+is n (plainly false m) = eqb m n
+is n (naming m) = false
+is n nothing = false
+
+abbrev test : Kind → ℕ → Bool
+test k n =
+    let f = getD (map bytes (namesOf k)) n [] in
+    (isNone f || is n (asVariant k f)) && solid f
+
+abbrev pub all : (ℕ → Bool) → ℕ → Bool
+all f zero = true
+all f (suc n) = f n && all f n
+
+pub below : (f : ℕ → Bool) (n : ℕ) → all f n ≡ true → (k : ℕ) → k < n → f k ≡ true
+below f zero t k h = absurd (omega arith)
+below f (suc n) t k h = let b = both (f n) (all f n) t in go (ltb k n) refl (b .0) (below f n (b .1) k)
+  where
+    go : (s : Bool) → ltb k n ≡ s → f n ≡ true → (k < n → f k ≡ true) → f k ≡ true
+    go true e g next = next (ltb-true k n e)
+    go false e g next = let q : n ≡ k = omega (arith, ltb-false k n e) in subst (λ (m : ℕ). f m ≡ true) q g
+
+tested : (k : Kind) → all (test k) (length (namesOf k)) ≡ true
+tested kind.Number = refl
+tested kind.Target = refl
+tested kind.Place = refl
+tested kind.Size = refl
+tested kind.TargetDirection = refl
+tested kind.RegisterOperand = refl
+tested kind.AddressWidth = refl
+tested kind.Condition = refl
+tested kind.BranchSize = refl
+tested kind.ShiftDirection = refl
+tested kind.Sign = refl
+tested kind.BitFieldOperation = refl
+tested kind.FieldValue = refl
+tested kind.TrapOperand = refl
+tested kind.RegisterChoice = refl
+tested kind.Operand = refl
+tested kind.Instruction = refl
+
+is-place : (n : ℕ) (v : Said) → is n v ≡ true → v ≡ plainly false n
+is-place n (plainly true m) e = absurd (false≢true e)
+is-place n (plainly false m) e = ap (plainly false) (eqb-true m n e)
+is-place n (naming m) e = absurd (false≢true e)
+is-place n nothing e = absurd (false≢true e)
+
+some-or : (f : List ℕ) (b : Bool) → 0 < length f → isNone f || b ≡ true → b ≡ true
+some-or [] b h e = absurd (omega arith)
+some-or (x ∷ xs) b h e = e
+
+module _ (k : Kind) (n : ℕ) (h : n < length (namesOf k)) where
+  passed : (isNone (getD (map bytes (namesOf k)) n []) || is n (asVariant k (getD (map bytes (namesOf k)) n [])) ≡ true) × (solid (getD (map bytes (namesOf k)) n []) ≡ true)
+  passed =
+      let f = getD (map bytes (namesOf k)) n [] in
+      both (isNone f || is n (asVariant k f)) (solid f) (below (test k) (length (namesOf k)) (tested k) n h)
+
+  pub name-back : 0 < length (getD (map bytes (namesOf k)) n []) → asVariant k (getD (map bytes (namesOf k)) n []) ≡ plainly false n
+  name-back g =
+      let f = getD (map bytes (namesOf k)) n [] in
+      is-place n (asVariant k f) (some-or f (is n (asVariant k f)) g (passed .0))
+
+  pub name-solid : solid (getD (map bytes (namesOf k)) n []) ≡ true
+  name-solid = passed .1

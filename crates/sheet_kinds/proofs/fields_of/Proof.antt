@@ -1,0 +1,132 @@
+use borrow.Author.Needs.{needs}
+use Prim.Native.Nat.{ℕ, zero, suc}
+use mathlib.Core.Path.{_≡_, refl, sym, _∙_}
+use mathlib.Core.List.{List, [], _∷_, map}
+use lib.ListN.{getD}
+use types.Run.{OneOf, miss}
+use denote.Enum.Declared.{tagOf}
+use Rattle.sheet_spec.proofs.Kind.{the-type}
+use Rattle.sheet_spec.specs.declared.Kind.{Kind}
+use Rattle.sheet_spec.specs.declared.Kind.the-variants as kind
+use Rattle.sheet_spec.specs.Grammar.{operandFields, instructionFields, fieldsOf}
+use Rattle.sheet_kinds.specs.Packed.{packed}
+use Rattle.sheet_kinds.proofs.fields_of.Statement.{statement}
+use Rattle.sheet_kinds.proofs.fields_of.Tie as tie
+
+-- a row of a table of packed fields
+row-of : (rows : List (List Kind)) (n : ℕ) → getD (map packed rows) n 0 ≡ packed (getD rows n [])
+row-of [] n = refl
+row-of (r ∷ rs) zero = refl
+row-of (r ∷ rs) (suc n) = row-of rs n
+
+-- the kinds with no fields
+abbrev tags : List ℕ
+tags = 0 ∷ 1 ∷ 2 ∷ 3 ∷ 4 ∷ 6 ∷ 7 ∷ 8 ∷ 9 ∷ 10 ∷ 11 ∷ []
+
+no-fields : (k : Kind) (n : ℕ) → OneOf tags (tagOf the-type k) → packed (fieldsOf k n) ≡ 0
+no-fields kind.Number n t = refl
+no-fields kind.Target n t = refl
+no-fields kind.Place n t = refl
+no-fields kind.Size n t = refl
+no-fields kind.TargetDirection n t = refl
+no-fields kind.RegisterOperand n t = absurd (miss tags 5 tt t)
+no-fields kind.AddressWidth n t = refl
+no-fields kind.Condition n t = refl
+no-fields kind.BranchSize n t = refl
+no-fields kind.ShiftDirection n t = refl
+no-fields kind.Sign n t = refl
+no-fields kind.BitFieldOperation n t = refl
+no-fields kind.FieldValue n t = absurd (miss tags 12 tt t)
+no-fields kind.TrapOperand n t = absurd (miss tags 13 tt t)
+no-fields kind.RegisterChoice n t = absurd (miss tags 14 tt t)
+no-fields kind.Operand n t = absurd (miss tags 15 tt t)
+no-fields kind.Instruction n t = absurd (miss tags 16 tt t)
+
+enum-told : tie.Need-enum-told
+enum-told c = search needs
+
+enum-told-2 : tie.Need-enum-told-2
+enum-told-2 c = search needs
+
+enum-told-3 : tie.Need-enum-told-3
+enum-told-3 c = search needs
+
+slice-aggregate-row : tie.Need-slice-aggregate-row
+slice-aggregate-row c = search needs
+
+row-requires : tie.Need-row-requires
+row-requires c κs = search needs
+
+enum-told-4 : tie.Need-enum-told-4
+enum-told-4 c = search needs
+
+slice-aggregate-row-2 : tie.Need-slice-aggregate-row-2
+slice-aggregate-row-2 c = search needs
+
+row-requires-2 : tie.Need-row-requires-2
+row-requires-2 c κs = search needs
+
+enum-told-5 : tie.Need-enum-told-5
+enum-told-5 c = search needs
+
+slice-aggregate-row-3 : tie.Need-slice-aggregate-row-3
+slice-aggregate-row-3 c = search needs
+
+row-requires-3 : tie.Need-row-requires-3
+row-requires-3 c κs = search needs
+
+enum-told-6 : tie.Need-enum-told-6
+enum-told-6 c = search needs
+
+slice-aggregate-row-4 : tie.Need-slice-aggregate-row-4
+slice-aggregate-row-4 c = search needs
+
+row-requires-4 : tie.Need-row-requires-4
+row-requires-4 c κs = search needs
+
+returns : tie.Need-returns
+returns c = rw (c .enum-told .given .1)
+
+returns-2 : tie.Need-returns-2
+returns-2 c = rw (c .enum-told2 .given .1)
+
+returns-3 : tie.Need-returns-3
+returns-3 c = rw (c .before .before .enum-told3 .given .1) (c .row .ensures ∙ row-of ([] ∷ (kind.Number ∷ []) ∷ (kind.Number ∷ []) ∷ []) (c .before .before .before .before .args .place))
+
+returns-4 : tie.Need-returns-4
+returns-4 c = rw (c .before .before .enum-told4 .given .1) (c .row2 .ensures ∙ row-of ([] ∷ (kind.Number ∷ []) ∷ []) (c .before .before .before .before .args .place))
+
+returns-5 : tie.Need-returns-5
+returns-5 c = rw (c .before .before .enum-told5 .given .1) (c .row3 .ensures ∙ row-of operandFields (c .before .before .before .before .args .place))
+
+returns-6 : tie.Need-returns-6
+returns-6 c = rw (c .before .before .enum-told6 .given .1) (c .row4 .ensures ∙ row-of instructionFields (c .before .before .before .before .args .place))
+
+returns-7 : tie.Need-returns-7
+returns-7 c = sym (no-fields (c .before .args .kind) (c .before .args .place) (c .match .keys7))
+
+pub fields-of-spec : {M : Type 1} → statement M
+fields-of-spec =
+    tie.close
+    (tie.spec
+    enum-told
+    enum-told-2
+    enum-told-3
+    slice-aggregate-row
+    row-requires
+    enum-told-4
+    slice-aggregate-row-2
+    row-requires-2
+    enum-told-5
+    slice-aggregate-row-3
+    row-requires-3
+    enum-told-6
+    slice-aggregate-row-4
+    row-requires-4
+    returns
+    returns-2
+    returns-3
+    returns-4
+    returns-5
+    returns-6
+    returns-7)

@@ -1,0 +1,25 @@
+-- The next kind taken off, and its fields put in its place, in one number.
+use Prim.Native.Nat.{ℕ, _+_, _*_, _/_, _%_, _^_, _<_}
+use mathlib.Core.Path.{_≡_}
+use mathlib.Core.List.{List, [], _∷_}
+use Rattle.sheet_spec.specs.declared.Kind.{Kind}
+use Rattle.sheet_spec.specs.Grammar.{fieldsOf}
+use Rattle.sheet_kinds.specs.Packed.{codeOf, packed, kindAt}
+
+-- the codes of ks below a number
+abbrev pub below : List Kind → ℕ → ℕ
+below [] n = n
+below (k ∷ ks) n = codeOf k + 32 * below ks n
+
+abbrev pub nextOf : ℕ → ℕ → ℕ
+nextOf kinds place = below (fieldsOf (kindAt (kinds % 32)) place) (kinds / 32)
+
+-- 64 bits hold the kinds of `fields` and n above them
+pub record Holds (fields n : ℕ) : Type 0 where
+  pub kinds : List Kind
+  pub packs : fields ≡ packed kinds
+  pub fits : below kinds n < 2 ^ 64
+
+-- the result
+abbrev pub Joined : ℕ → ℕ → ℕ → Type 0
+Joined fields n r = (ks : List Kind) → fields ≡ packed ks → r ≡ below ks n

@@ -1,0 +1,13 @@
+pub mod Examples
+pub mod StartForm
+pub mod Follows
+pub mod Verdicts
+pub mod Turned
+pub mod Renamed
+pub mod Sizes
+pub mod Lawful
+pub mod Made
+pub mod Bounds
+pub mod Ranges
+pub mod Demand
+pub mod Demand3

@@ -1,0 +1,182 @@
+-- A line read a field at a time. Assumes nothing.
+use Prim.Native.Nat.{ℕ, _+_, _-_, _%_, _^_, _≤_, _<_}
+use mathlib.Core.Path.{_≡_, refl, sym, ap, _∙_}
+use mathlib.Core.Bool.{true, false, false≢true}
+use mathlib.Core.List.{List, [], _∷_, _++_, append-nil}
+use native.Mathlib.Omega.{arith}
+use lib.ListN.{length, take, drop, length-append}
+use lib.Seq.{append-snoc}
+use Rattle.base_text.specs.Parts.{partEnd, fields}
+use Rattle.base_text.specs.PartLaws.{partsFrom, parts-at, parts-start, parts-past, part-is}
+use Rattle.sheet_spec.specs.declared.Kind.{Kind}
+use Rattle.sheet_spec.specs.declared.Kind.the-variants as kind
+use Rattle.sheet_spec.specs.declared.Value.{Value}
+use Rattle.sheet_spec.specs.declared.Entries.{Entries}
+use Rattle.sheet_spec.specs.Grammar.{fieldsOf}
+use Rattle.sheet_spec.specs.Line.{Said, plainly, naming, nothing, said, Parsed, says, no, with, after, lineFrom, lineOf}
+use Rattle.sheet_spec.specs.Spell.{Suits}
+use Rattle.sheet_form_laws.specs.FieldForm.{spelled-said, suits-some}
+use Rattle.sheet_spec.specs.Entries.{valueOf, noEntries, entriesFrom, entriesOf}
+use Rattle.sheet_kinds.specs.Packed.{packed, kindAt}
+use Rattle.sheet_kinds.specs.Weight.{room, most, total, room-next, most-next, length-room}
+use Rattle.sheet_kinds.specs.Next.{nextOf}
+use Rattle.sheet_kinds.specs.NextLaws.{packed-first, packed-none, next-packed, packed-small}
+use Rattle.sheet_entries.specs.With.{withValue}
+use Rattle.sheet_entries.specs.WithLaws.{with-more}
+use Rattle.sheet_line.specs.Value.{isSaid, numberIn}
+
+-- vs said before the rest
+abbrev pub saidFirst : List Said → Parsed → Parsed
+saidFirst vs (says ws) = says (vs ++ ws)
+saidFirst vs no = no
+
+first-none : (p : Parsed) → saidFirst [] p ≡ p
+first-none (says vs) = refl
+first-none no = refl
+
+first-more : (vs : List Said) (v : Said) (p : Parsed) → saidFirst vs (with v p) ≡ saidFirst (vs ++ (v ∷ [])) p
+first-more vs v (says ws) = ap says (sym (append-snoc vs v ws))
+first-more vs v no = refl
+
+-- what is read before `from`, and the kinds to come
+pub record Reading (line : List ℕ) (e : Entries) (kinds from : ℕ) : Type 0 where
+  pub done : List Said
+  pub ahead : List Kind
+  pub entries : e ≡ entriesFrom done
+  pub packs : kinds ≡ packed ahead
+  pub fits : total room ahead ≤ 10
+  pub few : length done + total most ahead ≤ 17
+  pub whole : lineOf line ≡ saidFirst done (lineFrom ahead (partsFrom 9 line from))
+
+pub reading-start : (line : List ℕ) (e : Entries) → e ≡ entriesFrom [] → Reading line e 17 0
+unfolding lineOf
+reading-start line e g =
+    record {
+      done = [];
+      ahead = kind.Instruction ∷ [];
+      entries = g;
+      packs = refl;
+      fits = omega arith;
+      few = omega arith;
+      whole = rw (parts-start 9 line) (sym (first-none (lineFrom (kind.Instruction ∷ []) (fields line))));
+    }
+
+-- what says something, and what says nothing
+is-said : (v : Said) → isSaid (valueOf v) ≡ true → v ≡ nothing → ⊥
+is-said v h e = false≢true (ap (λ (x : Said). isSaid (valueOf x)) (sym e) ∙ h)
+
+not-said : (v : Said) → isSaid (valueOf v) ≡ false → v ≡ nothing
+not-said (plainly s n) h = absurd (false≢true (sym h))
+not-said (naming n) h = absurd (false≢true (sym h))
+not-said nothing h = refl
+
+-- a line's name has no fields
+name-last : (k : Kind) (n m : ℕ) → Suits k (naming n) → fieldsOf k m ≡ []
+name-last kind.Number n m h = absurd h
+name-last kind.Target n m h = refl
+name-last kind.Place n m h = refl
+name-last kind.Size n m h = absurd h
+name-last kind.TargetDirection n m h = absurd h
+name-last kind.RegisterOperand n m h = absurd h
+name-last kind.AddressWidth n m h = absurd h
+name-last kind.Condition n m h = absurd h
+name-last kind.BranchSize n m h = absurd h
+name-last kind.ShiftDirection n m h = absurd h
+name-last kind.Sign n m h = absurd h
+name-last kind.BitFieldOperation n m h = absurd h
+name-last kind.FieldValue n m h = absurd h
+name-last kind.TrapOperand n m h = absurd h
+name-last kind.RegisterChoice n m h = absurd h
+name-last kind.Operand n m h = absurd h
+name-last kind.Instruction n m h = absurd h
+
+said-on : (k : Kind) (ks : List Kind) (fs : List (List ℕ)) (v : Said) → Suits k v
+    → after v (λ n. lineFrom (fieldsOf k n ++ ks) fs) (lineFrom ks fs) ≡ with v (lineFrom (fieldsOf k (numberIn (valueOf v)) ++ ks) fs)
+said-on k ks fs (plainly s n) h = refl
+said-on k ks fs (naming n) h = ap (λ (ls : List Kind). with (naming n) (lineFrom (ls ++ ks) fs)) (sym (name-last k n 0 h))
+said-on k ks fs nothing h = absurd (suits-some k h)
+
+-- one field more
+module _ (k : Kind) (ks : List Kind) (f : List ℕ) (fs : List (List ℕ)) where
+  from-none : isSaid (valueOf (said k f)) ≡ false → lineFrom (k ∷ ks) (f ∷ fs) ≡ no
+  from-none t = ap (λ (v : Said). after v (λ n. lineFrom (fieldsOf k n ++ ks) fs) (lineFrom ks fs)) (not-said (said k f) t)
+
+  from-on : isSaid (valueOf (said k f)) ≡ true → lineFrom (k ∷ ks) (f ∷ fs) ≡ with (said k f) (lineFrom (fieldsOf k (numberIn (valueOf (said k f))) ++ ks) fs)
+  from-on t = said-on k ks fs (said k f) (spelled-said k f (said k f) refl (is-said (said k f) t) .1)
+
+module _ (line : List ℕ) (e : Entries) (kinds from : ℕ) (r : Reading line e kinds from) where
+  refused : lineFrom (r .ahead) (partsFrom 9 line from) ≡ no → noEntries ≡ entriesOf (lineOf line)
+  refused h = sym (ap entriesOf (r .whole ∙ ap (saidFirst (r .done)) h))
+
+  -- a field too many
+  pub reading-over : from ≤ length line → kinds ≡ 0 → noEntries ≡ entriesOf (lineOf line)
+  reading-over h z = refused (rw (packed-none (r .ahead) (sym (r .packs) ∙ z), parts-at 9 line from h))
+
+  pub reading-end : length line < from → kinds ≡ 0 → e ≡ entriesOf (lineOf line)
+  reading-end h z =
+      let a : r .ahead ≡ [] = packed-none (r .ahead) (sym (r .packs) ∙ z) in
+      r .entries ∙ ap entriesOf (ap says (sym (append-nil (r .done))) ∙ sym (r .whole ∙ rw (a, parts-past 9 line from h)))
+
+  -- a field too few
+  pub reading-short : length line < from → (kinds ≡ 0 → ⊥) → noEntries ≡ entriesOf (lineOf line)
+  reading-short h some = refused (rw (parts-past 9 line from h) (go (r .ahead) (r .packs)))
+    where
+      go : (ks : List Kind) → kinds ≡ packed ks → lineFrom ks [] ≡ no
+      go [] p = absurd (some p)
+      go (k ∷ ks) p = refl
+
+  module _ (some : kinds ≡ 0 → ⊥) where
+    -- the next kind apart
+    split : {P : Type 0} → ((ks : List Kind) → r .ahead ≡ kindAt (kinds % 32) ∷ ks → P) → P
+    split {P} f = go (r .ahead) refl
+      where
+        go : (ls : List Kind) → r .ahead ≡ ls → P
+        go [] a = absurd (some (r .packs ∙ ap packed a))
+        go (k ∷ ks) a =
+            let q : kindAt (kinds % 32) ≡ k = ap (λ (n : ℕ). kindAt (n % 32)) (r .packs ∙ ap packed a) ∙ packed-first k ks in
+            f ks (a ∙ ap (λ (x : Kind). x ∷ ks) (sym q))
+
+    pub next-fits : (n : ℕ) → nextOf kinds n < 2 ^ 64
+    next-fits n =
+        split (λ ks a.
+        let k : Kind = kindAt (kinds % 32) in
+        let fits : total room (k ∷ ks) ≤ 10 = rw a at (r .fits) in
+        let next : List Kind = fieldsOf k n ++ ks in
+        let p : packed next < 32 ^ 10 = packed-small 10 next (omega (arith, length-room next, room-next k ks n)) in
+        let z : nextOf kinds n ≡ packed next = ap (λ (x : ℕ). nextOf x n) (r .packs ∙ ap packed a) ∙ next-packed k ks n in
+        omega arith)
+
+    -- the next field, which ends at `end`: its kind and what it says
+    module _ (end : ℕ) (h : from ≤ length line) (g : end ≡ partEnd 9 line from) (k : Kind) (q : k ≡ kindAt (kinds % 32)) (w : Value)
+        (i : w ≡ valueOf (said k (take (end - from) (drop from line)))) where
+      abbrev f : List ℕ
+      f = take (end - from) (drop from line)
+
+      abbrev rest : List (List ℕ)
+      rest = partsFrom 9 line (end + 1)
+
+      parts-on : partsFrom 9 line from ≡ f ∷ rest
+      parts-on = rw (parts-at 9 line from h, part-is 9 line from end g, g)
+
+      pub reading-none : isSaid w ≡ false → noEntries ≡ entriesOf (lineOf line)
+      reading-none t = split (λ ks a. refused (rw (a, ← q, parts-on) (from-none k ks f rest (rw i at t))))
+
+      pub reading-on : isSaid w ≡ true → Reading line (withValue e w) (nextOf kinds (numberIn w)) (end + 1)
+      reading-on t =
+          split (λ ks a.
+          let v : Said = said k f in
+          let n : ℕ = numberIn (valueOf v) in
+          let some-said : isSaid (valueOf v) ≡ true = rw i at t in
+          let b : r .ahead ≡ k ∷ ks = a ∙ ap (λ (x : Kind). x ∷ ks) (sym q) in
+          let fits : total room (k ∷ ks) ≤ 10 = rw b at (r .fits) in
+          let few : length (r .done) + total most (k ∷ ks) ≤ 17 = rw b at (r .few) in
+          rw i
+          (record {
+            done = r .done ++ (v ∷ []);
+            ahead = fieldsOf k n ++ ks;
+            entries = ap (λ (x : Entries). withValue x (valueOf v)) (r .entries) ∙ with-more (r .done) v (omega (arith, most-next k ks n)) (is-said v some-said);
+            packs = ap (λ (x : ℕ). nextOf x n) (r .packs ∙ ap packed b) ∙ next-packed k ks n;
+            fits = omega (arith, room-next k ks n);
+            few = rw length-append (omega (arith, most-next k ks n));
+            whole = r .whole ∙ rw (b, parts-on) (ap (saidFirst (r .done)) (from-on k ks f rest some-said)) ∙ first-more (r .done) v (lineFrom (fieldsOf k n ++ ks) rest);
+          }))

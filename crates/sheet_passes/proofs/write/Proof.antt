@@ -1,0 +1,130 @@
+use Rattle.sheet_passes.proofs.write.Statement.{statement}
+use Rattle.sheet_passes.proofs.write.Tie as tie
+use mathlib.Core.Path.{_≡_, refl}
+use Prim.Native.Nat.{_-_, _≤_}
+use native.Mathlib.Omega.{arith}
+use lib.ListN.{length, length-take, length-drop}
+use Rattle.sheet_passes.specs.Passes.{linesAt}
+use Rattle.sheet_passes.proofs.Laws.{place-inside, Writing, writing, writing-end, writing-most, writing-room, writing-next}
+
+abbrev Inv-loop : tie.InvT-loop
+Inv-loop text from addresses image₀ next₀ k₀ at₀ image next k at =
+    (k ≤ length addresses) × (at ≤ length image₀) × (length image ≡ length image₀) × Writing text from addresses image₀ next k at image
+
+abbrev μ-loop : tie.MeasureT-loop
+μ-loop text from addresses image₀ next₀ k₀ at₀ image next k at = length text - next
+
+loop-holds : tie.Need-loop-holds Inv-loop μ-loop
+loop-holds c =
+    let s = c .before .before .before in
+    (omega arith, omega arith, refl, writing (s .args .text .now) (s .args .from) (s .args .addresses .now) (s .args .image .now) (s .pre .0))
+
+line-end-requires : tie.Need-line-end-requires Inv-loop μ-loop
+line-end-requires c κs = omega arith
+
+sub-encoded : tie.Need-sub-encoded Inv-loop μ-loop
+sub-encoded c = omega arith
+
+part-encoded-start : tie.Need-part-encoded-start Inv-loop μ-loop
+part-encoded-start c = omega arith
+
+part-encoded-end : tie.Need-part-encoded-end Inv-loop μ-loop
+part-encoded-end c = omega arith
+
+mul-encoded : tie.Need-mul-encoded Inv-loop μ-loop
+mul-encoded c = omega arith
+
+shared-slice-read-encoded : tie.Need-shared-slice-read-encoded Inv-loop μ-loop
+shared-slice-read-encoded c =
+    let l = c .before .before .before .before .loop in
+    let a = c .before .before .before .before .before .before .before .before .args in
+    let e = c .before .before .line-end in
+    place-inside (a .text .now) (a .addresses .now) (length (linesAt (a .text .now) (a .from))) (l .next) (l .k) (l .inv .3 .address) (l .inv .3 .left) (e .result) (omega arith) (e .ensures .0)
+
+encoded-requires : tie.Need-encoded-requires Inv-loop μ-loop
+encoded-requires c κs = omega arith
+
+mul-put-words : tie.Need-mul-put-words Inv-loop μ-loop
+mul-put-words c = omega arith
+
+sub-put-words : tie.Need-sub-put-words Inv-loop μ-loop
+sub-put-words c = omega arith
+
+part-put-words-start : tie.Need-part-put-words-start Inv-loop μ-loop
+part-put-words-start c = omega arith
+
+part-put-words-end : tie.Need-part-put-words-end Inv-loop μ-loop
+part-put-words-end c = omega arith
+
+put-words-requires : tie.Need-put-words-requires Inv-loop μ-loop
+put-words-requires c κs =
+    let l = c .before .before .before .before .before .before .loop in
+    let a = c .before .before .before .before .before .before .before .before .before .before .args in
+    let e = c .before .before .before .before .line-end in
+    let r = c .before .encoded in
+    let room = writing-room (a .text .now) (a .from) (a .addresses .now) (a .image .now) (l .inv .3) (e .result) (omega arith) (e .ensures .0) (r .result) (r .ensures) (c .before .before .before .before .before .before .before .before .before .before .pre .1) in
+    (writing-most (a .text .now) (a .from) (a .addresses .now) (a .image .now) (l .inv .3) (e .result) (omega arith) (e .ensures .0) (r .result) (r .ensures), simp (length-take, length-drop) (omega arith))
+
+add-at : tie.Need-add-at Inv-loop μ-loop
+add-at c =
+    let l = c .before .before .before .before .before .before .before .before .before .before .loop in
+    let a = c .before .before .before .before .before .before .before .before .before .before .before .before .before .before .args in
+    let e = c .before .before .before .before .before .before .before .before .line-end in
+    let r = c .before .before .before .before .before .encoded in
+    omega (arith, c .before .before .before .before .before .before .before .before .before .before .before .before .before .before .good, writing-room (a .text .now) (a .from) (a .addresses .now) (a .image .now) (l .inv .3) (e .result) (omega arith) (e .ensures .0) (r .result) (r .ensures) (c .before .before .before .before .before .before .before .before .before .before .before .before .before .before .pre .1))
+
+add-k : tie.Need-add-k Inv-loop μ-loop
+add-k c = omega arith
+
+add-next : tie.Need-add-next Inv-loop μ-loop
+add-next c = omega arith
+
+loop-less : tie.Need-loop-less Inv-loop μ-loop
+loop-less c = omega arith
+
+loop-again : tie.Need-loop-again Inv-loop μ-loop
+loop-again c =
+    let l = c .before .before .before .before .before .before .before .before .before .before .loop in
+    let a = c .before .before .before .before .before .before .before .before .before .before .before .before .before .before .args in
+    let e = c .before .before .before .before .before .before .before .before .line-end in
+    let r = c .before .before .before .before .before .encoded in
+    let pre = c .before .before .before .before .before .before .before .before .before .before .before .before .before .before .pre .1 in
+    let room = writing-room (a .text .now) (a .from) (a .addresses .now) (a .image .now) (l .inv .3) (e .result) (omega arith) (e .ensures .0) (r .result) (r .ensures) pre in
+    let inside = place-inside (a .text .now) (a .addresses .now) (length (linesAt (a .text .now) (a .from))) (l .next) (l .k) (l .inv .3 .address) (l .inv .3 .left) (e .result) (omega arith) (e .ensures .0) in
+    (omega arith, omega arith, omega arith, writing-next (a .text .now) (a .from) (a .addresses .now) (a .image .now) (l .inv .3) (e .result) (omega arith) (e .ensures .0) (r .result) (r .ensures) pre (c .before .before .before .put-words .last .0) (c .before .before .before .put-words .ensures))
+
+same-length : tie.Need-same-length Inv-loop μ-loop
+same-length c = omega arith
+
+returns : tie.Need-returns Inv-loop μ-loop
+returns c =
+    let l = c .before .loop in
+    let a = c .before .before .before .before .before .args in
+    writing-end (a .text .now) (a .from) (a .addresses .now) (a .image .now) (l .inv .3) (omega arith)
+
+pub write-spec : {M : Type 1} → statement M
+write-spec =
+    tie.close
+    (tie.spec
+    Inv-loop
+    μ-loop
+    loop-holds
+    line-end-requires
+    sub-encoded
+    part-encoded-start
+    part-encoded-end
+    mul-encoded
+    shared-slice-read-encoded
+    encoded-requires
+    mul-put-words
+    sub-put-words
+    part-put-words-start
+    part-put-words-end
+    put-words-requires
+    add-at
+    add-k
+    add-next
+    loop-less
+    loop-again
+    same-length
+    returns)

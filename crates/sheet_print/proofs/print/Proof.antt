@@ -1,0 +1,82 @@
+use borrow.Author.Needs.{needs}
+use Rattle.sheet_print.proofs.print.Statement.{statement}
+use Rattle.sheet_print.proofs.print.Tie as tie
+use native.Mathlib.Omega.{arith}
+use mir.Facts.{toZ-ofZ}
+use mir.Syntax.{w64}
+use lib.ListN.{length-take}
+use Rattle.sheet_print.specs.PrintedLaws.{listable, refusal-is, from-first}
+
+translate-requires : tie.Need-translate-requires
+translate-requires c κs = search needs
+
+slice-reshare-prefix-put-listing : tie.Need-slice-reshare-prefix-put-listing
+slice-reshare-prefix-put-listing c = listable (c .before .before .before .before .before .before .translate .ensures) (c .if1 .taken) .held
+
+slice-aggregate-put-listing : tie.Need-slice-aggregate-put-listing
+slice-aggregate-put-listing c = rw length-take (omega (arith, listable (c .before .before .before .before .before .before .before .translate .ensures) (c .before .if1 .taken) .held))
+
+slice-reshare-prefix-put-listing-2 : tie.Need-slice-reshare-prefix-put-listing-2
+slice-reshare-prefix-put-listing-2 c = listable (c .before .before .before .before .before .before .before .translate .ensures) (c .before .if1 .taken) .room
+
+slice-aggregate-put-listing-2 : tie.Need-slice-aggregate-put-listing-2
+slice-aggregate-put-listing-2 c = rw length-take (omega (arith, listable (c .before .before .before .before .before .before .before .before .translate .ensures) (c .before .before .if1 .taken) .room))
+
+put-listing-requires : tie.Need-put-listing-requires
+put-listing-requires c κs = let l = listable (c .before .before .before .before .before .before .before .before .before .translate .ensures) (c .before .before .before .if1 .taken) in (omega arith, l .few, l .laid)
+
+same-length : tie.Need-same-length
+same-length c = search needs
+
+same-length-2 : tie.Need-same-length-2
+same-length-2 c = search needs
+
+same-length-3 : tie.Need-same-length-3
+same-length-3 c = search needs
+
+returns : tie.Need-returns
+returns c =
+    let t = c .before .before .before .before .before .before .before .before .before .before .before .before .translate .ensures in
+    let l = listable t (c .before .before .before .before .before .before .if1 .taken) in
+    let p = c .before .before .put-listing .ensures in
+    let f = from-first _ (p .0) (l .listing) in
+    ((f .0, f .1, omega (arith, l .few)), (t .image, t .scratch))
+
+put-refusal-requires : tie.Need-put-refusal-requires
+put-refusal-requires c κs = search needs
+
+same-length-4 : tie.Need-same-length-4
+same-length-4 c = search needs
+
+same-length-5 : tie.Need-same-length-5
+same-length-5 c = search needs
+
+same-length-6 : tie.Need-same-length-6
+same-length-6 c = search needs
+
+returns-2 : tie.Need-returns-2
+returns-2 c =
+    let t = c .before .before .before .before .before .before .before .before .before .before .before .translate in
+    let p = rw (toZ-ofZ {w = w64} {z = t .result .value} (search needs)) at (c .before .before .put-refusal .ensures) in
+    let f = from-first _ (p .0) (refusal-is (t .ensures) (c .before .before .before .before .before .if1 .left)) in
+    ((f .0, f .1, omega arith), (t .ensures .image, t .ensures .scratch))
+
+pub print-spec : {M : Type 1} → statement M
+print-spec =
+    tie.close
+    (tie.spec
+    translate-requires
+    slice-reshare-prefix-put-listing
+    slice-aggregate-put-listing
+    slice-reshare-prefix-put-listing-2
+    slice-aggregate-put-listing-2
+    put-listing-requires
+    same-length
+    same-length-2
+    same-length-3
+    returns
+    put-refusal-requires
+    same-length-4
+    same-length-5
+    same-length-6
+    returns-2)

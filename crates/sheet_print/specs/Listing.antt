@@ -1,0 +1,28 @@
+-- A listing from the lines' addresses and the words of all lines.
+use Prim.Native.Nat.{ℕ, suc, _-_, _/_, _≤_}
+use mathlib.Core.List.{List, [], _∷_, _++_}
+use lib.ListN.{length, take, drop, getD}
+use Rattle.sheet_print.specs.Printed.{lineText}
+
+-- the words of the first line, where so many are left: half the bytes up to the next line, or all
+abbrev pub firstCount : List ℕ → ℕ → ℕ
+firstCount [] left = left
+firstCount (a ∷ []) left = left
+firstCount (a ∷ (b ∷ rest)) left = (b - a) / 2
+
+abbrev pub linesText : ℕ → List ℕ → List ℕ → List ℕ
+linesText k [] words = []
+linesText k (a ∷ rest) words =
+    let count = firstCount (a ∷ rest) (length words) in
+    lineText k a (take count words) ++ linesText (suc k) rest (drop count words)
+
+-- the second address, if there is one, is not below the first
+abbrev pub Rises : List ℕ → Type 0
+Rises addresses = getD addresses 0 0 ≤ getD addresses 1 (getD addresses 0 0)
+
+-- each line's words are at most eleven, and are there
+abbrev pub Laid : List ℕ → List ℕ → Type 0
+Laid [] words = Unit {0}
+Laid (a ∷ rest) words =
+    let count = firstCount (a ∷ rest) (length words) in
+    Rises (a ∷ rest) × (count ≤ 11) × (count ≤ length words) × Laid rest (drop count words)

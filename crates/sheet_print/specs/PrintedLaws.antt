@@ -1,0 +1,110 @@
+-- What is printed, from the translator's answer. Assumes nothing.
+use mathlib.Core.Path.{_≡_, refl, sym}
+use mathlib.Core.Bool.{Bool, true, false, _&&_}
+use mathlib.Core.List.{List, [], _∷_}
+use Prim.Native.Nat.{ℕ, zero, suc, _+_, _≤_, _<_}
+use native.Mathlib.Omega.{arith}
+use lib.ListN.{length, take, drop, getD, length-append, length-take, length-drop}
+use lib.Seq.{take-at}
+use lib.Dec.{leb, eqb}
+use lib.IntN.{pos}
+use borrow.Author.Tests.{lt-leb}
+use Rattle.base_text.specs.Written.{placed}
+use Rattle.base_text.specs.Wrote.{Wrote}
+use Rattle.sheet_spec.specs.declared.Listed.{Listed}
+use Rattle.sheet_spec.specs.Sheet.{isSheet, feeds, last, linesIn, counted, total}
+use Rattle.sheet_spec.specs.Translate.{Verdict, fine, refused, startIn, countIn, addressesIn, needIn, verdictOf, listedOf, imageIn, over, imageOf, scratchOf}
+use Rattle.sheet_laws.specs.Verdicts.{accepted}
+use Rattle.sheet_laws.specs.Demand3.{each-stands, image-counts}
+use Rattle.sheet_start.specs.SheetLaws.{count-most}
+use Rattle.sheet_passes.specs.PassLaws.{line-most, words-length}
+use Rattle.sheet_translate.specs.Translated.{Translated}
+use Rattle.sheet_translate.specs.VerdictLaws.{Sound, verdict-sound}
+use Rattle.sheet_translate.specs.PlaceLaws.{addresses-length}
+use Rattle.sheet_print.specs.Printed.{listingOf, refusalText, printedOf}
+use Rattle.sheet_print.specs.Listing.{linesText, Laid}
+use Rattle.sheet_print.specs.ListingLaws.{Counts, listing-is, laid}
+
+-- a line's words are among those of all lines
+total-part : (n : ℕ) (ls : List (List ℕ)) (k : ℕ) → k < length ls → total n (take k ls) + counted n (getD ls k []) ≤ total n ls
+total-part n [] k h = absurd (omega arith)
+total-part n (l ∷ ls) zero h = omega arith
+total-part n (l ∷ ls) (suc k) h = omega (arith, total-part n ls k (omega arith))
+
+part-length : (image ws : List ℕ) (from count : ℕ) → take count (drop from image) ≡ ws → from + count ≤ length image → length ws ≡ count
+part-length image ws from count e h = rw (sym e, length-take, length-drop) (omega arith)
+
+-- ---- an accepted sheet
+module _ (text : List ℕ) (places room : ℕ) (e : verdictOf text places room ≡ fine) where
+  counts : Counts (addressesIn text) (countIn text) (startIn text) (linesIn text)
+  counts j h =
+      part-length (imageIn text) _ (total (countIn text) (take j (linesIn text))) (counted (countIn text) (getD (linesIn text) j []))
+      (each-stands text places room e j h) (rw (image-counts text places room e) (total-part (countIn text) (linesIn text) j h))
+
+  listing-laid : Laid (addressesIn text) (imageIn text)
+  listing-laid =
+      laid (addressesIn text) (countIn text) (λ l a. omega (arith, words-length (addressesIn text) l a, line-most (addressesIn text) l a))
+      (startIn text) (linesIn text) counts
+
+  listing-text : linesText 1 (addressesIn text) (imageIn text) ≡ printedOf text places room
+  unfolding printedOf listingOf
+  listing-text = rw e (listing-is (addressesIn text) (countIn text) 1 (startIn text) (linesIn text) counts)
+
+-- what is printed of an accepted sheet, from the scratch and the image that the translator leaves
+pub record Listable (scratch image : List ℕ) (lines words : ℕ) (printed : List ℕ) : Type 0 where
+  pub held : lines ≤ length scratch
+  pub room : words ≤ length image
+  pub few : length (take lines scratch) ≤ 4096
+  pub laid : Laid (take lines scratch) (take words image)
+  pub listing : linesText 1 (take lines scratch) (take words image) ≡ printed
+
+accepted-listable : (text v s : List ℕ) → verdictOf text (length s) (length v) ≡ fine
+    → Listable (over (addressesIn text) s) (over (imageIn text) v) (countIn text) (needIn text) (printedOf text (length s) (length v))
+accepted-listable text v s e =
+    let a = accepted text (length s) (length v) e in
+    let n = addresses-length (countIn text) (startIn text) (linesIn text) in
+    let m = image-counts text (length s) (length v) e in
+    let scratch = take-at (addressesIn text) (drop (length (addressesIn text)) s) (countIn text) n in
+    let image = take-at (imageIn text) (drop (length (imageIn text)) v) (needIn text) m in
+    record {
+      held = rw length-append (omega (arith, n));
+      room = rw length-append (omega (arith, m));
+      few = rw scratch (omega (arith, n, count-most text (a .sheet)));
+      laid = rw (scratch, image) (listing-laid text (length s) (length v) e);
+      listing = rw (scratch, image) (listing-text text (length s) (length v) e);
+    }
+
+module _ {text v s v′ s′ : List ℕ} {r : Listed} (t : Translated text v s v′ s′ r) where
+  pub listable : r .number ≡ 0 → Listable s′ v′ (r .lines) (r .words) (printedOf text (length s) (length v))
+  unfolding listedOf imageOf scratchOf
+  listable h = go (verdictOf text (length s) (length v)) refl (verdict-sound text (length s) (length v))
+    where
+      go : (w : Verdict) → verdictOf text (length s) (length v) ≡ w → Sound w
+          → Listable s′ v′ (r .lines) (r .words) (printedOf text (length s) (length v))
+      go fine e n = rw (t .listed, t .image, t .scratch, e) (accepted-listable text v s e)
+      go (refused number line detail value) e n = absurd (n (rw (t .listed, e) at h))
+
+  pub refusal-is : (r .number ≡ 0 → ⊥) → refusalText (r .number) (r .line) (r .detail) (r .value) ≡ printedOf text (length s) (length v)
+  unfolding listedOf printedOf
+  refusal-is h = go (verdictOf text (length s) (length v)) refl
+    where
+      go : (w : Verdict) → verdictOf text (length s) (length v) ≡ w
+          → refusalText (r .number) (r .line) (r .detail) (r .value) ≡ printedOf text (length s) (length v)
+      go fine e = absurd (h (rw (t .listed, e)))
+      go (refused number line detail value) e = rw (t .listed, e)
+
+-- a text from the first place on
+pub from-first : {buf out t : List ℕ} {r : ℕ} (p : List ℕ) → Wrote buf 0 t out r → t ≡ p → (r ≡ length p) × (out ≡ placed buf 0 p)
+from-first p w e = rw (sym e) (omega (arith, w .next), w .image)
+
+-- a text of more than 65,536 bytes is refused with 10, whatever is lent
+sheet-long : (text : List ℕ) → 65536 < length text → isSheet text ≡ false
+sheet-long text h = rw (lt-leb (length text) 65536 h) (long (leb 1 (length text)))
+  where
+    long : (b : Bool) → (((b && false) && eqb (last text) 10) && leb 2 (feeds text)) && leb (feeds text) 4097 ≡ false
+    long true = refl
+    long false = refl
+
+pub long-refused : (text : List ℕ) (places room : ℕ) → 65536 < length text → printedOf text places room ≡ refusalText 10 0 0 (pos 0)
+unfolding printedOf verdictOf
+long-refused text places room h = rw (sheet-long text h)

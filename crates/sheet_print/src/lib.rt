@@ -1,0 +1,108 @@
+// What the program `sheet` prints: a sheet's listing or its refusal, written into a lent buffer.
+ghost use mathlib.Core.Path.{_≡_};
+ghost use Prim.Native.Nat.{_+_, _*_, _-_, _/_, _≤_};
+ghost use lib.ListN.{length};
+ghost use Rattle.base_text.specs.Written.{placed};
+ghost use Rattle.base_text.specs.Wrote.{Wrote, fieldText};
+ghost use Rattle.sheet_spec.specs.Translate.{imageOf, scratchOf};
+ghost use Rattle.sheet_print.specs.Printed.{wordsText, lineText, refusalText, printedOf};
+ghost use Rattle.sheet_print.specs.Listing.{firstCount, linesText, Rises, Laid};
+
+// A number and a tab.
+fn put_field(out: &mut [u8], at: usize, n: u64) -> usize
+    requires { ⌜ at + 21 ≤ length (now out) ⌝ }
+    ensures { λ r. ⌜ Wrote (now (out .entry)) at (fieldText n) (now (out .exit)) r × (r ≤ at + 21) ⌝ }
+{
+    let next = base_text::put_decimal(out, at, n);
+    base_text::put_byte(out, next, b'\t')
+}
+
+// A tab and each word.
+fn put_words(out: &mut [u8], at: usize, words: &[u16]) -> usize
+    requires { ⌜ (at + 55 ≤ length (now out)) × (length (now words) ≤ 11) ⌝ }
+    ensures { λ r. ⌜ Wrote (now (out .entry)) at (wordsText (now (words .entry))) (now (out .exit)) r × (r ≤ at + 55) ⌝ }
+{
+    let mut next = at;
+    let mut i: usize = 0;
+    while i < words.len() {
+        next = base_text::put_byte(out, next, b'\t');
+        next = base_text::put_hex4(out, next, words[i]);
+        i += 1;
+    }
+    next
+}
+
+// A line's number, address and words.
+fn put_line(out: &mut [u8], at: usize, k: usize, address: u32, words: &[u16]) -> usize
+    requires { ⌜ (at + 69 ≤ length (now out)) × (k ≤ 4096) × (length (now words) ≤ 11) ⌝ }
+    ensures { λ r. ⌜ Wrote (now (out .entry)) at (lineText k address (now (words .entry))) (now (out .exit)) r × (r ≤ at + 69) ⌝ }
+{
+    let mut next = put_field(out, at, k as u64);
+    next = base_text::put_hex8(out, next, address);
+    next = put_words(out, next, words);
+    base_text::put_byte(out, next, b'\n')
+}
+
+// The words from an address to the next.
+fn words_between(address: u32, next: u32) -> usize
+    requires { ⌜ address ≤ next ⌝ }
+    ensures { λ r. ⌜ r ≡ (next - address) / 2 ⌝ }
+{
+    ((next - address) / 2) as usize
+}
+
+// The words of the first line, where so many are left.
+fn first_count(addresses: &[u32], left: usize) -> usize
+    requires { ⌜ Rises (now addresses) ⌝ }
+    ensures { λ r. ⌜ r ≡ firstCount (now (addresses .entry)) left ⌝ }
+{
+    if addresses.len() < 2 {
+        return left;
+    }
+    words_between(addresses[0], addresses[1])
+}
+
+// The lines at these addresses, which share out the words.
+fn put_listing(addresses: &[u32], words: &[u16], out: &mut [u8]) -> usize
+    requires { ⌜ (282624 ≤ length (now out)) × (length (now addresses) ≤ 4096) × Laid (now addresses) (now words) ⌝ }
+    ensures { λ r. ⌜ Wrote (now (out .entry)) 0 (linesText 1 (now (addresses .entry)) (now (words .entry))) (now (out .exit)) r × (r ≤ 69 * length (now (addresses .entry))) ⌝ }
+{
+    let mut at: usize = 0;
+    let mut from: usize = 0;
+    let mut k: usize = 0;
+    while k < addresses.len() {
+        let to = from + first_count(&addresses[k..], words.len() - from);
+        at = put_line(out, at, k + 1, addresses[k], &words[from..to]);
+        from = to;
+        k += 1;
+    }
+    at
+}
+
+// `refused`, number, line, detail and value.
+pub fn put_refusal(out: &mut [u8], number: u8, line: usize, detail: u8, value: i64) -> usize
+    requires { ⌜ 92 ≤ length (now out) ⌝ }
+    ensures { λ r. ⌜ Wrote (now (out .entry)) 0 (refusalText number line detail value) (now (out .exit)) r × (r ≤ 92) ⌝ }
+{
+    let mut next = base_text::put(out, 0, b"refused\t");
+    next = put_field(out, next, number as u64);
+    next = put_field(out, next, line as u64);
+    next = put_field(out, next, detail as u64);
+    next = base_text::put_signed(out, next, value);
+    base_text::put_byte(out, next, b'\n')
+}
+
+// The listing or the refusal of a sheet, from the first place on; how many places it takes.
+pub fn print(text: &[u8], image: &mut [u16], scratch: &mut [u32], out: &mut [u8]) -> usize
+    requires { ⌜ 282624 ≤ length (now out) ⌝ }
+    ensures { λ r. ⌜ (r ≡ length (printedOf (now (text .entry)) (length (now (scratch .entry))) (length (now (image .entry))))) × (now (out .exit) ≡ placed (now (out .entry)) 0 (printedOf (now (text .entry)) (length (now (scratch .entry))) (length (now (image .entry))))) × (r ≤ 282624) ⌝ }
+    ensures { λ r. ⌜ (now (image .exit) ≡ imageOf (now (text .entry)) (now (scratch .entry)) (now (image .entry))) × (now (scratch .exit) ≡ scratchOf (now (text .entry)) (now (scratch .entry)) (now (image .entry))) ⌝ }
+{
+    let r = sheet_translate::translate(text, image, scratch);
+    if r.number == 0 {
+        let lines = r.lines;
+        let words = r.words;
+        return put_listing(&scratch[..lines], &image[..words], out);
+    }
+    put_refusal(out, r.number, r.line, r.detail, r.value)
+}

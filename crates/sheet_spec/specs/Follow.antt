@@ -1,0 +1,207 @@
+-- Following (01, "The listing"): two followers, one over the lines and one over the image's words, and what it is for them to be together.
+use Prim.Native.Nat.{ℕ, pred, _+_, _*_, _-_, _/_, _%_, _≤_}
+use mathlib.Core.Path.{_≡_}
+use mathlib.Core.Bool.{Bool, true, false, cond}
+use mathlib.Core.List.{List, [], _∷_}
+use lib.Dec.{leb, ltb, eqb}
+use lib.ListN.{length, drop, take, getD}
+use Rattle.isa.specs.declared.Instruction.{Instruction}
+use Rattle.isa.specs.declared.Instruction.the-variants.{IntoRegister, MOVEM, Transfer, Pair, Quick, MOVEQ, ImmediateInto, WordIntoData, SWAP, EXG, UnsizedIntoRegister, UnsizedOne, UnsizedPair, EXT, OneOperand, Bcc, Scc, DBcc, Branch, Link, UNLK, Shift, Vector, Status, ConditionCode, MOVEUSP, Raw, Plain, RTD, MOVEC, TRAPcc, MULL, Pack, CAS, CAS2, BF, DIVL}
+use Rattle.isa.specs.declared.UnsizedOneOperation.{UnsizedOneOperation}
+use Rattle.isa.specs.declared.UnsizedOneOperation.the-variants.{PEA, NBCD, JSR, JMP, TAS, MOVEtoCCR, MOVEfromCCR, MOVEtoSR, MOVEfromSR}
+use Rattle.isa.specs.declared.StatusOperation.{StatusOperation}
+use Rattle.isa.specs.declared.StatusOperation.the-variants.{ANDItoSR, ORItoSR, EORItoSR, STOP}
+use Rattle.isa.specs.declared.RawOperation.{RawOperation}
+use Rattle.isa.specs.declared.RawOperation.the-variants.{LINEA, LINEF, IllegalWord}
+use Rattle.isa.specs.declared.PlainOperation.{PlainOperation}
+use Rattle.isa.specs.declared.PlainOperation.the-variants.{RTE, RESET, RTR, TRAPV, ILLEGAL, RTS, NOP, SIMHALT}
+use Rattle.numeric_build.specs.declared.Built.{Built}
+use Rattle.numeric_build.specs.declared.Built.the-variants as built
+use Rattle.read_spec.specs.declared.Reading.{Reading}
+use Rattle.read_spec.specs.declared.Reading.the-variants.{Read, Short, Nothing}
+use Rattle.read_spec.specs.Plain.{plain}
+use Rattle.read_spec.specs.Read.{readOf}
+use Rattle.sheet_spec.specs.Made.{madeOf, addressIn}
+use Rattle.sheet_spec.specs.Sheet.{linesIn, counted, total}
+use Rattle.sheet_spec.specs.Translate.{startIn, countIn, addressesIn}
+
+-- where an instruction in plain form goes: on to what stands after it, to a target, to a target if taken and else on, or nowhere
+pub data Next : Type 0 where
+  on : Next
+  to : ℕ → Next
+  either : ℕ → Next
+  stop : Next
+
+abbrev pub jumps : UnsizedOneOperation → Next
+jumps PEA = on
+jumps NBCD = on
+jumps JSR = stop
+jumps JMP = stop
+jumps TAS = on
+jumps MOVEtoCCR = on
+jumps MOVEfromCCR = on
+jumps MOVEtoSR = on
+jumps MOVEfromSR = on
+
+abbrev pub statusNext : StatusOperation → Next
+statusNext ANDItoSR = on
+statusNext ORItoSR = on
+statusNext EORItoSR = on
+statusNext STOP = stop
+
+abbrev pub rawNext : RawOperation → Next
+rawNext LINEA = stop
+rawNext LINEF = stop
+rawNext IllegalWord = on
+
+abbrev pub plainNext : PlainOperation → Next
+plainNext RTE = stop
+plainNext RESET = on
+plainNext RTR = stop
+plainNext TRAPV = on
+plainNext ILLEGAL = stop
+plainNext RTS = stop
+plainNext NOP = on
+plainNext SIMHALT = on
+
+abbrev pub nextOf : Instruction → Next
+nextOf (IntoRegister op o r s) = on
+nextOf (MOVEM direction s mask o) = on
+nextOf (Transfer op direction s r o) = on
+nextOf (Pair op o d s) = on
+nextOf (Quick op n o s) = on
+nextOf (MOVEQ v r) = on
+nextOf (ImmediateInto op v o s) = on
+nextOf (WordIntoData op o r sign) = on
+nextOf (SWAP r) = on
+nextOf (EXG x y) = on
+nextOf (UnsizedIntoRegister op o r) = on
+nextOf (UnsizedOne op o) = jumps op
+nextOf (UnsizedPair op o d) = on
+nextOf (EXT r s z) = on
+nextOf (OneOperand op o s) = on
+nextOf (Bcc t condition s) = either t
+nextOf (Scc o condition) = on
+nextOf (DBcc r t condition) = either t
+nextOf (Branch op t s) = to t
+nextOf (Link op r d) = on
+nextOf (UNLK r) = on
+nextOf (Shift op count o direction s) = on
+nextOf (Vector op v) = stop
+nextOf (Status op v) = statusNext op
+nextOf (ConditionCode op v) = on
+nextOf (MOVEUSP b r) = on
+nextOf (Raw op w) = rawNext op
+nextOf (Plain op) = plainNext op
+nextOf (RTD d) = stop
+nextOf (MOVEC b control r) = on
+nextOf (TRAPcc condition x) = on
+nextOf (MULL o low high sign) = on
+nextOf (Pack op o d adjustment) = on
+nextOf (CAS compare update o s) = on
+nextOf (CAS2 compare1 compare2 update1 update2 pointer1 pointer2 s) = on
+nextOf (BF op o f r) = on
+nextOf (DIVL o quotient remainder wide sign) = on
+
+-- where a follower is
+pub data Place : Type 0 where
+  at : ℕ → Place
+  ended : Place
+  lost : Place
+
+-- one step for each choice
+abbrev pub follow : (Place → Bool → Place) → Place → List Bool → Place
+follow step p [] = p
+follow step p (c ∷ cs) = follow step (step p c) cs
+
+-- the step of either follower: `come` is what coming to a place does, `after` the next place, `aim` the target's
+abbrev pub goes : (ℕ → Place) → Next → ℕ → ℕ → Bool → Place
+goes come on after aim c = come after
+goes come (to t) after aim c = come aim
+goes come (either t) after aim true = come aim
+goes come (either t) after aim false = come after
+goes come stop after aim c = ended
+
+abbrev pub target : Next → ℕ
+target on = 0
+target (to t) = t
+target (either t) = t
+target stop = 0
+
+-- ---- the lines of a text; line 1 is the first
+abbrev pub lineAt : List ℕ → ℕ → List ℕ
+lineAt text n = getD (linesIn text) (pred n) []
+
+-- the start plus twice the words of all lines before it
+abbrev pub addressOf : List ℕ → ℕ → ℕ
+addressOf text n = startIn text + 2 * total (countIn text) (take (pred n) (linesIn text))
+
+abbrev pub countOf : List ℕ → ℕ → ℕ
+countOf text n = counted (countIn text) (lineAt text n)
+
+-- line n's instruction, each line's number k in it made f k; a line that is not in the form has none, and NOP stands for it
+abbrev pub instructionIn : Built → Instruction
+instructionIn (built.Instruction i) = i
+instructionIn built.NotInForm = Plain NOP
+
+abbrev pub instructionWith : (ℕ → ℕ) → List ℕ → ℕ → Instruction
+instructionWith f text n = instructionIn (madeOf f (lineAt text n))
+
+-- with its names made addresses, and then in plain form
+abbrev pub plainLine : List ℕ → ℕ → Instruction
+plainLine text n = plain (instructionWith (addressIn (addressesIn text)) text n)
+
+-- the line that its target names
+abbrev pub named : List ℕ → ℕ → ℕ
+named text n = target (nextOf (instructionWith (λ k. k) text n))
+
+-- the first follower; passing the last line ends
+abbrev pub comeLine : List ℕ → ℕ → Place
+comeLine text n = cond (leb n (countIn text)) (at n) ended
+
+abbrev pub stepLine : List ℕ → Place → Bool → Place
+stepLine text (at n) c = goes (comeLine text) (nextOf (plainLine text n)) (n + 1) (named text n) c
+stepLine text ended c = ended
+stepLine text lost c = lost
+
+abbrev pub byLines : List ℕ → List Bool → Place
+byLines text cs = follow (stepLine text) (comeLine text 1) cs
+
+-- ---- the words v from the start to the end
+abbrev pub end : ℕ → List ℕ → ℕ
+end start v = start + 2 * length v
+
+-- a word of the image begins there
+abbrev pub begins : ℕ → List ℕ → ℕ → Bool
+begins start v a = cond (leb start a) (cond (ltb a (end start v)) (eqb ((a - start) % 2) 0) false) false
+
+abbrev pub readingAt : ℕ → List ℕ → ℕ → Reading
+readingAt start v a = readOf (drop ((a - start) / 2) v) a
+
+abbrev pub seen : Reading → ℕ → Place
+seen (Read i n) a = at a
+seen Short a = lost
+seen Nothing a = lost
+
+abbrev pub comeWord : ℕ → List ℕ → ℕ → Place
+comeWord start v a = cond (eqb a (end start v)) ended (cond (begins start v a) (seen (readingAt start v a) a) lost)
+
+abbrev pub moved : (ℕ → Place) → Reading → ℕ → Bool → Place
+moved come (Read i n) a c = goes come (nextOf i) (a + n) (target (nextOf i)) c
+moved come Short a c = lost
+moved come Nothing a c = lost
+
+abbrev pub stepWord : ℕ → List ℕ → Place → Bool → Place
+stepWord start v (at a) c = moved (comeWord start v) (readingAt start v a) a c
+stepWord start v ended c = ended
+stepWord start v lost c = lost
+
+abbrev pub byWords : ℕ → List ℕ → List Bool → Place
+byWords start v cs = follow (stepWord start v) (comeWord start v start) cs
+
+-- both have ended; or the image is at the address of the line where the sheet is, and reads there as that line's plain form
+pub data Together (text v : List ℕ) : Place → Place → Type 0 where
+  both-ended : Together text v ended ended
+  both-at : (n : ℕ) → 1 ≤ n → n ≤ countIn text
+      → readingAt (startIn text) v (addressOf text n) ≡ Read (plainLine text n) (2 * countOf text n)
+      → Together text v (at n) (at (addressOf text n))

@@ -1,0 +1,48 @@
+-- The instruction that a line makes, each line's name made a number.
+use Prim.Native.Nat.{ℕ}
+use mathlib.Core.Bool.{Bool, true, false, _&&_}
+use mathlib.Core.List.{List, [], _∷_, map}
+use lib.Dec.{leb}
+use lib.ListN.{length, getD}
+use lib.IntN.{natAbs}
+use Rattle.numeric_fields.specs.declared.Numbers.{Numbers}
+use Rattle.numeric_fields.specs.Form.{isNegative, pad}
+use Rattle.numeric_build.specs.declared.Built.{Built}
+use Rattle.numeric_build.specs.declared.Built.the-variants as built
+use Rattle.numeric_build.specs.Build.{buildOf}
+use Rattle.sheet_spec.specs.Line.{Said, plainly, naming, nothing, Parsed, says, no, lineOf}
+use Rattle.sheet_spec.specs.Spell.{numberAs}
+
+unfoldable pub numbersAs : (ℕ → ℕ) → List Said → Numbers
+numbersAs f vs =
+    record {
+      count = length vs;
+      negative = pad 24 false (map (λ v. isNegative (numberAs f v)) vs);
+      magnitude = pad 24 0 (map (λ v. natAbs (numberAs f v)) vs);
+    }
+
+-- where `@` is as 0, the line is in the form exactly when this is an instruction
+abbrev pub madeAs : (ℕ → ℕ) → Parsed → Built
+madeAs f (says vs) = buildOf (numbersAs f vs) 0
+madeAs f no = built.NotInForm
+
+unfoldable pub madeOf : (ℕ → ℕ) → List ℕ → Built
+madeOf f line = madeAs f (lineOf line)
+
+-- `@` names an instruction line
+abbrev pub names : ℕ → Said → Bool
+names n (plainly negative k) = true
+names n (naming k) = leb 1 k && leb k n
+names n nothing = true
+
+abbrev pub namesAll : ℕ → List Said → Bool
+namesAll n [] = true
+namesAll n (v ∷ vs) = names n v && namesAll n vs
+
+abbrev pub namesIn : ℕ → Parsed → Bool
+namesIn n (says vs) = namesAll n vs
+namesIn n no = true
+
+-- the address of the line that a number names
+abbrev pub addressIn : List ℕ → ℕ → ℕ
+addressIn addresses k = getD (0 ∷ addresses) k 0

@@ -1,0 +1,135 @@
+-- The spelling of a line (01, "The listing"): its fields, parted by tabs.
+use Prim.Native.Nat.{ℕ, _<_, _^_}
+use mathlib.Core.Path.{_≡_}
+use mathlib.Core.Bool.{Bool, true, false}
+use mathlib.Core.List.{List, [], _∷_, _++_, map}
+use lib.ListN.{length, getD}
+use lib.IntN.{ℤ, pos}
+use Rattle.isa.specs.declared.Instruction.{Instruction}
+use Rattle.numeric_build.specs.Form.{formOf, numbersOf}
+use Rattle.numeric_fields.specs.Form.{Inside}
+use Rattle.numeric_fields.specs.Number.{minus}
+use Rattle.base_text.specs.Written.{decimalOf}
+use Rattle.sheet_spec.specs.declared.Kind.{Kind}
+use Rattle.sheet_spec.specs.declared.Kind.the-variants as kind
+use Rattle.sheet_spec.specs.Names.{bytes, namesOf}
+use Rattle.sheet_spec.specs.Grammar.{fieldsOf}
+use Rattle.sheet_spec.specs.Line.{Said, plainly, naming, nothing}
+
+abbrev pub signText : Bool → List ℕ
+signText true = 45 ∷ []
+signText false = []
+
+-- a number, and `@` before a line's number
+abbrev pub numberText : Said → List ℕ
+numberText (plainly negative n) = signText negative ++ decimalOf n
+numberText (naming n) = 64 ∷ decimalOf n
+numberText nothing = []
+
+-- a variant's name
+abbrev pub nameText : Kind → Said → List ℕ
+nameText k (plainly negative n) = getD (map bytes (namesOf k)) n []
+nameText k (naming n) = []
+nameText k nothing = []
+
+abbrev pub spelled : Kind → Said → List ℕ
+spelled kind.Number v = numberText v
+spelled kind.Target v = numberText v
+spelled kind.Place v = numberText v
+spelled kind.Size v = nameText kind.Size v
+spelled kind.TargetDirection v = nameText kind.TargetDirection v
+spelled kind.RegisterOperand v = nameText kind.RegisterOperand v
+spelled kind.AddressWidth v = nameText kind.AddressWidth v
+spelled kind.Condition v = nameText kind.Condition v
+spelled kind.BranchSize v = nameText kind.BranchSize v
+spelled kind.ShiftDirection v = nameText kind.ShiftDirection v
+spelled kind.Sign v = nameText kind.Sign v
+spelled kind.BitFieldOperation v = nameText kind.BitFieldOperation v
+spelled kind.FieldValue v = nameText kind.FieldValue v
+spelled kind.TrapOperand v = nameText kind.TrapOperand v
+spelled kind.RegisterChoice v = nameText kind.RegisterChoice v
+spelled kind.Operand v = nameText kind.Operand v
+spelled kind.Instruction v = nameText kind.Instruction v
+
+-- what may stand in a field of a kind: a number below 2^64, -0 excepted; a line's number; the place of a name
+abbrev pub Written : Said → Type 0
+Written (plainly true n) = (0 < n) × (n < 2 ^ 64)
+Written (plainly false n) = n < 2 ^ 64
+Written (naming n) = ⊥
+Written nothing = ⊥
+
+abbrev pub Named : Said → Type 0
+Named (plainly negative n) = ⊥
+Named (naming n) = Unit {0}
+Named nothing = ⊥
+
+abbrev pub Either : Said → Type 0
+Either (plainly negative n) = Written (plainly negative n)
+Either (naming n) = Unit {0}
+Either nothing = ⊥
+
+abbrev pub Variant : Kind → Said → Type 0
+Variant k (plainly true n) = ⊥
+Variant k (plainly false n) = (n < length (namesOf k)) × (0 < length (getD (map bytes (namesOf k)) n []))
+Variant k (naming n) = ⊥
+Variant k nothing = ⊥
+
+abbrev pub Suits : Kind → Said → Type 0
+Suits kind.Number v = Written v
+Suits kind.Target v = Named v
+Suits kind.Place v = Either v
+Suits kind.Size v = Variant kind.Size v
+Suits kind.TargetDirection v = Variant kind.TargetDirection v
+Suits kind.RegisterOperand v = Variant kind.RegisterOperand v
+Suits kind.AddressWidth v = Variant kind.AddressWidth v
+Suits kind.Condition v = Variant kind.Condition v
+Suits kind.BranchSize v = Variant kind.BranchSize v
+Suits kind.ShiftDirection v = Variant kind.ShiftDirection v
+Suits kind.Sign v = Variant kind.Sign v
+Suits kind.BitFieldOperation v = Variant kind.BitFieldOperation v
+Suits kind.FieldValue v = Variant kind.FieldValue v
+Suits kind.TrapOperand v = Variant kind.TrapOperand v
+Suits kind.RegisterChoice v = Variant kind.RegisterChoice v
+Suits kind.Operand v = Variant kind.Operand v
+Suits kind.Instruction v = Variant kind.Instruction v
+
+-- the fields that come next
+abbrev pub nextKinds : Kind → Said → List Kind
+nextKinds k (plainly negative n) = fieldsOf k n
+nextKinds k (naming n) = []
+nextKinds k nothing = []
+
+-- entries that suit the grammar, and their fields
+abbrev pub Fits : List Kind → List Said → Type 0
+Fits [] [] = Unit {0}
+Fits [] (v ∷ vs) = ⊥
+Fits (k ∷ ks) [] = ⊥
+Fits (k ∷ ks) (v ∷ vs) = Suits k v × Fits (nextKinds k v ++ ks) vs
+
+abbrev pub fieldsFrom : List Kind → List Said → List (List ℕ)
+fieldsFrom [] [] = []
+fieldsFrom [] (v ∷ vs) = []
+fieldsFrom (k ∷ ks) [] = []
+fieldsFrom (k ∷ ks) (v ∷ vs) = spelled k v ∷ fieldsFrom (nextKinds k v ++ ks) vs
+
+-- parted by tabs
+abbrev pub joined : List (List ℕ) → List ℕ
+joined [] = []
+joined (f ∷ []) = f
+joined (f ∷ (g ∷ fs)) = f ++ (9 ∷ joined (g ∷ fs))
+
+unfoldable pub spell : List Said → List ℕ
+spell vs = joined (fieldsFrom (kind.Instruction ∷ []) vs)
+
+-- the numbers of a line, each line's name made a number
+abbrev pub numberAs : (ℕ → ℕ) → Said → ℤ
+numberAs f (plainly true n) = minus n
+numberAs f (plainly false n) = pos n
+numberAs f (naming n) = pos (f n)
+numberAs f nothing = pos 0
+
+-- a line: an instruction, with 0 for each target that a line's name stands for
+pub record Line (vs : List Said) (i : Instruction) : Type 0 where
+  pub grammar : Fits (kind.Instruction ∷ []) vs
+  pub numbers : map (numberAs (λ n. 0)) vs ≡ numbersOf i
+  pub inside : Inside (formOf i)

@@ -1,0 +1,46 @@
+use mathlib.Core.Bool.{not}
+use native.Mathlib.Omega.{arith}
+use lib.Dec.{ltb}
+use Rattle.read_operand_laws.specs.Facts.{and-true, ltb-is}
+use borrow.Author.Needs.{needs}
+use Rattle.sheet_start.proofs.start_number.Statement.{statement}
+use Rattle.sheet_start.proofs.start_number.Tie as tie
+
+enum-known-n : tie.Need-enum-known-n
+enum-known-n c = search needs
+
+cast-t9 : tie.Need-cast-t9
+cast-t9 c =
+    let g = c .before .before .n .given .0 in
+    omega (arith, ltb-is (g .1 .0) 4294967296 (and-true (not (g .0)) (ltb (g .1 .0) 4294967296) (c .if1 .taken) .1))
+
+no-start-requires : tie.Need-no-start-requires
+no-start-requires c κs = search needs
+
+enum-told : tie.Need-enum-told
+enum-told c = search needs
+
+no-start-requires-2 : tie.Need-no-start-requires-2
+no-start-requires-2 c κs = search needs
+
+returns : tie.Need-returns
+returns c = rw (c .before .before .n .given .1, c .if1 .taken)
+
+returns-2 : tie.Need-returns-2
+returns-2 c = rw (c .before .before .before .n .given .1, c .before .if1 .left) (c .no-start .ensures)
+
+returns-3 : tie.Need-returns-3
+returns-3 c = search needs
+
+pub start-number-spec : {M : Type 1} → statement M
+start-number-spec =
+    tie.close
+    (tie.spec
+    enum-known-n
+    cast-t9
+    no-start-requires
+    enum-told
+    no-start-requires-2
+    returns
+    returns-2
+    returns-3)
