@@ -1,20 +1,16 @@
 -- Two's complement numbers (the manual, section 1.4, "Integer Data Formats").
 use Prim.Native.Nat.{ℕ, _+_, _-_, _%_, _^_}
-use mathlib.Core.Bool.{Bool, true, false}
+use mathlib.Core.Bool.{Bool, true, false, cond}
 use lib.Dec.{ltb}
 use lib.IntN.{ℤ, pos, negsuc}
 
-abbrev pub pickℤ : Bool → ℤ → ℤ → ℤ
-pickℤ true a b = a
-pickℤ false a b = b
-
 -- x below 2^32, read as signed
 abbrev pub signed32 : ℕ → ℤ
-signed32 x = pickℤ (ltb x (2 ^ 31)) (pos x) (negsuc (2 ^ 32 - 1 - x))
+signed32 x = cond (ltb x (2 ^ 31)) (pos x) (negsuc (2 ^ 32 - 1 - x))
 
 -- x below 2^64, read as signed
 abbrev pub signed64 : ℕ → ℤ
-signed64 x = pickℤ (ltb x (2 ^ 63)) (pos x) (negsuc (2 ^ 64 - 1 - x))
+signed64 x = cond (ltb x (2 ^ 63)) (pos x) (negsuc (2 ^ 64 - 1 - x))
 
 -- the 64 bits of z
 abbrev pub bitsOf : ℤ → ℕ

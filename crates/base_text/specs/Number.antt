@@ -27,14 +27,14 @@ abbrev pub digitsFrom : ℕ → List ℕ → Number
 digitsFrom a bs = cond (allDigits bs && ltb (valueFrom a bs) (2 ^ 64)) (Is false (valueFrom a bs)) No
 
 -- at least one digit, and no 0 before others
-abbrev pub plain : List ℕ → Bool
-plain [] = false
-plain (b ∷ []) = isDigit b
-plain (b ∷ (d ∷ bs)) = not (eqb b 48) && allDigits (b ∷ (d ∷ bs))
+abbrev pub isDecimal : List ℕ → Bool
+isDecimal [] = false
+isDecimal (b ∷ []) = isDigit b
+isDecimal (b ∷ (d ∷ bs)) = not (eqb b 48) && allDigits (b ∷ (d ∷ bs))
 
 -- a number with no sign, below 2^64
 abbrev pub unsignedOf : List ℕ → Number
-unsignedOf f = cond (plain f && ltb (value f) (2 ^ 64)) (Is false (value f)) No
+unsignedOf f = cond (isDecimal f && ltb (value f) (2 ^ 64)) (Is false (value f)) No
 
 -- the number with `-` before it: 0 has none
 abbrev pub negated : Number → Number

@@ -1,11 +1,11 @@
 -- What is printed for a line: the words, `=>` and the size, or refusals in their places.
+use mathlib.Core.Bool.{cond}
 use mathlib.Core.List.{List, [], _∷_, _++_}
 use Prim.Native.Nat.{ℕ}
 use lib.Dec.{eqb}
 use lib.ListN.{take}
 use Rattle.isa.specs.declared.Encoded.{Encoded}
 use Rattle.isa.specs.declared.Measured.{Measured}
-use Rattle.isa.specs.ExtensionWord.{pick}
 use Rattle.encode_spec.specs.Encode.{encodeOf, sizeOf}
 use Rattle.numeric_fields.specs.declared.Numbers.{Numbers}
 use Rattle.numeric_build.specs.declared.Built.{Built}
@@ -24,10 +24,10 @@ wordsText (w ∷ ws) = hex4Of w ++ tab ++ wordsText ws
 
 abbrev pub encodedText : Encoded → List ℕ
 encodedText e =
-    pick (eqb (e .number) 0) (wordsText (take (e .count) (e .words))) (refusedText (e .number) (e .detail) (e .value) ++ tab)
+    cond (eqb (e .number) 0) (wordsText (take (e .count) (e .words))) (refusedText (e .number) (e .detail) (e .value) ++ tab)
 
 abbrev pub measuredText : Measured → List ℕ
-measuredText m = pick (eqb (m .number) 0) (decimalOf (m .size)) (refusedText (m .number) (m .detail) (m .value))
+measuredText m = cond (eqb (m .number) 0) (decimalOf (m .size)) (refusedText (m .number) (m .detail) (m .value))
 
 -- the words, => and the size
 unfoldable pub resultText : Encoded → Measured → List ℕ
@@ -40,11 +40,11 @@ builtText NotInForm address = notInForm
 
 -- for the address and the numbers of an instruction
 unfoldable pub numbersText : Numbers → List ℕ
-numbersText ns = let address = longAt ns 0 in pick (address .ok) (builtText (buildOf ns 1) (address .value)) notInForm
+numbersText ns = let address = longAt ns 0 in cond (address .ok) (builtText (buildOf ns 1) (address .value)) notInForm
 
 abbrev pub numbersIn : read.Numbers → Numbers
 numbersIn n = record { count = n .count; negative = n .negative; magnitude = n .magnitude }
 
 -- for a line
 unfoldable pub answerOf : List ℕ → List ℕ
-answerOf line = let n = numbersOf line in pick (n .ok) (numbersText (numbersIn n)) notInForm
+answerOf line = let n = numbersOf line in cond (n .ok) (numbersText (numbersIn n)) notInForm

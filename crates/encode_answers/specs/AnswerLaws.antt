@@ -1,12 +1,11 @@
 -- Laws of what is printed. Assumes nothing.
 use mathlib.Core.Path.{_≡_, refl, sym, _∙_}
-use mathlib.Core.Bool.{Bool, true, false}
+use mathlib.Core.Bool.{Bool, true, false, cond}
 use mathlib.Core.List.{List, [], _∷_, _++_, append-assoc}
 use Prim.Native.Nat.{ℕ, _+_, _<_}
 use native.Mathlib.Numerals.{add-one}
 use lib.ListN.{length, take, getD}
 use lib.Seq.{take-suc}
-use Rattle.isa.specs.ExtensionWord.{pick}
 use Rattle.numeric_fields.specs.declared.Numbers.{Numbers}
 use Rattle.numeric_fields.specs.declared.LongAt.{LongAt}
 use Rattle.numeric_build.specs.declared.Built.{Built}
@@ -27,11 +26,11 @@ pub words-next : (ws : List ℕ) (i : ℕ) → i < length ws → wordsText (take
 words-next ws i h = rw (add-one, take-suc ws i 0 h) (words-more (take i ws) (getD ws i 0))
 
 -- ---- the form
-yes : (t : Bool) (a b : List ℕ) → t ≡ true → pick t a b ≡ a
+yes : (t : Bool) (a b : List ℕ) → t ≡ true → cond t a b ≡ a
 yes true a b e = refl
 yes false a b e = let z : true ≡ false = sym e in cc
 
-no : (t : Bool) (a b : List ℕ) → t ≡ false → pick t a b ≡ b
+no : (t : Bool) (a b : List ℕ) → t ≡ false → cond t a b ≡ b
 no true a b e = let z : true ≡ false = e in cc
 no false a b e = refl
 

@@ -1,6 +1,6 @@
 -- CMPM's refusal: an operand that is no (An)+ has another mode, and the checks after a refusal change nothing. Assumes nothing.
 use Prim.Native.Nat.{ℕ}
-use mathlib.Core.Bool.{Bool, true, false}
+use mathlib.Core.Bool.{Bool, true, false, cond}
 use mathlib.Core.List.{List, [], _∷_}
 use mathlib.Core.Path.{_≡_, refl, sym}
 use lib.Dec.{eqb}
@@ -14,7 +14,6 @@ use Rattle.isa.specs.declared.RegisterOperand.{RegisterOperand}
 use Rattle.isa.specs.declared.RegisterOperand.the-variants.{Address, Data}
 use Rattle.isa.specs.declared.Operand.{Operand}
 use Rattle.isa.specs.declared.Operand.the-variants.{Immediate, Register, Indirect, PostIndirect, PreIndirect, IndirectDisplacement, IndirectIndex, PcDisplacement, PcIndex, Extended, Absolute}
-use Rattle.isa.specs.ExtensionWord.{pick}
 use Rattle.encode_spec.specs.Ea.{modeOf, registerMode, absoluteMode}
 use Rattle.encode_spec.specs.Item.{noEncoding, register}
 use Rattle.encode_state.specs.declared.Encoder.{Encoder}
@@ -29,7 +28,7 @@ not-register : (r : RegisterOperand) → eqb (registerMode r) 3 ≡ false
 not-register (Address n) = refl
 not-register (Data n) = refl
 
-not-extended : (b : Bool) → eqb (pick b 10 6) 3 ≡ false
+not-extended : (b : Bool) → eqb (cond b 10 6) 3 ≡ false
 not-extended true = refl
 not-extended false = refl
 

@@ -5,7 +5,7 @@ ghost use Rattle.encode_spec.specs.Control.{relativeWord, relativeLong, conditi
 ghost use Rattle.encode_spec.specs.Item.{fixed};
 ghost use Rattle.isa.specs.declared.Field.the-variants as field;
 ghost use mathlib.Core.List.{[], _∷_};
-ghost use Rattle.encode_state.specs.Encoder.{step, run, runParts, nextOf};
+ghost use Rattle.encode_state.specs.Encoder.{step, run, runParts, nextAddress};
 use encode_state::Encoder;
 use isa::BranchSize;
 use isa::Condition;
@@ -26,7 +26,7 @@ fn condition_operation(e: Encoder, line: u16, condition: u16, x: u16, ea: u16) -
 // The distance in the operation word's low byte.
 fn short_branch(e: Encoder, condition: u16, target: u32) -> Encoder
     requires { ⌜ condition < 16 ⌝ }
-    ensures { λ r. ⌜ r ≡ run (shortBranch condition target (nextOf e)) e ⌝ }
+    ensures { λ r. ⌜ r ≡ run (shortBranch condition target (nextAddress e)) e ⌝ }
 {
     let after = std::num::wrapping_add_u32(encode_state::next(e), 2);
     let distance = base_signed::to_signed(base_signed::minus(target, after));

@@ -8,7 +8,7 @@ ghost use Rattle.encode_spec.specs.Ea.{distance, wordItems, immediateWords, imm
 ghost use Rattle.encode_spec.specs.Ea as ea;
 ghost use Rattle.isa.specs.declared.Field.the-variants as field;
 ghost use mathlib.Core.List.{_∷_};
-ghost use Rattle.encode_state.specs.Encoder.{step, run, runParts, nextOf};
+ghost use Rattle.encode_state.specs.Encoder.{step, run, runParts, nextAddress};
 use encode_state::Encoder;
 use isa::AddressWidth;
 use isa::DisplacementSize;
@@ -21,7 +21,7 @@ use isa_values::extension_word::ExtensionWord;
 
 // The signed distance from the next word.
 pub fn distance(e: Encoder, target: u32) -> i64
-    ensures { λ r. ⌜ r ≡ distance target (nextOf e) ⌝ }
+    ensures { λ r. ⌜ r ≡ distance target (nextAddress e) ⌝ }
 {
     base_signed::to_signed(base_signed::minus(target, encode_state::next(e)))
 }
@@ -36,7 +36,7 @@ pub fn word_displacement(e: Encoder, field: Field, z: i64) -> Encoder
 
 // A word that holds the distance from itself.
 pub fn displacement_to(e: Encoder, target: u32, field: Field) -> Encoder
-    ensures { λ r. ⌜ r ≡ run (wordItems field (distance target (nextOf e))) e ⌝ }
+    ensures { λ r. ⌜ r ≡ run (wordItems field (distance target (nextAddress e))) e ⌝ }
 {
     word_displacement(e, field, distance(e, target))
 }
@@ -104,7 +104,7 @@ pub fn from_pc(base: u8, word: u16) -> bool
 
 // The base displacement as it is written.
 pub fn base_displacement(e: Encoder, base: u8, word: u16, displacement: i32) -> i64
-    ensures { λ r. ⌜ r ≡ baseDisplacement base word displacement (nextOf e) ⌝ }
+    ensures { λ r. ⌜ r ≡ baseDisplacement base word displacement (nextAddress e) ⌝ }
 {
     let z = base_signed::wide(displacement);
     if from_pc(base, word) {
@@ -154,7 +154,7 @@ pub fn scaled(e: Encoder, base: u8, word: u16, z: i64) -> Encoder
 
 // The words of an Extended operand.
 pub fn extended_index(e: Encoder, base: u8, word: u16, displacement: i32, outer: i32) -> Encoder
-    ensures { λ r. ⌜ r ≡ run (extendedItems base word displacement outer (nextOf e)) e ⌝ }
+    ensures { λ r. ⌜ r ≡ run (extendedItems base word displacement outer (nextAddress e)) e ⌝ }
 {
     let z = base_displacement(e, base, word, displacement);
     if ExtensionWord(word).is_full() {
@@ -205,14 +205,14 @@ pub fn indexed(e: Encoder, base: RegisterOperand, offset: i32, index: IndexRegis
 
 // d8(PC,Xn).
 pub fn pc_indexed(e: Encoder, target: u32, index: IndexRegister) -> Encoder
-    ensures { λ r. ⌜ r ≡ run (briefItems index (distance target (nextOf e)) field.PcIndex) e ⌝ }
+    ensures { λ r. ⌜ r ≡ run (briefItems index (distance target (nextAddress e)) field.PcIndex) e ⌝ }
 {
     brief(e, index, distance(e, target), Field::PcIndex)
 }
 
 // The extension words of an operand, with the checks before each.
 pub fn ea(e: Encoder, operand: Operand, size: Size) -> Encoder
-    ensures { λ r. ⌜ r ≡ run (eaItems operand size (nextOf e)) e ⌝ }
+    ensures { λ r. ⌜ r ≡ run (eaItems operand size (nextAddress e)) e ⌝ }
 {
     match operand {
         Operand::Immediate(v) => immediate(e, v, size),
@@ -240,7 +240,7 @@ pub fn ea(e: Encoder, operand: Operand, size: Size) -> Encoder
 
 // An operand in one of the modes allowed.
 pub fn effective(e: Encoder, operand: Operand, size: Size, allowed: u16, reason: u8) -> Encoder
-    ensures { λ r. ⌜ r ≡ run (ea.effective operand size allowed reason (nextOf e)) e ⌝ }
+    ensures { λ r. ⌜ r ≡ run (ea.effective operand size allowed reason (nextAddress e)) e ⌝ }
 {
     let e1 = encode_state::allow(e, isa_operands::permitted(allowed, operand), reason);
     ea(e1, operand, size)

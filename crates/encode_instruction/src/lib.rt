@@ -121,7 +121,7 @@ pub fn instruction_words(e: Encoder, i: Instruction) -> Encoder
         Instruction::ConditionCode(op, v) => encode_system::condition_code(e, op, v),
         Instruction::MOVEUSP { to_usp, register } => encode_system::moveusp(e, to_usp, register),
         Instruction::Raw(op, w) => encode_system::raw(e, op, w),
-        Instruction::Plain(op) => encode_system::plain(e, op),
+        Instruction::NoOperand(op) => encode_system::no_operand(e, op),
         Instruction::RTD(d) => encode_control::rtd(e, d),
         Instruction::MOVEC {
             to_control,

@@ -4,7 +4,7 @@ ghost use Prim.Native.Nat.{_<_};
 ghost use Rattle.encode_spec.specs.Instruction.{registerParts, transferParts, pairParts, wordParts, unsizedRegisterParts, unsizedOneParts, unsizedPairParts, oneParts, branchesParts, linksParts, packsParts, typedTwo};
 ghost use Rattle.encode_spec.specs.Ea.{single, control, dataModes, dataAlterable};
 ghost use Rattle.isa.specs.declared.Size.the-variants.{Word, Long};
-ghost use Rattle.encode_state.specs.Encoder.{run, runParts, nextOf};
+ghost use Rattle.encode_state.specs.Encoder.{run, runParts, nextAddress};
 use encode_state::Encoder;
 use isa::BranchOperation;
 use isa::BranchSize;
@@ -287,7 +287,7 @@ pub fn packs(e: Encoder, op: PackOperation, o: Operand, d: Operand, adjustment: 
 
 // Refusal 1 of two operands.
 pub fn typed_two(e: Encoder, o: Operand, d: Operand) -> Encoder
-    ensures { λ x. ⌜ x ≡ run (typedTwo o d (nextOf e)) e ⌝ }
+    ensures { λ x. ⌜ x ≡ run (typedTwo o d (nextAddress e)) e ⌝ }
 {
     encode_ea::typed(encode_ea::typed(e, o), d)
 }

@@ -1,6 +1,6 @@
 -- Integer arithmetic (the manual, section 3.1.2; section 4 has each format).
 use Prim.Native.Nat.{ℕ, _+_, _*_, _%_}
-use mathlib.Core.Bool.{Bool, not}
+use mathlib.Core.Bool.{Bool, not, cond}
 use mathlib.Core.List.{List, [], _∷_}
 use lib.Dec.{eqb}
 use lib.IntN.{pos}
@@ -10,8 +10,7 @@ use Rattle.isa.specs.declared.RegisterOperand.{RegisterOperand}
 use Rattle.isa.specs.declared.Operand.{Operand}
 use Rattle.isa.specs.declared.Field.the-variants as field
 use Rattle.encode_spec.specs.Item.{Part, word, range, register, dataRegister, allow, operation, fixed}
-use Rattle.isa.specs.Code.{sizeCode, isByte, longBit, bit, numberIn, registerBits, general}
-use Rattle.isa.specs.ExtensionWord.{pick}
+use Rattle.isa.specs.Code.{sizeCode, isByte, longBit, bit, numberOfRegister, registerBits, general}
 use Rattle.encode_spec.specs.Ea.{everyMode, dataModes, alterable, dataAlterable, memoryAlterable, control, dataNotImmediate, byteOfAddress, eaField, registerField, immediateItems, effective, isRegister, registerIn, registerNumber, bothOf, paired, memoryBit, single, withData, withAddress, fromData}
 use Rattle.isa.specs.declared.ImmediateOperation.{ImmediateOperation}
 use Rattle.isa.specs.declared.ImmediateOperation.the-variants.{ADDI, SUBI, ANDI, ORI, EORI, CMPI}
@@ -70,7 +69,7 @@ intoDataParts line reason source r s =
 -- ADD SUB
 unfoldable pub arithmeticParts : ℕ → Operand → Operand → Size → List Part
 arithmeticParts line source destination s =
-    pick (isRegister destination) (intoDataParts line 59 source (registerIn destination) s)
+    cond (isRegister destination) (intoDataParts line 59 source (registerIn destination) s)
     (fromData line memoryAlterable 60 source destination s)
 
 -- ADDA SUBA CMPA: bit 8 says a long
@@ -81,7 +80,7 @@ intoAddressParts line reason source r s =
 -- CHK2 CMP2: bit 11 of the extension word tells them apart
 unfoldable pub boundsParts : ℕ → Operand → RegisterOperand → Size → List Part
 boundsParts trap bounds r s =
-    fixed (operation 0 (sizeCode s) 3 (eaField bounds) ∷ register (numberIn r) ∷ word (general r * 4096 + trap * 2048) ∷ [])
+    fixed (operation 0 (sizeCode s) 3 (eaField bounds) ∷ register (numberOfRegister r) ∷ word (general r * 4096 + trap * 2048) ∷ [])
     ∷ effective bounds s control 49 ∷ []
 
 -- ADDX SUBX ABCD SBCD: Dy,Dx or -(Ay),-(Ax), x in bits 11 to 9 and y in bits 2 to 0

@@ -1,6 +1,6 @@
 -- Bit manipulation, bit field and binary-coded decimal (the manual, sections 3.1.5 to 3.1.7; section 4 has each format).
 use Prim.Native.Nat.{ℕ, _+_, _*_, _/_, _%_}
-use mathlib.Core.Bool.{Bool, true, false, _&&_}
+use mathlib.Core.Bool.{Bool, true, false, _&&_, cond}
 use mathlib.Core.List.{List, [], _∷_}
 use lib.Dec.{ltb, eqb}
 use lib.IntN.{pos}
@@ -11,7 +11,6 @@ use Rattle.isa.specs.declared.Operand.the-variants.{Immediate, Register}
 use Rattle.isa.specs.declared.Field.the-variants as field
 use Rattle.encode_spec.specs.Item.{Part, Verdict, outOfRange, noEncoding, word, check, range, unless, register, allow, operation, fixed}
 use Rattle.isa.specs.Code.{bit}
-use Rattle.isa.specs.ExtensionWord.{pick}
 use Rattle.encode_spec.specs.Ea.{dataModes, dataAlterable, dataNotImmediate, bitFieldRead, bitFieldWritten, eaField, registerField, effective, isRegister, isImmediate, registerIn, immediateIn, registerNumber, paired, memoryBit, withData}
 use Rattle.isa.specs.declared.FieldValue.{FieldValue}
 use Rattle.isa.specs.declared.FieldValue.the-variants as value
@@ -21,16 +20,16 @@ use Rattle.isa.specs.declared.BitFieldOperation.the-variants.{Test, ExtractUnsi
 
 -- BTST 0, BCHG 1, BCLR 2, BSET 3; BTST only reads its operand
 abbrev pub dynamicModes : ℕ → ℕ
-dynamicModes kind = pick (eqb kind 0) dataModes dataAlterable
+dynamicModes kind = cond (eqb kind 0) dataModes dataAlterable
 
 abbrev pub dynamicReason : ℕ → ℕ
-dynamicReason kind = pick (eqb kind 0) 50 51
+dynamicReason kind = cond (eqb kind 0) 50 51
 
 abbrev pub staticModes : ℕ → ℕ
-staticModes kind = pick (eqb kind 0) dataNotImmediate dataAlterable
+staticModes kind = cond (eqb kind 0) dataNotImmediate dataAlterable
 
 abbrev pub staticReason : ℕ → ℕ
-staticReason kind = pick (eqb kind 0) 52 51
+staticReason kind = cond (eqb kind 0) 52 51
 
 -- the bit number in a data register
 unfoldable pub dynamicParts : ℕ → RegisterOperand → Operand → List Part
@@ -44,8 +43,8 @@ staticParts kind number target =
 
 unfoldable pub bitParts : ℕ → Operand → Operand → List Part
 bitParts kind number target =
-    pick (isRegister number) (dynamicParts kind (registerIn number) target)
-    (pick (isImmediate number) (staticParts kind (immediateIn number) target)
+    cond (isRegister number) (dynamicParts kind (registerIn number) target)
+    (cond (isImmediate number) (staticParts kind (immediateIn number) target)
     (fixed (operation 0 4 kind (eaField target) ∷ check (noEncoding 53) ∷ []) ∷ []))
 
 -- the bit-field operations, in bits 10 to 8
@@ -84,7 +83,7 @@ valueHolds (value.Register n) = ltb n 8
 
 -- where either is too large the larger is reported
 abbrev pub larger : ℕ → ℕ → ℕ
-larger x y = pick (ltb x y) y x
+larger x y = cond (ltb x y) y x
 
 abbrev pub bitFieldVerdict : BitField → Verdict
 bitFieldVerdict f =
@@ -97,7 +96,7 @@ bitFieldParts op target f r =
     fixed
     (operation 14 (4 + bitFieldCode op / 2) (4 * (bitFieldCode op % 2) + 3) (eaField target) ∷ check (bitFieldVerdict f) ∷ register r
     ∷ word (r % 8 * 4096 + valueBits (f .offset) * 64 + valueBits (f .width)) ∷ [])
-    ∷ effective target Byte (pick (writes op) bitFieldWritten bitFieldRead) (pick (writes op) 32 33) ∷ []
+    ∷ effective target Byte (cond (writes op) bitFieldWritten bitFieldRead) (cond (writes op) 32 33) ∷ []
 
 -- PACK UNPK: the adjustment in the word after the operation word
 unfoldable pub packParts : ℕ → Operand → Operand → ℕ → List Part

@@ -1,6 +1,6 @@
 -- Effective addresses (the manual, section 2.2, "Effective Addressing Modes").
 use Prim.Native.Nat.{ℕ, zero, suc, _+_, _*_, _-_, _/_, _%_, _^_}
-use mathlib.Core.Bool.{Bool, true, false, not, _&&_, _||_}
+use mathlib.Core.Bool.{Bool, true, false, not, _&&_, _||_, cond}
 use mathlib.Core.List.{List, [], _∷_, _++_}
 use lib.Dec.{ltb, leb, eqb}
 use lib.IntN.{ℤ, pos}
@@ -19,8 +19,8 @@ use Rattle.isa.specs.declared.Field.{Field}
 use Rattle.isa.specs.declared.Field.the-variants as field
 use Rattle.base_signed.specs.Signed.{signed32, signed64, bitsOf, difference}
 use Rattle.encode_spec.specs.Item.{Item, Part, Verdict, fine, malformed, noEncoding, word, check, range, unless, register, dataRegister, addressRegister, allow, operation, fixed}
-use Rattle.isa.specs.Code.{sizeCode, numberIn, registerBits, general, longBit, isByte, bit}
-use Rattle.isa.specs.ExtensionWord.{pick, isFull, baseSuppressed, baseSize, outerSize, isCanonical}
+use Rattle.isa.specs.Code.{sizeCode, numberOfRegister, registerBits, general, longBit, isByte, bit}
+use Rattle.isa.specs.ExtensionWord.{isFull, baseSuppressed, baseSize, outerSize, isCanonical}
 
 -- The modes, 0 to 11 as the Rust orders them: Dn An (An) (An)+ -(An) d16(An) d8(An,Xn) (xxx).W (xxx).L d16(PC) d8(PC,Xn) #.
 abbrev pub registerMode : RegisterOperand → ℕ
@@ -32,7 +32,7 @@ absoluteMode width.Word = 7
 absoluteMode width.Long = 8
 
 abbrev pub extendedMode : ℕ → ℕ
-extendedMode base = pick (eqb base 8) 10 6
+extendedMode base = cond (eqb base 8) 10 6
 
 abbrev pub modeOf : Operand → ℕ
 modeOf (Immediate v) = 11
@@ -131,7 +131,7 @@ byteOfAddress s x = isByte s && eqb (modeOf x) 1
 
 -- the mode field and the register field, three bits each (table 2-4)
 abbrev pub extendedModeField : ℕ → ℕ
-extendedModeField base = pick (ltb base 8) 6 7
+extendedModeField base = cond (ltb base 8) 6 7
 
 abbrev pub modeField : Operand → ℕ
 modeField (Immediate v) = 7
@@ -147,7 +147,7 @@ modeField (Extended base w z outer) = extendedModeField base
 modeField (Absolute a width) = 7
 
 abbrev pub extendedRegisterField : ℕ → ℕ
-extendedRegisterField base = pick (ltb base 8) (base % 8) 3
+extendedRegisterField base = cond (ltb base 8) (base % 8) 3
 
 abbrev pub absoluteRegisterField : AddressWidth → ℕ
 absoluteRegisterField width.Word = 0
@@ -155,12 +155,12 @@ absoluteRegisterField width.Long = 1
 
 abbrev pub registerField : Operand → ℕ
 registerField (Immediate v) = 4
-registerField (Register r) = numberIn r % 8
+registerField (Register r) = numberOfRegister r % 8
 registerField (Indirect n) = n % 8
 registerField (PostIndirect n) = n % 8
 registerField (PreIndirect n) = n % 8
-registerField (IndirectDisplacement z base) = numberIn base % 8
-registerField (IndirectIndex base z x) = numberIn base % 8
+registerField (IndirectDisplacement z base) = numberOfRegister base % 8
+registerField (IndirectIndex base z x) = numberOfRegister base % 8
 registerField (PcDisplacement t) = 2
 registerField (PcIndex t x) = 3
 registerField (Extended base w z outer) = extendedRegisterField base
@@ -199,7 +199,7 @@ indexSizeVerdict Long = fine
 -- the brief extension word: D/A, register, W/L, scale 1, displacement
 abbrev pub briefItems : IndexRegister → ℤ → Field → List Item
 briefItems x z f =
-    range f z ∷ register (numberIn (x .register)) ∷ check (indexSizeVerdict (x .size))
+    range f z ∷ register (numberOfRegister (x .register)) ∷ check (indexSizeVerdict (x .size))
     ∷ word (general (x .register) * 4096 + longBit (x .size) * 2048 + bitsOf z % 256) ∷ []
 
 -- a base or outer displacement of the full extension word
@@ -213,21 +213,21 @@ abbrev pub fromPc : ℕ → ℕ → Bool
 fromPc base w = eqb base 8 && not (baseSuppressed w)
 
 abbrev pub baseDisplacement : ℕ → ℕ → ℤ → ℕ → ℤ
-baseDisplacement base w z at = pick (fromPc base w) (distance (bitsOf z % 4294967296) at) z
+baseDisplacement base w z at = cond (fromPc base w) (distance (bitsOf z % 4294967296) at) z
 
 abbrev pub fullItems : ℕ → ℤ → ℤ → List Item
 fullItems w z outer =
     word w ∷ (displacementItems (baseSize w) z field.BaseDisplacement ++ displacementItems (outerSize w) outer field.OuterDisplacement)
 
 abbrev pub briefField : ℕ → Field
-briefField base = pick (eqb base 8) field.PcIndex field.IndexDisplacement
+briefField base = cond (eqb base 8) field.PcIndex field.IndexDisplacement
 
 abbrev pub scaledItems : ℕ → ℕ → ℤ → List Item
 scaledItems base w z = range (briefField base) z ∷ word (w / 256 * 256 + bitsOf z % 256) ∷ []
 
 abbrev pub extendedItems : ℕ → ℕ → ℤ → ℤ → ℕ → List Item
 extendedItems base w z outer at =
-    pick (isFull w) (fullItems w (baseDisplacement base w z at) outer) (scaledItems base w (baseDisplacement base w z at))
+    cond (isFull w) (fullItems w (baseDisplacement base w z at) outer) (scaledItems base w (baseDisplacement base w z at))
 
 -- an absolute address; a word holds it sign-extended
 abbrev pub absoluteItems : ℕ → AddressWidth → List Item
@@ -237,7 +237,7 @@ absoluteItems a width.Long = range field.LongAddress (signed64 a) ∷ longItems 
 -- the extension words of an operand, the first of them at `at`, with the checks before each
 abbrev pub eaItems : Operand → Size → ℕ → List Item
 eaItems (Immediate v) s at = immediateItems v s
-eaItems (Register r) s at = register (numberIn r) ∷ []
+eaItems (Register r) s at = register (numberOfRegister r) ∷ []
 eaItems (Indirect n) s at = register n ∷ []
 eaItems (PostIndirect n) s at = register n ∷ []
 eaItems (PreIndirect n) s at = register n ∷ []
@@ -327,7 +327,7 @@ immediateIn (Absolute a width) = 0
 -- the register number of a Register, (An), (An)+ or -(An)
 abbrev pub registerNumber : Operand → ℕ
 registerNumber (Immediate v) = 0
-registerNumber (Register r) = numberIn r
+registerNumber (Register r) = numberOfRegister r
 registerNumber (Indirect n) = n
 registerNumber (PostIndirect n) = n
 registerNumber (PreIndirect n) = n

@@ -1,6 +1,6 @@
 -- What `encode`, `size` and `encode_bytes` give (01, "The words" and "Where a thing is turned back").
 use Prim.Native.Nat.{ℕ, _+_, _*_, _-_, _/_, _%_}
-use mathlib.Core.Bool.{Bool, true, false}
+use mathlib.Core.Bool.{Bool, true, false, cond}
 use mathlib.Core.List.{List, [], _∷_, _++_}
 use lib.Dec.{leb}
 use lib.IntN.{pos}
@@ -9,7 +9,6 @@ use Rattle.isa.specs.declared.Instruction.{Instruction}
 use Rattle.isa.specs.declared.Encoded.{Encoded}
 use Rattle.isa.specs.declared.Measured.{Measured}
 use Rattle.encode_spec.specs.Item.{Item, Verdict, fine, malformed, outOfRange, noEncoding, laid, wordsIn, failure, refusalNumber, refusalDetail, refusalValue}
-use Rattle.isa.specs.ExtensionWord.{pick}
 use Rattle.encode_spec.specs.Instruction.{partsOf}
 
 -- the words and checks of an instruction at an address
@@ -66,7 +65,7 @@ abbrev pub short : Measured
 short = record { size = 0; number = 4; detail = 0; value = pos 0 }
 
 abbrev pub bytesAs : Verdict → ℕ → ℕ → Measured
-bytesAs fine n room = pick (leb n room) (measuredAs fine n) short
+bytesAs fine n room = cond (leb n room) (measuredAs fine n) short
 bytesAs malformed n room = refusedSize malformed
 bytesAs (outOfRange f z) n room = refusedSize (outOfRange f z)
 bytesAs (noEncoding r) n room = refusedSize (noEncoding r)
@@ -77,7 +76,7 @@ bytesOf i a room = bytesAs (refusalOf true i a) (2 * length (wordsOf i a)) room
 
 -- and what the lent bytes then are: the instruction's before those past the size, or unchanged
 abbrev pub lentAs : Verdict → List ℕ → List ℕ → List ℕ
-lentAs fine bytes lent = pick (leb (length bytes) (length lent)) (bytes ++ drop (length bytes) lent) lent
+lentAs fine bytes lent = cond (leb (length bytes) (length lent)) (bytes ++ drop (length bytes) lent) lent
 lentAs malformed bytes lent = lent
 lentAs (outOfRange f z) bytes lent = lent
 lentAs (noEncoding r) bytes lent = lent

@@ -31,7 +31,7 @@ use Rattle.isa.specs.declared.BranchOperation.the-variants.{BRA, BSR}
 use Rattle.isa.specs.declared.LinkOperation.{LinkOperation}
 use Rattle.isa.specs.declared.LinkOperation.the-variants.{LINK, LINKL}
 use Rattle.isa.specs.declared.Instruction.{Instruction}
-use Rattle.isa.specs.declared.Instruction.the-variants.{IntoRegister, MOVEM, Transfer, Pair, Quick, MOVEQ, ImmediateInto, WordIntoData, SWAP, EXG, UnsizedIntoRegister, UnsizedOne, UnsizedPair, EXT, OneOperand, Bcc, Scc, DBcc, Branch, Link, UNLK, Shift, Vector, Status, ConditionCode, MOVEUSP, Raw, Plain, RTD, MOVEC, TRAPcc, MULL, Pack, CAS, CAS2, BF, DIVL}
+use Rattle.isa.specs.declared.Instruction.the-variants.{IntoRegister, MOVEM, Transfer, Pair, Quick, MOVEQ, ImmediateInto, WordIntoData, SWAP, EXG, UnsizedIntoRegister, UnsizedOne, UnsizedPair, EXT, OneOperand, Bcc, Scc, DBcc, Branch, Link, UNLK, Shift, Vector, Status, ConditionCode, MOVEUSP, Raw, NoOperand, RTD, MOVEC, TRAPcc, MULL, Pack, CAS, CAS2, BF, DIVL}
 use Rattle.encode_spec.specs.Item.{Part, fixed}
 use Rattle.isa.specs.Code.{sizeCode}
 use Rattle.encode_spec.specs.Ea.{dataModes, dataAlterable, control, typed, single, withData, withAddress, fromData}
@@ -40,7 +40,7 @@ use Rattle.encode_spec.specs.Arithmetic.{immediateParts, quickParts, int
 use Rattle.encode_spec.specs.Logic.{logicalParts, shiftParts}
 use Rattle.encode_spec.specs.Bits.{bitParts, bitFieldParts, packParts}
 use Rattle.encode_spec.specs.Control.{branchParts, bccParts, dbccParts, sccParts, trapccParts, rtdParts}
-use Rattle.encode_spec.specs.System.{statusParts, conditionCodeParts, vectorParts, moveuspParts, movecParts, movesParts, casParts, cas2Parts, rawParts, plainParts}
+use Rattle.encode_spec.specs.System.{statusParts, conditionCodeParts, vectorParts, moveuspParts, movecParts, movesParts, casParts, cas2Parts, rawParts, noOperandParts}
 
 unfoldable pub registerParts : RegisterOperation → Operand → RegisterOperand → Size → List Part
 registerParts ADDA o r s = intoAddressParts 13 44 o r s
@@ -148,7 +148,7 @@ partsOf (Status op v) = statusParts op v
 partsOf (ConditionCode op v) = conditionCodeParts op v
 partsOf (MOVEUSP to r) = moveuspParts to r
 partsOf (Raw op w) = rawParts op w
-partsOf (Plain op) = plainParts op
+partsOf (NoOperand op) = noOperandParts op
 partsOf (RTD d) = rtdParts d
 partsOf (MOVEC to controlRegister r) = movecParts to controlRegister r
 partsOf (TRAPcc condition x) = trapccParts condition x

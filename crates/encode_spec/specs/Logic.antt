@@ -1,6 +1,6 @@
 -- Logical, shift and rotate (the manual, sections 3.1.3 and 3.1.4; section 4 has each format).
 use Prim.Native.Nat.{ℕ, _+_, _*_, _/_, _%_}
-use mathlib.Core.Bool.{Bool, _&&_}
+use mathlib.Core.Bool.{Bool, _&&_, cond}
 use mathlib.Core.List.{List, [], _∷_}
 use lib.Dec.{eqb}
 use lib.IntN.{pos}
@@ -11,7 +11,6 @@ use Rattle.isa.specs.declared.Operand.{Operand}
 use Rattle.isa.specs.declared.Field.the-variants as field
 use Rattle.encode_spec.specs.Item.{Item, Part, noEncoding, word, check, range, register, dataRegister, allow, operation, fixed}
 use Rattle.isa.specs.Code.{sizeCode, isWord, bit, registerBits}
-use Rattle.isa.specs.ExtensionWord.{pick}
 use Rattle.encode_spec.specs.Ea.{dataModes, memoryAlterable, isRegister, isImmediate, registerIn, immediateIn, single, withData, fromData}
 use Rattle.isa.specs.declared.ShiftOperation.{ShiftOperation}
 use Rattle.isa.specs.declared.ShiftOperation.the-variants.{ASd, ROd, LSd, ROXd}
@@ -21,7 +20,7 @@ use Rattle.isa.specs.declared.ShiftDirection.the-variants.{Right, Left}
 -- AND OR
 unfoldable pub logicalParts : ℕ → Operand → Operand → Size → List Part
 logicalParts line source destination s =
-    pick (isRegister destination) (withData line (registerIn destination) (sizeCode s) source s dataModes 57)
+    cond (isRegister destination) (withData line (registerIn destination) (sizeCode s) source s dataModes 57)
     (fromData line memoryAlterable 58 source destination s)
 
 -- the kind of a shift or rotate, and its direction dr
@@ -37,12 +36,12 @@ leftBit Left = 1
 
 -- the count: 1 to 8, 8 coded 0, or a data register, which i/r says
 abbrev pub countBits : Operand → ℕ
-countBits count = pick (isRegister count) (registerBits (registerIn count)) (immediateIn count % 8)
+countBits count = cond (isRegister count) (registerBits (registerIn count)) (immediateIn count % 8)
 
 abbrev pub countItems : Operand → List Item
 countItems count =
-    pick (isRegister count) (dataRegister (registerIn count) ∷ [])
-    (pick (isImmediate count) (range field.Count (pos (immediateIn count)) ∷ []) (check (noEncoding 63) ∷ []))
+    cond (isRegister count) (dataRegister (registerIn count) ∷ [])
+    (cond (isImmediate count) (range field.Count (pos (immediateIn count)) ∷ []) (check (noEncoding 63) ∷ []))
 
 unfoldable pub shiftRegisterParts : ShiftOperation → Operand → RegisterOperand → ShiftDirection → Size → List Part
 shiftRegisterParts op count r direction s =
@@ -62,4 +61,4 @@ shiftMemoryParts op count target direction s =
 
 unfoldable pub shiftParts : ShiftOperation → Operand → Operand → ShiftDirection → Size → List Part
 shiftParts op count target direction s =
-    pick (isRegister target) (shiftRegisterParts op count (registerIn target) direction s) (shiftMemoryParts op count target direction s)
+    cond (isRegister target) (shiftRegisterParts op count (registerIn target) direction s) (shiftMemoryParts op count target direction s)

@@ -10,7 +10,7 @@ use Rattle.isa.specs.declared.Operand.the-variants.{Immediate, Register, Indire
 use Rattle.isa.specs.declared.Field.the-variants as field
 use Rattle.base_signed.specs.Signed.{signed32}
 use Rattle.encode_spec.specs.Item.{Item, Part, noEncoding, word, check, register, dataRegister, addressRegister, allow, operation, fixed}
-use Rattle.isa.specs.Code.{moveCode, isByte, longBit, bit, numberIn, registerBits, general, toMemory, fromMemory}
+use Rattle.isa.specs.Code.{moveCode, isByte, longBit, bit, numberOfRegister, registerBits, general, toMemory, fromMemory}
 use Rattle.encode_spec.specs.Ea.{everyMode, dataAlterable, movemToMemory, movemFromMemory, byteOfAddress, eaField, modeField, registerField, longItems, wordItems, effective, withAddress}
 use Rattle.isa.specs.declared.TargetDirection.{TargetDirection}
 use Rattle.isa.specs.declared.TargetDirection.the-variants.{ToMemory, FromMemory}
@@ -73,7 +73,7 @@ unfoldable pub exgParts : RegisterOperand → RegisterOperand → List Part
 exgParts x y =
     fixed
     (operation 12 (registerBits x) (exgOpmode x y) (general y) ∷ allow (not (isAddress x) || isAddress y) 43
-    ∷ register (numberIn x) ∷ register (numberIn y) ∷ [])
+    ∷ register (numberOfRegister x) ∷ register (numberOfRegister y) ∷ [])
     ∷ []
 
 unfoldable pub linkParts : RegisterOperand → ℕ → List Part

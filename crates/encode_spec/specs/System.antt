@@ -1,6 +1,6 @@
 -- System control and multiprocessor instructions (the manual, sections 3.1.9 to 3.1.11; section 6).
 use Prim.Native.Nat.{ℕ, _+_, _*_, _/_, _%_}
-use mathlib.Core.Bool.{Bool, not}
+use mathlib.Core.Bool.{Bool, not, cond}
 use mathlib.Core.List.{List, [], _∷_}
 use lib.Dec.{eqb}
 use lib.IntN.{pos}
@@ -9,8 +9,7 @@ use Rattle.isa.specs.declared.RegisterOperand.{RegisterOperand}
 use Rattle.isa.specs.declared.Operand.{Operand}
 use Rattle.isa.specs.declared.Field.the-variants as field
 use Rattle.encode_spec.specs.Item.{Item, Part, malformed, word, check, range, unless, register, addressRegister, allow, operation, fixed}
-use Rattle.isa.specs.Code.{sizeCode, isByte, longBit, bit, numberIn, registerBits, general, toMemory}
-use Rattle.isa.specs.ExtensionWord.{pick}
+use Rattle.isa.specs.Code.{sizeCode, isByte, longBit, bit, numberOfRegister, registerBits, general, toMemory}
 use Rattle.encode_spec.specs.Ea.{memoryAlterable, control, eaField, effective}
 use Rattle.isa.specs.declared.TargetDirection.{TargetDirection}
 use Rattle.isa.specs.declared.StatusOperation.{StatusOperation}
@@ -19,8 +18,8 @@ use Rattle.isa.specs.declared.ConditionCodeOperation.{ConditionCodeOperation}
 use Rattle.isa.specs.declared.ConditionCodeOperation.the-variants.{ANDItoCCR, ORItoCCR, EORItoCCR}
 use Rattle.isa.specs.declared.RawOperation.{RawOperation}
 use Rattle.isa.specs.declared.RawOperation.the-variants.{LINEA, LINEF, IllegalWord}
-use Rattle.isa.specs.declared.PlainOperation.{PlainOperation}
-use Rattle.isa.specs.declared.PlainOperation.the-variants.{RTE, RESET, RTR, TRAPV, ILLEGAL, RTS, NOP, SIMHALT}
+use Rattle.isa.specs.declared.NoOperandOperation.{NoOperandOperation}
+use Rattle.isa.specs.declared.NoOperandOperation.the-variants.{RTE, RESET, RTR, TRAPV, ILLEGAL, RTS, NOP, SIMHALT}
 use Rattle.isa.specs.declared.VectorOperation.{VectorOperation}
 use Rattle.isa.specs.declared.VectorOperation.the-variants.{TRAP, BKPT}
 
@@ -49,16 +48,16 @@ vectorParts BKPT v = fixed (operation 4 4 1 (8 + v % 8) ∷ range field.Breakpoi
 
 -- MOVE USP: bit 3 says from USP
 unfoldable pub moveuspParts : Bool → RegisterOperand → List Part
-moveuspParts to r = fixed (operation 4 7 1 (pick to 32 40 + registerBits r) ∷ addressRegister r ∷ []) ∷ []
+moveuspParts to r = fixed (operation 4 7 1 (cond to 32 40 + registerBits r) ∷ addressRegister r ∷ []) ∷ []
 
 -- MOVEC writes any control number modulo 4,096 (01, exception iv)
 unfoldable pub movecParts : Bool → ℕ → RegisterOperand → List Part
 movecParts to controlRegister r =
-    fixed (operation 4 7 1 (58 + bit to) ∷ register (numberIn r) ∷ word (general r * 4096 + controlRegister % 4096) ∷ []) ∷ []
+    fixed (operation 4 7 1 (58 + bit to) ∷ register (numberOfRegister r) ∷ word (general r * 4096 + controlRegister % 4096) ∷ []) ∷ []
 
 unfoldable pub movesParts : TargetDirection → Size → RegisterOperand → Operand → List Part
 movesParts direction s r target =
-    fixed (operation 0 7 (sizeCode s) (eaField target) ∷ register (numberIn r) ∷ word (general r * 4096 + toMemory direction * 2048) ∷ [])
+    fixed (operation 0 7 (sizeCode s) (eaField target) ∷ register (numberOfRegister r) ∷ word (general r * 4096 + toMemory direction * 2048) ∷ [])
     ∷ effective target s memoryAlterable 24 ∷ []
 
 unfoldable pub casParts : ℕ → ℕ → Operand → Size → List Part
@@ -70,7 +69,7 @@ casParts compare update target s =
 -- one of the two extension words of CAS2
 abbrev pub cas2Items : ℕ → ℕ → RegisterOperand → List Item
 cas2Items compare update pointer =
-    register (numberIn pointer) ∷ register update ∷ register compare ∷ word (general pointer * 4096 + update % 8 * 64 + compare % 8) ∷ []
+    register (numberOfRegister pointer) ∷ register update ∷ register compare ∷ word (general pointer * 4096 + update % 8 * 64 + compare % 8) ∷ []
 
 unfoldable pub cas2Parts : ℕ → ℕ → ℕ → ℕ → RegisterOperand → RegisterOperand → Size → List Part
 cas2Parts compare1 compare2 update1 update2 pointer1 pointer2 s =
@@ -84,12 +83,12 @@ rawParts LINEF w = fixed (check (unless (eqb (w / 4096) 15) malformed) ∷ word 
 rawParts IllegalWord w = fixed (word w ∷ []) ∷ []
 
 -- instructions without operands
-unfoldable pub plainParts : PlainOperation → List Part
-plainParts RTE = fixed (operation 4 7 1 51 ∷ []) ∷ []
-plainParts RESET = fixed (operation 4 7 1 48 ∷ []) ∷ []
-plainParts RTR = fixed (operation 4 7 1 55 ∷ []) ∷ []
-plainParts TRAPV = fixed (operation 4 7 1 54 ∷ []) ∷ []
-plainParts ILLEGAL = fixed (operation 4 5 3 60 ∷ []) ∷ []
-plainParts RTS = fixed (operation 4 7 1 53 ∷ []) ∷ []
-plainParts NOP = fixed (operation 4 7 1 49 ∷ []) ∷ []
-plainParts SIMHALT = fixed (word 65535 ∷ word 65535 ∷ []) ∷ []
+unfoldable pub noOperandParts : NoOperandOperation → List Part
+noOperandParts RTE = fixed (operation 4 7 1 51 ∷ []) ∷ []
+noOperandParts RESET = fixed (operation 4 7 1 48 ∷ []) ∷ []
+noOperandParts RTR = fixed (operation 4 7 1 55 ∷ []) ∷ []
+noOperandParts TRAPV = fixed (operation 4 7 1 54 ∷ []) ∷ []
+noOperandParts ILLEGAL = fixed (operation 4 5 3 60 ∷ []) ∷ []
+noOperandParts RTS = fixed (operation 4 7 1 53 ∷ []) ∷ []
+noOperandParts NOP = fixed (operation 4 7 1 49 ∷ []) ∷ []
+noOperandParts SIMHALT = fixed (word 65535 ∷ word 65535 ∷ []) ∷ []

@@ -1,21 +1,20 @@
 -- The encoder's state, and what each item does to it. Once refused, nothing changes it.
 use Prim.Native.Nat.{ℕ, _+_, _*_, _%_, _^_}
-use mathlib.Core.Bool.{Bool}
+use mathlib.Core.Bool.{Bool, cond}
 use mathlib.Core.List.{List, [], _∷_}
 use lib.Dec.{ltb, eqb}
 use lib.ListN.{set, length}
 use lib.IntN.{ℤ, pos}
 use Rattle.encode_state.specs.declared.Encoder.{Encoder}
 use Rattle.isa.specs.Field.{numberOf}
-use Rattle.isa.specs.ExtensionWord.{pick}
 use Rattle.encode_spec.specs.Item.{Item, Part, Verdict, fine, malformed, outOfRange, noEncoding, word, check, range, ranged}
 use Rattle.encode_spec.specs.Encode.{padded}
 
 -- e with one word more, where it is not refused and has room
 unfoldable pub pushed : Encoder → ℕ → Encoder
 pushed e w =
-    pick (eqb (e .number) 0)
-    (pick (ltb (e .count) 11)
+    cond (eqb (e .number) 0)
+    (cond (ltb (e .count) 11)
     (record { address = e .address; check = e .check; words = set (e .words) (e .count) w; count = e .count + 1; number = e .number; detail = e .detail; value = e .value })
     e)
     e
@@ -23,7 +22,7 @@ pushed e w =
 -- e refused, where it is not refused yet
 unfoldable pub refused : Encoder → ℕ → ℕ → ℤ → Encoder
 refused e number detail value =
-    pick (eqb (e .number) 0)
+    cond (eqb (e .number) 0)
     (record { address = e .address; check = e .check; words = e .words; count = e .count; number = number; detail = detail; value = value })
     e
 
@@ -43,13 +42,13 @@ run [] e = e
 run (x ∷ xs) e = run xs (step e x)
 
 -- the address of the next word; a count is at most 11
-unfoldable pub nextOf : Encoder → ℕ
-nextOf e = (e .address + 2 * (e .count % 16)) % 2 ^ 32
+unfoldable pub nextAddress : Encoder → ℕ
+nextAddress e = (e .address + 2 * (e .count % 16)) % 2 ^ 32
 
 -- each part from where the one before it left the state
 abbrev pub runParts : List Part → Encoder → Encoder
 runParts [] e = e
-runParts (p ∷ ps) e = runParts ps (run (p (nextOf e)) e)
+runParts (p ∷ ps) e = runParts ps (run (p (nextAddress e)) e)
 
 -- a state that holds words and is not refused
 abbrev pub holding : ℕ → Bool → List ℕ → Encoder

@@ -1,6 +1,6 @@
 -- Laws of the encoder's state: what a run of items leaves, and where each part begins.
 use Prim.Native.Nat.{ℕ, suc, _+_, _-_, _%_, _^_, _<_}
-use mathlib.Core.Bool.{Bool, true, false}
+use mathlib.Core.Bool.{Bool, true, false, cond}
 use mathlib.Core.List.{List, [], _∷_, _++_, append-assoc}
 use mathlib.Core.Path.{_≡_, refl, ap, sym, _∙_}
 use lib.Dec.{eqb}
@@ -11,10 +11,9 @@ use borrow.Author.Tests.{lt-ltb}
 use Rattle.encode_state.specs.declared.Encoder.{Encoder}
 use Rattle.isa.specs.declared.Encoded.{Encoded}
 use Rattle.isa.specs.Field.{numberOf}
-use Rattle.isa.specs.ExtensionWord.{pick}
 use Rattle.encode_spec.specs.Item.{Item, Part, Verdict, fine, malformed, outOfRange, noEncoding, word, check, range, ranged, wordsIn, countOf, placed, laid, orElse, failure}
 use Rattle.encode_spec.specs.Encode.{padded, encodedAs}
-use Rattle.encode_state.specs.Encoder.{pushed, refused, marked, step, run, nextOf, runParts, holding}
+use Rattle.encode_state.specs.Encoder.{pushed, refused, marked, step, run, nextAddress, runParts, holding}
 
 -- ---- a refused state stays as it is
 abbrev pub Refused : Encoder → Type 0
@@ -45,7 +44,7 @@ run-refused (x ∷ xs) e h = rw (step-refused x e h) (run-refused xs e h)
 
 pub parts-refused : (ps : List Part) (e : Encoder) → Refused e → runParts ps e ≡ e
 parts-refused [] e h = refl
-parts-refused (p ∷ ps) e h = rw (run-refused (p (nextOf e)) e h) (parts-refused ps e h)
+parts-refused (p ∷ ps) e h = rw (run-refused (p (nextAddress e)) e h) (parts-refused ps e h)
 
 -- ---- runs one after the other
 pub run-append : (xs ys : List Item) (e : Encoder) → run (xs ++ ys) e ≡ run ys (run xs e)
@@ -54,18 +53,18 @@ run-append (x ∷ xs) ys e = run-append xs ys (step e x)
 
 pub parts-append : (ps qs : List Part) (e : Encoder) → runParts (ps ++ qs) e ≡ runParts qs (runParts ps e)
 parts-append [] qs e = refl
-parts-append (p ∷ ps) qs e = parts-append ps qs (run (p (nextOf e)) e)
+parts-append (p ∷ ps) qs e = parts-append ps qs (run (p (nextAddress e)) e)
 
 -- ---- a check leaves the place of the next word
-next-pick : (b : Bool) (x y : Encoder) → nextOf x ≡ nextOf y → nextOf (pick b x y) ≡ nextOf y
+next-pick : (b : Bool) (x y : Encoder) → nextAddress x ≡ nextAddress y → nextAddress (cond b x y) ≡ nextAddress y
 next-pick true x y h = h
 next-pick false x y h = refl
 
-refuse-next : (e : Encoder) (n d : ℕ) (z : ℤ) → nextOf (refused e n d z) ≡ nextOf e
-unfolding refused nextOf
+refuse-next : (e : Encoder) (n d : ℕ) (z : ℤ) → nextAddress (refused e n d z) ≡ nextAddress e
+unfolding refused nextAddress
 refuse-next e n d z = next-pick (eqb (e .number) 0) _ e refl
 
-pub marked-next : (v : Verdict) (e : Encoder) → nextOf (marked v e) ≡ nextOf e
+pub marked-next : (v : Verdict) (e : Encoder) → nextAddress (marked v e) ≡ nextAddress e
 marked-next fine e = refl
 marked-next malformed e = refuse-next e 1 0 (pos 0)
 marked-next (outOfRange f z) e = refuse-next e 2 (numberOf f) z
@@ -126,8 +125,8 @@ module _ (a : ℕ) (b : Bool) (Q : Encoder → Type 0) where
   after (range f z ∷ xs) ws m p q = after-check (ranged b f z) xs ws (λ e. after xs ws m p q) (λ h. q _ h)
 
 -- ---- where each part begins
-next-holding : (a : ℕ) (b : Bool) (ws : List ℕ) → length ws < 12 → nextOf (holding a b ws) ≡ placed a (length ws)
-unfolding nextOf
+next-holding : (a : ℕ) (b : Bool) (ws : List ℕ) → length ws < 12 → nextAddress (holding a b ws) ≡ placed a (length ws)
+unfolding nextAddress
 next-holding a b ws m = let e : length ws % 16 ≡ length ws = omega arith in rw e
 
 words-count : (xs : List Item) → length (wordsIn xs) ≡ countOf xs

@@ -1,10 +1,10 @@
 // The encoder's state: the words so far, or the first refusal. Once refused it stays as it is.
 ghost use mathlib.Core.Path.{_≡_};
 ghost use Prim.Native.Nat.{_<_, _%_};
-ghost use Rattle.encode_state.specs.Encoder.{pushed, refused, marked, step, run, nextOf, holding};
+ghost use Rattle.encode_state.specs.Encoder.{pushed, refused, marked, step, run, nextAddress, holding};
 ghost use mathlib.Core.List.{[]};
 ghost use Rattle.encode_spec.specs.Item as item;
-ghost use Rattle.isa.specs.Code.{sizeCode, moveCode, isByte, isWord, longBit, bit, numberIn, registerBits, general, toMemory, fromMemory};
+ghost use Rattle.isa.specs.Code.{sizeCode, moveCode, isByte, isWord, longBit, bit, numberOfRegister, registerBits, general, toMemory, fromMemory};
 ghost use Rattle.encode_spec.specs.Ea.{longItems};
 use isa::Field;
 use isa::RegisterOperand;
@@ -39,7 +39,7 @@ pub fn begin(address: u32, check: bool) -> Encoder
 
 // The address of the next word.
 pub fn next(e: Encoder) -> u32
-    ensures { λ r. ⌜ r ≡ nextOf e ⌝ }
+    ensures { λ r. ⌜ r ≡ nextAddress e ⌝ }
 {
     let n = (e.count % 16) as u32;
     std::num::wrapping_add_u32(e.address, 2 * n)
@@ -178,7 +178,7 @@ pub fn address_register(e: Encoder, r: RegisterOperand) -> Encoder
 
 // The number of a register.
 pub fn number_in(r: RegisterOperand) -> u8
-    ensures { λ x. ⌜ x ≡ numberIn r ⌝ }
+    ensures { λ x. ⌜ x ≡ numberOfRegister r ⌝ }
 {
     match r {
         RegisterOperand::Data(n) => n,

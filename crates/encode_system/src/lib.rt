@@ -1,14 +1,14 @@
 // System control and the multiprocessor instructions.
+ghost use mathlib.Core.Bool.{cond};
 ghost use mathlib.Core.Path.{_≡_};
 ghost use Prim.Native.Nat.{_<_};
-ghost use Rattle.isa.specs.ExtensionWord.{pick};
-ghost use Rattle.encode_spec.specs.System.{statusOperation, statusParts, conditionCodeOperation, conditionCodeParts, vectorParts, moveuspParts, movecParts, movesParts, casParts, cas2Items, cas2Parts, rawParts, plainParts};
+ghost use Rattle.encode_spec.specs.System.{statusOperation, statusParts, conditionCodeOperation, conditionCodeParts, vectorParts, moveuspParts, movecParts, movesParts, casParts, cas2Items, cas2Parts, rawParts, noOperandParts};
 ghost use Rattle.encode_state.specs.Encoder.{step, run, runParts};
 use encode_state::Encoder;
 use isa::ConditionCodeOperation;
 use isa::Field;
+use isa::NoOperandOperation;
 use isa::Operand;
-use isa::PlainOperation;
 use isa::RawOperation;
 use isa::RegisterOperand;
 use isa::Size;
@@ -73,7 +73,7 @@ pub fn vector(e: Encoder, operation: VectorOperation, value: u8) -> Encoder
 
 // The low bits of MOVE USP, of which bit 3 says from USP.
 fn usp_field(to_usp: bool) -> u16
-    ensures { λ r. ⌜ (r ≡ pick «to_usp» 32 40) × (r < 41) ⌝ }
+    ensures { λ r. ⌜ (r ≡ cond «to_usp» 32 40) × (r < 41) ⌝ }
 {
     if to_usp { 32 } else { 40 }
 }
@@ -193,17 +193,17 @@ pub fn raw(e: Encoder, operation: RawOperation, word: u16) -> Encoder
 }
 
 // Instructions without operands.
-pub fn plain(e: Encoder, operation: PlainOperation) -> Encoder
-    ensures { λ r. ⌜ r ≡ runParts (plainParts operation) e ⌝ }
+pub fn no_operand(e: Encoder, operation: NoOperandOperation) -> Encoder
+    ensures { λ r. ⌜ r ≡ runParts (noOperandParts operation) e ⌝ }
 {
     match operation {
-        PlainOperation::RTE => encode_state::operation(e, 4, 7, 1, 51),
-        PlainOperation::RESET => encode_state::operation(e, 4, 7, 1, 48),
-        PlainOperation::RTR => encode_state::operation(e, 4, 7, 1, 55),
-        PlainOperation::TRAPV => encode_state::operation(e, 4, 7, 1, 54),
-        PlainOperation::ILLEGAL => encode_state::operation(e, 4, 5, 3, 60),
-        PlainOperation::RTS => encode_state::operation(e, 4, 7, 1, 53),
-        PlainOperation::NOP => encode_state::operation(e, 4, 7, 1, 49),
-        PlainOperation::SIMHALT => encode_state::long(e, 4294967295),
+        NoOperandOperation::RTE => encode_state::operation(e, 4, 7, 1, 51),
+        NoOperandOperation::RESET => encode_state::operation(e, 4, 7, 1, 48),
+        NoOperandOperation::RTR => encode_state::operation(e, 4, 7, 1, 55),
+        NoOperandOperation::TRAPV => encode_state::operation(e, 4, 7, 1, 54),
+        NoOperandOperation::ILLEGAL => encode_state::operation(e, 4, 5, 3, 60),
+        NoOperandOperation::RTS => encode_state::operation(e, 4, 7, 1, 53),
+        NoOperandOperation::NOP => encode_state::operation(e, 4, 7, 1, 49),
+        NoOperandOperation::SIMHALT => encode_state::long(e, 4294967295),
     }
 }

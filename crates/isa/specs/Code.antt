@@ -42,13 +42,13 @@ abbrev pub bit : Bool → ℕ
 bit true = 1
 bit false = 0
 
-abbrev pub numberIn : RegisterOperand → ℕ
-numberIn (Address n) = n
-numberIn (Data n) = n
+abbrev pub numberOfRegister : RegisterOperand → ℕ
+numberOfRegister (Address n) = n
+numberOfRegister (Data n) = n
 
 -- the three bits of a register number
 abbrev pub registerBits : RegisterOperand → ℕ
-registerBits r = numberIn r % 8
+registerBits r = numberOfRegister r % 8
 
 -- D/A and a register number, four bits, as extension words have them
 abbrev pub general : RegisterOperand → ℕ

@@ -1,16 +1,12 @@
 -- Extension words (the manual, section 2.1, figure 2-2 and tables 2-1 and 2-2).
 -- Bits 15 to 12 name the index register, 11 its width, 10 and 9 its scale; bit 8 marks the full format.
 use Prim.Native.Nat.{ℕ, _/_, _%_}
-use mathlib.Core.Bool.{Bool, true, false, not, _&&_, _||_}
+use mathlib.Core.Bool.{Bool, true, false, not, _&&_, _||_, cond}
 use lib.Dec.{ltb, leb, eqb}
 use Rattle.isa.specs.declared.DisplacementSize.{DisplacementSize}
 use Rattle.isa.specs.declared.DisplacementSize.the-variants as displacement
 use Rattle.isa.specs.declared.Indirection.{Indirection}
 use Rattle.isa.specs.declared.Indirection.the-variants as indirect
-
-abbrev pub pick : {A : Type 0} → Bool → A → A → A
-pick true a b = a
-pick false a b = b
 
 abbrev pub isFull : ℕ → Bool
 isFull w = eqb (w / 256 % 2) 1
@@ -24,7 +20,7 @@ indexSuppressed w = isFull w && eqb (w / 64 % 2) 1
 
 -- a displacement size by its two bits: 10 a word, 11 a long, and else none
 abbrev pub sizeOfCode : ℕ → DisplacementSize
-sizeOfCode k = pick (eqb (k % 4) 2) displacement.Word (pick (eqb (k % 4) 3) displacement.Long displacement.Null)
+sizeOfCode k = cond (eqb (k % 4) 2) displacement.Word (cond (eqb (k % 4) 3) displacement.Long displacement.Null)
 
 -- BD SIZE, bits 5 and 4
 abbrev pub baseSize : ℕ → DisplacementSize
@@ -33,7 +29,7 @@ baseSize w = sizeOfCode (w / 16)
 -- I/IS, bits 2 to 0
 abbrev pub indirectionOf : ℕ → Indirection
 indirectionOf w =
-    pick (not (isFull w) || eqb (w % 8) 0) indirect.None (pick (ltb (w % 8) 4) indirect.Preindexed indirect.Postindexed)
+    cond (not (isFull w) || eqb (w % 8) 0) indirect.None (cond (ltb (w % 8) 4) indirect.Preindexed indirect.Postindexed)
 
 -- the size of the outer displacement: null where there is no indirection
 abbrev pub outerSizeAs : Indirection → ℕ → DisplacementSize
@@ -48,7 +44,7 @@ outerSize w = outerSizeAs (indirectionOf w) w
 -- suppressed I/IS below 100 and the index bits clear. Any brief word is canonical.
 abbrev pub reserved : ℕ → Bool
 reserved w =
-    eqb (w / 16 % 4) 0 || eqb (w / 8 % 2) 1 || pick (indexSuppressed w) (leb 4 (w % 8) || not (eqb (w / 512) 0)) (eqb (w % 8) 4)
+    eqb (w / 16 % 4) 0 || eqb (w / 8 % 2) 1 || cond (indexSuppressed w) (leb 4 (w % 8) || not (eqb (w / 512) 0)) (eqb (w % 8) 4)
 
 abbrev pub isCanonical : ℕ → Bool
 isCanonical w = not (isFull w) || not (reserved w)

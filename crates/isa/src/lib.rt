@@ -285,7 +285,7 @@ pub enum RawOperation {
     IllegalWord,
 }
 
-pub enum PlainOperation {
+pub enum NoOperandOperation {
     RTE,
     RESET,
     RTR,
@@ -339,7 +339,7 @@ pub enum Instruction {
         register: RegisterOperand,
     },
     Raw(RawOperation, u16),
-    Plain(PlainOperation),
+    NoOperand(NoOperandOperation),
     RTD(u32),
     MOVEC {
         to_control: bool,

@@ -1,6 +1,6 @@
 -- Extension words made and read (the manual, section 2.2, figure 2-2 "Brief and Full Extension Word Formats", table 2-2).
 use Prim.Native.Nat.{ℕ, _+_, _*_, _/_, _%_}
-use mathlib.Core.Bool.{Bool, not, _||_}
+use mathlib.Core.Bool.{Bool, not, _||_, cond}
 use lib.Dec.{leb, eqb}
 use Rattle.isa.specs.declared.Size.{Size}
 use Rattle.isa.specs.declared.Size.the-variants as size
@@ -11,18 +11,18 @@ use Rattle.isa.specs.declared.DisplacementSize.{DisplacementSize}
 use Rattle.isa.specs.declared.Indirection.{Indirection}
 use Rattle.isa.specs.declared.Indirection.the-variants as indirect
 use Rattle.isa.specs.Code.{longBit, general, bit}
-use Rattle.isa.specs.ExtensionWord.{pick, isFull, indexSuppressed, baseSize, outerSize}
+use Rattle.isa.specs.ExtensionWord.{isFull, indexSuppressed, baseSize, outerSize}
 use Rattle.isa_values.specs.DisplacementSize.{displacementBytes, displacementCode}
 use Rattle.isa_values.specs.declared.extension_word.IndexChoice.{IndexChoice}
 use Rattle.isa_values.specs.declared.extension_word.IndexChoice.the-variants as choice
 
 -- D/A, bit 15, and REGISTER, bits 14 to 12
 abbrev pub indexOperand : ℕ → RegisterOperand
-indexOperand w = pick (eqb (w / 32768 % 2) 1) (register.Address (w / 4096 % 8)) (register.Data (w / 4096 % 8))
+indexOperand w = cond (eqb (w / 32768 % 2) 1) (register.Address (w / 4096 % 8)) (register.Data (w / 4096 % 8))
 
 -- W/L, bit 11
 abbrev pub indexSize : ℕ → Size
-indexSize w = pick (eqb (w / 2048 % 2) 1) size.Long size.Word
+indexSize w = cond (eqb (w / 2048 % 2) 1) size.Long size.Word
 
 abbrev pub indexRegister : ℕ → IndexRegister
 indexRegister w = record { register = indexOperand w; size = indexSize w }
@@ -32,19 +32,19 @@ abbrev pub scaleShift : ℕ → ℕ
 scaleShift w = w / 512 % 4
 
 abbrev pub index : ℕ → IndexChoice
-index w = pick (indexSuppressed w) choice.None (choice.Some (indexRegister w))
+index w = cond (indexSuppressed w) choice.None (choice.Some (indexRegister w))
 
 -- the word and the displacements that follow it
 abbrev pub extensionBytes : ℕ → ℕ
-extensionBytes w = pick (isFull w) (2 + displacementBytes (baseSize w) + displacementBytes (outerSize w)) 2
+extensionBytes w = cond (isFull w) (2 + displacementBytes (baseSize w) + displacementBytes (outerSize w)) 2
 
 -- I/IS 100 is reserved; where the index is suppressed all of 1xx is, and the index bits are clear
 abbrev pub indexReserved : ℕ → Bool
-indexReserved w = pick (indexSuppressed w) (leb 4 (w % 8) || not (eqb (w / 512) 0)) (eqb (w % 8) 4)
+indexReserved w = cond (indexSuppressed w) (leb 4 (w % 8) || not (eqb (w / 512) 0)) (eqb (w % 8) 4)
 
 -- a scale other than 2, 4 and 8 counts as 1
 abbrev pub scaleCode : ℕ → ℕ
-scaleCode s = pick (eqb s 2) 1 (pick (eqb s 4) 2 (pick (eqb s 8) 3 0))
+scaleCode s = cond (eqb s 2) 1 (cond (eqb s 4) 2 (cond (eqb s 8) 3 0))
 
 -- bits 15 to 9
 abbrev pub indexBits : IndexRegister → ℕ → ℕ

@@ -2,7 +2,7 @@
 -- number modulo 8.
 use Prim.Native.Nat.{ℕ, _+_, _*_, _/_, _%_, _<_}
 use mathlib.Core.Path.{_≡_, refl, ap, _∙_}
-use mathlib.Core.Bool.{Bool, true, false}
+use mathlib.Core.Bool.{Bool, true, false, cond}
 use lib.Dec.{ltb, eqb}
 use native.Mathlib.Omega.{arith}
 use Rattle.isa.specs.declared.Size.{Size}
@@ -15,7 +15,7 @@ use Rattle.isa.specs.declared.DisplacementSize.the-variants.{Null, Word, Long}
 use Rattle.isa.specs.declared.Indirection.{Indirection}
 use Rattle.isa.specs.declared.Indirection.the-variants.{None, Preindexed, Postindexed}
 use Rattle.isa.specs.Code.{longBit, general, bit}
-use Rattle.isa.specs.ExtensionWord.{pick, isFull, baseSuppressed, indexSuppressed, baseSize, indirectionOf, outerSizeAs, outerSize}
+use Rattle.isa.specs.ExtensionWord.{isFull, baseSuppressed, indexSuppressed, baseSize, indirectionOf, outerSizeAs, outerSize}
 use Rattle.isa_values.specs.DisplacementSize.{displacementCode}
 use Rattle.isa_values.specs.ExtensionWord.{indexOperand, indexSize, scaleShift, scaleCode, indexBits, indirectionCode, fullWord}
 
@@ -46,7 +46,7 @@ long-small size.Byte = omega arith
 long-small size.Word = omega arith
 long-small size.Long = omega arith
 
-pick-small : (t : Bool) (m n k : ℕ) → m < k → n < k → pick t m n < k
+pick-small : (t : Bool) (m n k : ℕ) → m < k → n < k → cond t m n < k
 pick-small true m n k h j = h
 pick-small false m n k h j = j
 
@@ -103,18 +103,18 @@ widened size.Byte = size.Word
 widened size.Word = size.Word
 widened size.Long = size.Long
 
-width-read : (s : Size) → pick (eqb (longBit s) 1) size.Long size.Word ≡ widened s
+width-read : (s : Size) → cond (eqb (longBit s) 1) size.Long size.Word ≡ widened s
 width-read size.Byte = refl
 width-read size.Word = refl
 width-read size.Long = refl
 
-size-read : (d : DisplacementSize) → pick (eqb (displacementCode d) 2) Word (pick (eqb (displacementCode d) 3) Long Null) ≡ d
+size-read : (d : DisplacementSize) → cond (eqb (displacementCode d) 2) Word (cond (eqb (displacementCode d) 3) Long Null) ≡ d
 size-read Null = refl
 size-read Word = refl
 size-read Long = refl
 
 abbrev kindOf : ℕ → Indirection
-kindOf k = pick (eqb k 0) None (pick (ltb k 4) Preindexed Postindexed)
+kindOf k = cond (eqb k 0) None (cond (ltb k 4) Preindexed Postindexed)
 
 kind-read : (i : Indirection) (d : DisplacementSize) → kindOf (indirectionCode i d) ≡ i
 kind-read None d = refl

@@ -4,17 +4,17 @@ use mathlib.Core.Path.{_≡_, refl}
 use Rattle.isa.specs.declared.Size.{Size}
 use Rattle.isa.specs.declared.Size.the-variants.{Byte, Word, Long}
 
-abbrev pub bytesOf : Size → ℕ
-bytesOf Byte = 1
-bytesOf Word = 2
-bytesOf Long = 4
+abbrev pub byteCount : Size → ℕ
+byteCount Byte = 1
+byteCount Word = 2
+byteCount Long = 4
 
-abbrev pub bitsOf : Size → ℕ
-bitsOf Byte = 8
-bitsOf Word = 16
-bitsOf Long = 32
+abbrev pub bitCount : Size → ℕ
+bitCount Byte = 8
+bitCount Word = 16
+bitCount Long = 32
 
-pub eight : (s : Size) → bytesOf s * 8 ≡ bitsOf s
+pub eight : (s : Size) → byteCount s * 8 ≡ bitCount s
 eight Byte = refl
 eight Word = refl
 eight Long = refl

@@ -1,6 +1,6 @@
 -- How many words the parts of an instruction lay down, and that an address changes only what the words hold and the ranges.
 use Prim.Native.Nat.{ℕ, _+_, _≤_}
-use mathlib.Core.Bool.{Bool, true, false}
+use mathlib.Core.Bool.{Bool, true, false, cond}
 use mathlib.Core.List.{List, [], _∷_, _++_}
 use mathlib.Core.Path.{_≡_, refl, ap}
 use lib.Dec.{T, leb, lit≤}
@@ -49,8 +49,8 @@ use Rattle.isa.specs.declared.VectorOperation.{VectorOperation}
 use Rattle.isa.specs.declared.VectorOperation.the-variants.{TRAP, BKPT}
 use Rattle.isa.specs.declared.RawOperation.{RawOperation}
 use Rattle.isa.specs.declared.RawOperation.the-variants.{LINEA, LINEF, IllegalWord}
-use Rattle.isa.specs.declared.PlainOperation.{PlainOperation}
-use Rattle.isa.specs.declared.PlainOperation.the-variants.{RTE, RESET, RTR, TRAPV, ILLEGAL, RTS, NOP, SIMHALT}
+use Rattle.isa.specs.declared.NoOperandOperation.{NoOperandOperation}
+use Rattle.isa.specs.declared.NoOperandOperation.the-variants.{RTE, RESET, RTR, TRAPV, ILLEGAL, RTS, NOP, SIMHALT}
 use Rattle.isa.specs.declared.StatusOperation.{StatusOperation}
 use Rattle.isa.specs.declared.StatusOperation.the-variants.{ANDItoSR, ORItoSR, EORItoSR, STOP}
 use Rattle.isa.specs.declared.ConditionCodeOperation.{ConditionCodeOperation}
@@ -60,16 +60,16 @@ use Rattle.isa.specs.declared.TrapOperand.the-variants as trap
 use Rattle.isa.specs.declared.Condition.{Condition}
 use Rattle.isa.specs.declared.QuickOperation.{QuickOperation}
 use Rattle.isa.specs.declared.Instruction.{Instruction}
-use Rattle.isa.specs.declared.Instruction.the-variants.{IntoRegister, MOVEM, Transfer, Pair, Quick, MOVEQ, ImmediateInto, WordIntoData, SWAP, EXG, UnsizedIntoRegister, UnsizedOne, UnsizedPair, EXT, OneOperand, Bcc, Scc, DBcc, Branch, Link, UNLK, Shift, Vector, Status, ConditionCode, MOVEUSP, Raw, Plain, RTD, MOVEC, TRAPcc, MULL, Pack, CAS, CAS2, BF, DIVL}
+use Rattle.isa.specs.declared.Instruction.the-variants.{IntoRegister, MOVEM, Transfer, Pair, Quick, MOVEQ, ImmediateInto, WordIntoData, SWAP, EXG, UnsizedIntoRegister, UnsizedOne, UnsizedPair, EXT, OneOperand, Bcc, Scc, DBcc, Branch, Link, UNLK, Shift, Vector, Status, ConditionCode, MOVEUSP, Raw, NoOperand, RTD, MOVEC, TRAPcc, MULL, Pack, CAS, CAS2, BF, DIVL}
 use Rattle.isa.specs.Code.{sizeCode}
 use Rattle.encode_spec.specs.Movement.{moveParts, moveaParts, movemParts, movepParts, movepItems, moveqParts, exgParts, linkParts, linklParts, unlkParts}
 use Rattle.encode_spec.specs.Arithmetic.{immediateParts, quickParts, intoDataParts, arithmeticParts, intoAddressParts, boundsParts, extendedParts, cmpmParts, mullParts, divlParts, tstParts, extParts, swapParts}
 use Rattle.encode_spec.specs.Logic.{logicalParts, shiftParts, shiftRegisterParts, shiftMemoryParts, countItems}
 use Rattle.encode_spec.specs.Bits.{bitParts, dynamicParts, staticParts, bitFieldParts, packParts}
 use Rattle.encode_spec.specs.Control.{branchParts, bccParts, dbccParts, sccParts, trapccParts, rtdParts, relativeWord, relativeLong, shortBranch}
-use Rattle.encode_spec.specs.System.{statusParts, conditionCodeParts, vectorParts, moveuspParts, movecParts, movesParts, casParts, cas2Parts, rawParts, plainParts}
+use Rattle.encode_spec.specs.System.{statusParts, conditionCodeParts, vectorParts, moveuspParts, movecParts, movesParts, casParts, cas2Parts, rawParts, noOperandParts}
 use Rattle.encode_spec.specs.Instruction.{partsOf, registerParts, transferParts, pairParts, wordParts, unsizedRegisterParts, unsizedOneParts, unsizedPairParts, oneParts, branchesParts, linksParts, packsParts}
-use Rattle.isa.specs.ExtensionWord.{pick, isFull, baseSize, outerSize}
+use Rattle.isa.specs.ExtensionWord.{isFull, baseSize, outerSize}
 use Rattle.encode_spec.specs.Item.{Item, Part, Verdict, noEncoding, dataVerdict, operation, word, check, range, fixed, countOf, laid, placed, failure}
 use Rattle.encode_spec.specs.Ea.{immediateWords, displacementItems, fullItems, scaledItems, baseDisplacement, eaItems, effective, single, withData, withAddress, fromData, eaField, isRegister, isImmediate, registerIn, immediateIn, memoryAlterable, dataModes}
 
@@ -178,7 +178,7 @@ pub wider : (j k m n : ℕ) (ps : List Part) → j ≤ m → n ≤ k → Lays m 
 wider j k m n ps p q h =
     record { least = λ a. omega (arith, h .least a); most = λ a. omega (arith, h .most a); alike = h .alike }
 
-pub either : (m n : ℕ) (b : Bool) (ps qs : List Part) → Lays m n ps → Lays m n qs → Lays m n (pick b ps qs)
+pub either : (m n : ℕ) (b : Bool) (ps qs : List Part) → Lays m n ps → Lays m n qs → Lays m n (cond b ps qs)
 either m n true ps qs h k = h
 either m n false ps qs h k = k
 
@@ -203,11 +203,11 @@ displacement-alike displacement.Null z y f = tt
 displacement-alike displacement.Word z y f = tt
 displacement-alike displacement.Long z y f = tt
 
-pick-most : (b : Bool) (xs ys : List Item) (n : ℕ) → countOf xs ≤ n → countOf ys ≤ n → countOf (pick b xs ys) ≤ n
+pick-most : (b : Bool) (xs ys : List Item) (n : ℕ) → countOf xs ≤ n → countOf ys ≤ n → countOf (cond b xs ys) ≤ n
 pick-most true xs ys n p q = p
 pick-most false xs ys n p q = q
 
-pick-alike : (b : Bool) (xs ys us vs : List Item) → Alike xs us → Alike ys vs → Alike (pick b xs ys) (pick b us vs)
+pick-alike : (b : Bool) (xs ys us vs : List Item) → Alike xs us → Alike ys vs → Alike (cond b xs ys) (cond b us vs)
 pick-alike true xs ys us vs p q = p
 pick-alike false xs ys us vs p q = q
 
@@ -390,7 +390,7 @@ logical-lays line o d s =
     either 1 11 (isRegister d) (withData line (registerIn d) (sizeCode s) o s dataModes 57) (fromData line memoryAlterable 58 o d s)
     (upTo 1 6 tt tt (data-lays line (registerIn d) (sizeCode s) o s dataModes 57)) (upTo 1 6 tt tt (from-lays line memoryAlterable 58 o d s))
 
-counter-pick : (b c : Bool) (u v : Verdict) (f : Field) (z : ℤ) → countOf (pick b (check u ∷ []) (pick c (range f z ∷ []) (check v ∷ []))) ≡ 0
+counter-pick : (b c : Bool) (u v : Verdict) (f : Field) (z : ℤ) → countOf (cond b (check u ∷ []) (cond c (range f z ∷ []) (check v ∷ []))) ≡ 0
 counter-pick true c u v f z = refl
 counter-pick false true u v f z = refl
 counter-pick false false u v f z = refl
@@ -425,7 +425,7 @@ noBit kind x = fixed (operation 0 4 kind (eaField x) ∷ check (noEncoding 53) �
 bit-lays : (kind : ℕ) (o x : Operand) → Lays 1 11 (bitParts kind o x)
 unfolding bitParts
 bit-lays kind o x =
-    either 1 11 (isRegister o) (dynamicParts kind (registerIn o) x) (pick (isImmediate o) (staticParts kind (immediateIn o) x) (noBit kind x))
+    either 1 11 (isRegister o) (dynamicParts kind (registerIn o) x) (cond (isImmediate o) (staticParts kind (immediateIn o) x) (noBit kind x))
     (dynamic-lays kind (registerIn o) x)
     (either 1 11 (isImmediate o) (staticParts kind (immediateIn o) x) (noBit kind x) (static-lays kind (immediateIn o) x) (upTo 1 1 tt tt (fixed-then 0 0 _ _ none)))
 
@@ -493,16 +493,16 @@ raw-lays LINEA w = upTo 1 1 tt tt (fixed-then 0 0 _ _ none)
 raw-lays LINEF w = upTo 1 1 tt tt (fixed-then 0 0 _ _ none)
 raw-lays IllegalWord w = upTo 1 1 tt tt (fixed-then 0 0 _ _ none)
 
-plain-lays : (op : PlainOperation) → Lays 1 11 (plainParts op)
-unfolding plainParts
-plain-lays RTE = upTo 1 1 tt tt (fixed-then 0 0 _ _ none)
-plain-lays RESET = upTo 1 1 tt tt (fixed-then 0 0 _ _ none)
-plain-lays RTR = upTo 1 1 tt tt (fixed-then 0 0 _ _ none)
-plain-lays TRAPV = upTo 1 1 tt tt (fixed-then 0 0 _ _ none)
-plain-lays ILLEGAL = upTo 1 1 tt tt (fixed-then 0 0 _ _ none)
-plain-lays RTS = upTo 1 1 tt tt (fixed-then 0 0 _ _ none)
-plain-lays NOP = upTo 1 1 tt tt (fixed-then 0 0 _ _ none)
-plain-lays SIMHALT = upTo 2 2 tt tt (fixed-then 0 0 _ _ none)
+no-operand-lays : (op : NoOperandOperation) → Lays 1 11 (noOperandParts op)
+unfolding noOperandParts
+no-operand-lays RTE = upTo 1 1 tt tt (fixed-then 0 0 _ _ none)
+no-operand-lays RESET = upTo 1 1 tt tt (fixed-then 0 0 _ _ none)
+no-operand-lays RTR = upTo 1 1 tt tt (fixed-then 0 0 _ _ none)
+no-operand-lays TRAPV = upTo 1 1 tt tt (fixed-then 0 0 _ _ none)
+no-operand-lays ILLEGAL = upTo 1 1 tt tt (fixed-then 0 0 _ _ none)
+no-operand-lays RTS = upTo 1 1 tt tt (fixed-then 0 0 _ _ none)
+no-operand-lays NOP = upTo 1 1 tt tt (fixed-then 0 0 _ _ none)
+no-operand-lays SIMHALT = upTo 2 2 tt tt (fixed-then 0 0 _ _ none)
 
 -- ---- shapes with several operations
 pair-lays : (op : PairOperation) (o d : Operand) (s : Size) → Lays 1 11 (pairParts op o d s)
@@ -579,7 +579,7 @@ instruction-lays (Status op v) = status-lays op v
 instruction-lays (ConditionCode op v) = condition-code-lays op v
 instruction-lays (MOVEUSP to r) = upTo 1 1 tt tt (fixed-then 0 0 _ _ none)
 instruction-lays (Raw op w) = raw-lays op w
-instruction-lays (Plain op) = plain-lays op
+instruction-lays (NoOperand op) = no-operand-lays op
 instruction-lays (RTD d) = rtd-lays d
 instruction-lays (MOVEC to n r) = upTo 2 2 tt tt (fixed-then 0 0 _ _ none)
 instruction-lays (TRAPcc condition x) = trapcc-lays condition x

@@ -25,7 +25,7 @@ use Rattle.read_spec.specs.Number.{reach}
 use Rattle.read_spec.specs.Plain.{plain}
 use Rattle.read_spec.specs.Read.{readOf}
 use Rattle.read_operand_laws.specs.Facts.{reach-distance, placed-lt, leb-is, fine-both, unless-reason}
-use Rattle.read_laws.specs.Statements.{Accepted, TypedInstruction}
+use Rattle.read_laws.specs.Statements.{Accepted, InstructionInTypes}
 use Rattle.read_laws.specs.ReaderLaws.{complete, one, short-exactly}
 
 -- a short branch of -1, at a
@@ -36,7 +36,7 @@ pub data MinusOne (a : ℕ) : Instruction → Type 0 where
 -- what `encode` accepts, IllegalWord and SIMHALT apart
 pub data Accepts (a : ℕ) (i : Instruction) : Type 0 where
   not-left-out : Accepted a i → Accepts a i
-  minus-one : TypedInstruction i → refusalOf true i a ≡ fine → MinusOne a i → Accepts a i
+  minus-one : InstructionInTypes i → refusalOf true i a ≡ fine → MinusOne a i → Accepts a i
 
 -- its word, by the condition's code
 abbrev wordFor : ℕ → ℕ
@@ -110,7 +110,7 @@ same-code c d hc hd e = omega (arith, e)
 code-lt : (c : Condition) → conditionCode c < 16
 code-lt c = omega (arith, ap conditionCode (of-code c), code-of (conditionCode c))
 
-both : (a : ℕ) (i j : Instruction) → TypedInstruction i → TypedInstruction j → refusalOf true i a ≡ fine → refusalOf true j a ≡ fine
+both : (a : ℕ) (i j : Instruction) → InstructionInTypes i → InstructionInTypes j → refusalOf true i a ≡ fine → refusalOf true j a ≡ fine
     → MinusOne a i → MinusOne a j → wordsOf i a ≡ wordsOf j a → i ≡ j
 both a i j s t e f (always BRA x h) (always BRA y g) w = ap (λ (n : ℕ). Branch BRA n Short) (same-target a x y s t h g)
 both a i j s t e f (always BRA x h) (always BSR y g) w = absurd (omega (arith, head-is (wordFor 0) (wordFor 1) (sym (branch-word a x BRA h) ∙ w ∙ branch-word a y BSR g)))

@@ -19,7 +19,7 @@ use Rattle.read_spec.specs.Read.{readOf, readingNumber}
 use Rattle.read_operand_laws.specs.TreeLaws.{Words}
 use Rattle.read_spec.specs.LeftOut.{leftOut}
 use Rattle.m68k.specs.Laws.{size-law}
-use Rattle.read_laws.specs.Statements.{Accepted, TypedInstruction}
+use Rattle.read_laws.specs.Statements.{Accepted, InstructionInTypes}
 use Rattle.read_laws.specs.ReaderLaws.{complete, sound}
 
 -- what the two ways round give
@@ -80,7 +80,7 @@ append-nil : (ws : List ℕ) → ws ++ [] ≡ ws
 append-nil [] = refl
 append-nil (w ∷ ws) = ap (λ (l : List ℕ). w ∷ l) (append-nil ws)
 
-pub reads-back : (i : Instruction) (a : ℕ) (r : Reading) → TypedInstruction i → r ≡ readBackOf i a → ReadsBack i a r
+pub reads-back : (i : Instruction) (a : ℕ) (r : Reading) → InstructionInTypes i → r ≡ readBackOf i a → ReadsBack i a r
 unfolding readBackOf
 reads-back i a r t e n l =
     let h : Accepted a i = (t, accepted-is i a n, l) in

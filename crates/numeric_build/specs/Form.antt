@@ -38,10 +38,10 @@ use Rattle.isa.specs.declared.VectorOperation.{VectorOperation}
 use Rattle.isa.specs.declared.VectorOperation.the-variants.{TRAP, BKPT}
 use Rattle.isa.specs.declared.RawOperation.{RawOperation}
 use Rattle.isa.specs.declared.RawOperation.the-variants.{LINEA, LINEF, IllegalWord}
-use Rattle.isa.specs.declared.PlainOperation.{PlainOperation}
-use Rattle.isa.specs.declared.PlainOperation.the-variants.{RTE, RESET, RTR, TRAPV, ILLEGAL, RTS, NOP, SIMHALT}
+use Rattle.isa.specs.declared.NoOperandOperation.{NoOperandOperation}
+use Rattle.isa.specs.declared.NoOperandOperation.the-variants.{RTE, RESET, RTR, TRAPV, ILLEGAL, RTS, NOP, SIMHALT}
 use Rattle.isa.specs.declared.Instruction.{Instruction}
-use Rattle.isa.specs.declared.Instruction.the-variants.{IntoRegister, MOVEM, Transfer, Pair, Quick, MOVEQ, ImmediateInto, WordIntoData, SWAP, EXG, UnsizedIntoRegister, UnsizedOne, UnsizedPair, EXT, OneOperand, Bcc, Scc, DBcc, Branch, Link, UNLK, Shift, Vector, Status, ConditionCode, MOVEUSP, Raw, Plain, RTD, MOVEC, TRAPcc, MULL, Pack, CAS, CAS2, BF, DIVL}
+use Rattle.isa.specs.declared.Instruction.the-variants.{IntoRegister, MOVEM, Transfer, Pair, Quick, MOVEQ, ImmediateInto, WordIntoData, SWAP, EXG, UnsizedIntoRegister, UnsizedOne, UnsizedPair, EXT, OneOperand, Bcc, Scc, DBcc, Branch, Link, UNLK, Shift, Vector, Status, ConditionCode, MOVEUSP, Raw, NoOperand, RTD, MOVEC, TRAPcc, MULL, Pack, CAS, CAS2, BF, DIVL}
 use Rattle.numeric_fields.specs.Form.{Entry, unsigned, numberOf, bitFieldForm, bitFieldOperationForm, branchSizeForm, byteForm, conditionForm, flagForm, longForm, operandForm, registerChoiceForm, registerForm, shiftDirectionForm, signForm, sizeForm, targetDirectionForm, trapOperandForm, wordForm}
 
 abbrev pub registerOperationPlace : RegisterOperation → ℕ
@@ -153,15 +153,15 @@ rawOperationPlace LINEA = 61
 rawOperationPlace LINEF = 62
 rawOperationPlace IllegalWord = 79
 
-abbrev pub plainOperationPlace : PlainOperation → ℕ
-plainOperationPlace RTE = 57
-plainOperationPlace RESET = 59
-plainOperationPlace RTR = 75
-plainOperationPlace TRAPV = 77
-plainOperationPlace ILLEGAL = 78
-plainOperationPlace RTS = 80
-plainOperationPlace NOP = 81
-plainOperationPlace SIMHALT = 82
+abbrev pub noOperandOperationPlace : NoOperandOperation → ℕ
+noOperandOperationPlace RTE = 57
+noOperandOperationPlace RESET = 59
+noOperandOperationPlace RTR = 75
+noOperandOperationPlace TRAPV = 77
+noOperandOperationPlace ILLEGAL = 78
+noOperandOperationPlace RTS = 80
+noOperandOperationPlace NOP = 81
+noOperandOperationPlace SIMHALT = 82
 
 abbrev pub placeOf : Instruction → ℕ
 placeOf (IntoRegister op o r s) = registerOperationPlace op
@@ -191,7 +191,7 @@ placeOf (Status op w) = statusOperationPlace op
 placeOf (ConditionCode op n) = conditionCodeOperationPlace op
 placeOf (MOVEUSP b r) = 60
 placeOf (Raw op w) = rawOperationPlace op
-placeOf (Plain op) = plainOperationPlace op
+placeOf (NoOperand op) = noOperandOperationPlace op
 placeOf (RTD v) = 83
 placeOf (MOVEC b w r) = 85
 placeOf (TRAPcc c t) = 89
@@ -230,7 +230,7 @@ fieldsOf (Status op w) = wordForm w
 fieldsOf (ConditionCode op n) = byteForm n
 fieldsOf (MOVEUSP b r) = flagForm b ++ registerForm r
 fieldsOf (Raw op w) = wordForm w
-fieldsOf (Plain op) = []
+fieldsOf (NoOperand op) = []
 fieldsOf (RTD v) = longForm v
 fieldsOf (MOVEC b w r) = flagForm b ++ wordForm w ++ registerForm r
 fieldsOf (TRAPcc c t) = conditionForm c ++ trapOperandForm t

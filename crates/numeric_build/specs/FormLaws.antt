@@ -1,7 +1,7 @@
 -- What `buildOf` accepts is exactly the form.
 use Prim.Native.Nat.{ℕ, _≤_}
 use mathlib.Core.Path.{_≡_, refl, ap, _∙_}
-use mathlib.Core.Bool.{Bool, true, false, _&&_}
+use mathlib.Core.Bool.{Bool, true, false, _&&_, cond}
 use native.Mathlib.Omega.{arith}
 use lib.Dec.{eqb}
 use lib.ListN.{getD}
@@ -54,22 +54,22 @@ use Rattle.isa.specs.declared.VectorOperation.{VectorOperation}
 use Rattle.isa.specs.declared.VectorOperation.the-variants.{TRAP, BKPT}
 use Rattle.isa.specs.declared.RawOperation.{RawOperation}
 use Rattle.isa.specs.declared.RawOperation.the-variants.{LINEA, LINEF, IllegalWord}
-use Rattle.isa.specs.declared.PlainOperation.{PlainOperation}
-use Rattle.isa.specs.declared.PlainOperation.the-variants.{RTE, RESET, RTR, TRAPV, ILLEGAL, RTS, NOP, SIMHALT}
+use Rattle.isa.specs.declared.NoOperandOperation.{NoOperandOperation}
+use Rattle.isa.specs.declared.NoOperandOperation.the-variants.{RTE, RESET, RTR, TRAPV, ILLEGAL, RTS, NOP, SIMHALT}
 use Rattle.isa.specs.declared.Instruction.{Instruction}
-use Rattle.isa.specs.declared.Instruction.the-variants.{IntoRegister, MOVEM, Transfer, Pair, Quick, MOVEQ, ImmediateInto, WordIntoData, SWAP, EXG, UnsizedIntoRegister, UnsizedOne, UnsizedPair, EXT, OneOperand, Bcc, Scc, DBcc, Branch, Link, UNLK, Shift, Vector, Status, ConditionCode, MOVEUSP, Raw, Plain, RTD, MOVEC, TRAPcc, MULL, Pack, CAS, CAS2, BF, DIVL}
+use Rattle.isa.specs.declared.Instruction.the-variants.{IntoRegister, MOVEM, Transfer, Pair, Quick, MOVEQ, ImmediateInto, WordIntoData, SWAP, EXG, UnsizedIntoRegister, UnsizedOne, UnsizedPair, EXT, OneOperand, Bcc, Scc, DBcc, Branch, Link, UNLK, Shift, Vector, Status, ConditionCode, MOVEUSP, Raw, NoOperand, RTD, MOVEC, TRAPcc, MULL, Pack, CAS, CAS2, BF, DIVL}
 use Rattle.numeric_fields.specs.declared.Numbers.{Numbers}
 use Rattle.numeric_fields.specs.declared.UnsignedAt.{UnsignedAt}
 use Rattle.numeric_build.specs.declared.InstructionAt.{InstructionAt}
 use Rattle.numeric_build.specs.declared.Built.the-variants as built
-use Rattle.numeric_fields.specs.Number.{pick, unsignedAt, byteAt, flagAt, longAt, wordAt}
+use Rattle.numeric_fields.specs.Number.{unsignedAt, byteAt, flagAt, longAt, wordAt}
 use Rattle.numeric_fields.specs.Part.{bitFieldAt, bitFieldOperationAt, conditionAt, registerAt, registerChoiceAt, shiftDirectionAt, sizeAt, targetDirectionAt}
 use Rattle.numeric_fields.specs.Operand.{operandAt}
 use Rattle.numeric_fields.specs.Form.{Span}
 use Rattle.numeric_fields.specs.FormLaws.{Exact, thence, Made, made, made-sound, made-whole, below, chosen, bit-field-exact, bit-field-operation-exact, branch-size-exact, byte-exact, condition-exact, flag-exact, long-exact, operand-exact, register-choice-exact, register-exact, shift-direction-exact, sign-exact, size-exact, target-direction-exact, trap-operand-exact, word-exact}
-use Rattle.numeric_build.specs.Shape.{Shape, shapes, shapeAt, shapeAtPlace, intoRegister, movem, transfer, pair, quick, moveq, immediateInto, wordIntoData, swap, exg, unsizedIntoRegister, unsizedOne, unsizedPair, ext, oneOperand, bcc, scc, dbcc, branch, link, unlk, shift, vector, status, conditionCode, moveusp, raw, plain, rtd, movec, trapcc, mull, pack, cas, cas2, bf, divl, intoRegisterAt, movemAt, transferAt, pairAt, quickAt, moveqAt, immediateIntoAt, wordIntoDataAt, swapAt, exgAt, unsizedIntoRegisterAt, unsizedOneAt, unsizedPairAt, extAt, oneOperandAt, bccAt, sccAt, dbccAt, branchAt, linkAt, unlkAt, shiftAt, vectorAt, statusAt, conditionCodeAt, moveuspAt, rawAt, plainAt, rtdAt, movecAt, trapccAt, mullAt, packAt, casAt, cas2At, bfAt, divlAt}
+use Rattle.numeric_build.specs.Shape.{Shape, shapes, shapeAt, shapeAtPlace, intoRegister, movem, transfer, pair, quick, moveq, immediateInto, wordIntoData, swap, exg, unsizedIntoRegister, unsizedOne, unsizedPair, ext, oneOperand, bcc, scc, dbcc, branch, link, unlk, shift, vector, status, conditionCode, moveusp, raw, plain, rtd, movec, trapcc, mull, pack, cas, cas2, bf, divl, intoRegisterAt, movemAt, transferAt, pairAt, quickAt, moveqAt, immediateIntoAt, wordIntoDataAt, swapAt, exgAt, unsizedIntoRegisterAt, unsizedOneAt, unsizedPairAt, extAt, oneOperandAt, bccAt, sccAt, dbccAt, branchAt, linkAt, unlkAt, shiftAt, vectorAt, statusAt, conditionCodeAt, moveuspAt, rawAt, noOperandAt, rtdAt, movecAt, trapccAt, mullAt, packAt, casAt, cas2At, bfAt, divlAt}
 use Rattle.numeric_build.specs.Build.{buildOf}
-use Rattle.numeric_build.specs.Form.{placeOf, fieldsOf, formOf, registerOperationPlace, transferOperationPlace, pairOperationPlace, quickOperationPlace, immediateOperationPlace, wordOperationPlace, unsizedRegisterOperationPlace, unsizedOneOperationPlace, unsizedPairOperationPlace, oneOperationPlace, shiftOperationPlace, packOperationPlace, branchOperationPlace, linkOperationPlace, statusOperationPlace, conditionCodeOperationPlace, vectorOperationPlace, rawOperationPlace, plainOperationPlace}
+use Rattle.numeric_build.specs.Form.{placeOf, fieldsOf, formOf, registerOperationPlace, transferOperationPlace, pairOperationPlace, quickOperationPlace, immediateOperationPlace, wordOperationPlace, unsizedRegisterOperationPlace, unsizedOneOperationPlace, unsizedPairOperationPlace, oneOperationPlace, shiftOperationPlace, packOperationPlace, branchOperationPlace, linkOperationPlace, statusOperationPlace, conditionCodeOperationPlace, vectorOperationPlace, rawOperationPlace, noOperandOperationPlace}
 
 -- the fields of each shape
 into-register-made : (op : RegisterOperation) (ns : Numbers) (k : ℕ) → Made ns k fieldsOf (λ (x : (Operand × RegisterOperand) × Size). IntoRegister op (x .0 .0) (x .0 .1) (x .1)) (intoRegisterAt op ns k .ok) (intoRegisterAt op ns k .instruction) (intoRegisterAt op ns k .next)
@@ -339,7 +339,7 @@ shapePlace (status op) = statusOperationPlace op
 shapePlace (conditionCode op) = conditionCodeOperationPlace op
 shapePlace moveusp = 60
 shapePlace (raw op) = rawOperationPlace op
-shapePlace (plain op) = plainOperationPlace op
+shapePlace (plain op) = noOperandOperationPlace op
 shapePlace rtd = 83
 shapePlace movec = 85
 shapePlace trapcc = 89
@@ -351,7 +351,7 @@ shapePlace bf = 97
 shapePlace divl = 98
 
 shape-sound : (s : Shape) (ns : Numbers) (k : ℕ) → shapeAt s ns k .ok ≡ true → Span ns k (fieldsOf (shapeAt s ns k .instruction)) (shapeAt s ns k .next) × (placeOf (shapeAt s ns k .instruction) ≡ shapePlace s)
-unfolding shapePlace intoRegisterAt movemAt transferAt pairAt quickAt moveqAt immediateIntoAt wordIntoDataAt swapAt exgAt unsizedIntoRegisterAt unsizedOneAt unsizedPairAt extAt oneOperandAt bccAt sccAt dbccAt branchAt linkAt unlkAt shiftAt vectorAt statusAt conditionCodeAt moveuspAt rawAt plainAt rtdAt movecAt trapccAt mullAt packAt casAt cas2At bfAt divlAt
+unfolding shapePlace intoRegisterAt movemAt transferAt pairAt quickAt moveqAt immediateIntoAt wordIntoDataAt swapAt exgAt unsizedIntoRegisterAt unsizedOneAt unsizedPairAt extAt oneOperandAt bccAt sccAt dbccAt branchAt linkAt unlkAt shiftAt vectorAt statusAt conditionCodeAt moveuspAt rawAt noOperandAt rtdAt movecAt trapccAt mullAt packAt casAt cas2At bfAt divlAt
 shape-sound (intoRegister op) ns k h = (made-sound (into-register-made op ns k) h, refl)
 shape-sound movem ns k h = (made-sound (movem-made ns k) h, refl)
 shape-sound (transfer op) ns k h = (made-sound (transfer-made op ns k) h, refl)
@@ -506,22 +506,22 @@ raw-operation-entry LINEA = refl
 raw-operation-entry LINEF = refl
 raw-operation-entry IllegalWord = refl
 
-plain-operation-entry : (op : PlainOperation) → getD shapes (plainOperationPlace op) (intoRegister ADDA) ≡ plain op
-plain-operation-entry RTE = refl
-plain-operation-entry RESET = refl
-plain-operation-entry RTR = refl
-plain-operation-entry TRAPV = refl
-plain-operation-entry ILLEGAL = refl
-plain-operation-entry RTS = refl
-plain-operation-entry NOP = refl
-plain-operation-entry SIMHALT = refl
+no-operand-operation-entry : (op : NoOperandOperation) → getD shapes (noOperandOperationPlace op) (intoRegister ADDA) ≡ plain op
+no-operand-operation-entry RTE = refl
+no-operand-operation-entry RESET = refl
+no-operand-operation-entry RTR = refl
+no-operand-operation-entry TRAPV = refl
+no-operand-operation-entry ILLEGAL = refl
+no-operand-operation-entry RTS = refl
+no-operand-operation-entry NOP = refl
+no-operand-operation-entry SIMHALT = refl
 
 -- an answer carried along the entry of its shape
 Whole : InstructionAt → Instruction → ℕ → Type 0
 Whole r x m = (r .ok ≡ true) × (r .instruction ≡ x) × (r .next ≡ m)
 
 shape-back : (ns : Numbers) (x : Instruction) (k m : ℕ) → Span ns k (fieldsOf x) m → Whole (shapeAtPlace (placeOf x) ns k) x m
-unfolding shapeAtPlace Whole intoRegisterAt movemAt transferAt pairAt quickAt moveqAt immediateIntoAt wordIntoDataAt swapAt exgAt unsizedIntoRegisterAt unsizedOneAt unsizedPairAt extAt oneOperandAt bccAt sccAt dbccAt branchAt linkAt unlkAt shiftAt vectorAt statusAt conditionCodeAt moveuspAt rawAt plainAt rtdAt movecAt trapccAt mullAt packAt casAt cas2At bfAt divlAt
+unfolding shapeAtPlace Whole intoRegisterAt movemAt transferAt pairAt quickAt moveqAt immediateIntoAt wordIntoDataAt swapAt exgAt unsizedIntoRegisterAt unsizedOneAt unsizedPairAt extAt oneOperandAt bccAt sccAt dbccAt branchAt linkAt unlkAt shiftAt vectorAt statusAt conditionCodeAt moveuspAt rawAt noOperandAt rtdAt movecAt trapccAt mullAt packAt casAt cas2At bfAt divlAt
 shape-back ns (IntoRegister op o r s) k m h = rw (register-operation-entry op) (made-whole (into-register-made op ns k) ((o, r), s) m h)
 shape-back ns (MOVEM d s w o) k m h = made-whole (movem-made ns k) (((d, s), w), o) m h
 shape-back ns (Transfer op d s r o) k m h = rw (transfer-operation-entry op) (made-whole (transfer-made op ns k) (((d, s), r), o) m h)
@@ -549,7 +549,7 @@ shape-back ns (Status op w) k m h = rw (status-operation-entry op) (made-whole (
 shape-back ns (ConditionCode op n) k m h = rw (condition-code-operation-entry op) (made-whole (condition-code-made op ns k) n m h)
 shape-back ns (MOVEUSP b r) k m h = made-whole (moveusp-made ns k) (b, r) m h
 shape-back ns (Raw op w) k m h = rw (raw-operation-entry op) (made-whole (raw-made op ns k) w m h)
-shape-back ns (Plain op) k m h = rw (plain-operation-entry op) (refl, refl, h)
+shape-back ns (NoOperand op) k m h = rw (no-operand-operation-entry op) (refl, refl, h)
 shape-back ns (RTD v) k m h = made-whole (rtd-made ns k) v m h
 shape-back ns (MOVEC b w r) k m h = made-whole (movec-made ns k) ((b, w), r) m h
 shape-back ns (TRAPcc c t) k m h = made-whole (trapcc-made ns k) (c, t) m h
@@ -572,8 +572,8 @@ build-complete ns k x s =
     let u = unsignedAt 98 ns k in
     let r = shapeAtPlace (u .value) ns (u .next) in
     let e = instruction-exact ns k .complete x (ns .count) s in
-    (λ i. pick (e .0 i && eqb (r .next) (ns .count)) (built.Instruction (e .1 i)) built.NotInForm)
-    ∙ ap (λ (b : Bool). pick b (built.Instruction x) built.NotInForm) (eq-eqb (r .next) (ns .count) (e .2))
+    (λ i. cond (e .0 i && eqb (r .next) (ns .count)) (built.Instruction (e .1 i)) built.NotInForm)
+    ∙ ap (λ (b : Bool). cond b (built.Instruction x) built.NotInForm) (eq-eqb (r .next) (ns .count) (e .2))
 
 never : {A : Type 0} → false ≡ true → A
 never h = let z : _≡_ {A = ℕ} 0 1 = cc in absurd (omega arith)
@@ -583,7 +583,7 @@ both true b h = (refl, h)
 both false b h = never h
 
 finished : (ns : Numbers) (k : ℕ) (x : Instruction) (u : UnsignedAt) (r : InstructionAt) → Exact ns k formOf (u .ok && r .ok) (r .instruction) (r .next)
-    → (t : Bool) → u .ok && r .ok && eqb (r .next) (ns .count) ≡ t → pick t (built.Instruction (r .instruction)) built.NotInForm ≡ built.Instruction x → Span ns k (formOf x) (ns .count)
+    → (t : Bool) → u .ok && r .ok && eqb (r .next) (ns .count) ≡ t → cond t (built.Instruction (r .instruction)) built.NotInForm ≡ built.Instruction x → Span ns k (formOf x) (ns .count)
 finished ns k x u r E true t e =
     let b = both (u .ok && r .ok) (eqb (r .next) (ns .count)) t in
     let same : r .instruction ≡ x = cc in

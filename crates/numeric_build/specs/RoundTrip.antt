@@ -4,7 +4,7 @@ use mathlib.Core.Path.{_≡_}
 use native.Mathlib.Omega.{arith}
 use lib.ListN.{length, length-append}
 use Rattle.isa.specs.declared.Instruction.{Instruction}
-use Rattle.isa.specs.declared.Instruction.the-variants.{IntoRegister, MOVEM, Transfer, Pair, Quick, MOVEQ, ImmediateInto, WordIntoData, SWAP, EXG, UnsizedIntoRegister, UnsizedOne, UnsizedPair, EXT, OneOperand, Bcc, Scc, DBcc, Branch, Link, UNLK, Shift, Vector, Status, ConditionCode, MOVEUSP, Raw, Plain, RTD, MOVEC, TRAPcc, MULL, Pack, CAS, CAS2, BF, DIVL}
+use Rattle.isa.specs.declared.Instruction.the-variants.{IntoRegister, MOVEM, Transfer, Pair, Quick, MOVEQ, ImmediateInto, WordIntoData, SWAP, EXG, UnsizedIntoRegister, UnsizedOne, UnsizedPair, EXT, OneOperand, Bcc, Scc, DBcc, Branch, Link, UNLK, Shift, Vector, Status, ConditionCode, MOVEUSP, Raw, NoOperand, RTD, MOVEC, TRAPcc, MULL, Pack, CAS, CAS2, BF, DIVL}
 use Rattle.numeric_build.specs.declared.Built.the-variants as built
 use Rattle.numeric_fields.specs.Form.{Inside, numbersFrom}
 use Rattle.numeric_fields.specs.Standing.{stands, field-value-length, operand-length, register-choice-length, register-length, trap-operand-length}
@@ -40,7 +40,7 @@ fields-length (Status op w) = omega arith
 fields-length (ConditionCode op n) = omega arith
 fields-length (MOVEUSP b r) = simp length-append (omega (arith, register-length r))
 fields-length (Raw op w) = omega arith
-fields-length (Plain op) = omega arith
+fields-length (NoOperand op) = omega arith
 fields-length (RTD v) = omega arith
 fields-length (MOVEC b w r) = simp length-append (omega (arith, register-length r))
 fields-length (TRAPcc c t) = simp length-append (omega (arith, trap-operand-length t))

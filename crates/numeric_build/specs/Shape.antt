@@ -39,9 +39,9 @@ use Rattle.isa.specs.declared.VectorOperation.{VectorOperation}
 use Rattle.isa.specs.declared.VectorOperation.the-variants.{TRAP, BKPT}
 use Rattle.isa.specs.declared.RawOperation.{RawOperation}
 use Rattle.isa.specs.declared.RawOperation.the-variants.{LINEA, LINEF, IllegalWord}
-use Rattle.isa.specs.declared.PlainOperation.{PlainOperation}
-use Rattle.isa.specs.declared.PlainOperation.the-variants.{RTE, RESET, RTR, TRAPV, ILLEGAL, RTS, NOP, SIMHALT}
-use Rattle.isa.specs.declared.Instruction.the-variants.{IntoRegister, MOVEM, Transfer, Pair, Quick, MOVEQ, ImmediateInto, WordIntoData, SWAP, EXG, UnsizedIntoRegister, UnsizedOne, UnsizedPair, EXT, OneOperand, Bcc, Scc, DBcc, Branch, Link, UNLK, Shift, Vector, Status, ConditionCode, MOVEUSP, Raw, Plain, RTD, MOVEC, TRAPcc, MULL, Pack, CAS, CAS2, BF, DIVL}
+use Rattle.isa.specs.declared.NoOperandOperation.{NoOperandOperation}
+use Rattle.isa.specs.declared.NoOperandOperation.the-variants.{RTE, RESET, RTR, TRAPV, ILLEGAL, RTS, NOP, SIMHALT}
+use Rattle.isa.specs.declared.Instruction.the-variants.{IntoRegister, MOVEM, Transfer, Pair, Quick, MOVEQ, ImmediateInto, WordIntoData, SWAP, EXG, UnsizedIntoRegister, UnsizedOne, UnsizedPair, EXT, OneOperand, Bcc, Scc, DBcc, Branch, Link, UNLK, Shift, Vector, Status, ConditionCode, MOVEUSP, Raw, NoOperand, RTD, MOVEC, TRAPcc, MULL, Pack, CAS, CAS2, BF, DIVL}
 use Rattle.numeric_fields.specs.declared.Numbers.{Numbers}
 use Rattle.numeric_build.specs.declared.InstructionAt.{InstructionAt}
 use Rattle.numeric_fields.specs.Number.{byteAt, wordAt, longAt, flagAt}
@@ -76,7 +76,7 @@ pub data Shape : Type 0 where
   conditionCode : ConditionCodeOperation → Shape
   moveusp : Shape
   raw : RawOperation → Shape
-  plain : PlainOperation → Shape
+  plain : NoOperandOperation → Shape
   rtd : Shape
   movec : Shape
   trapcc : Shape
@@ -334,9 +334,9 @@ rawAt op ns k =
     let word = wordAt ns k in
     record { ok = word .ok; instruction = Raw op (word .value); next = word .next }
 
-unfoldable pub plainAt : PlainOperation → Numbers → ℕ → InstructionAt
-plainAt op ns k =
-    record { ok = true; instruction = Plain op; next = k }
+unfoldable pub noOperandAt : NoOperandOperation → Numbers → ℕ → InstructionAt
+noOperandAt op ns k =
+    record { ok = true; instruction = NoOperand op; next = k }
 
 unfoldable pub rtdAt : Numbers → ℕ → InstructionAt
 rtdAt ns k =
@@ -467,7 +467,7 @@ shapeAt (status op) ns k = statusAt op ns k
 shapeAt (conditionCode op) ns k = conditionCodeAt op ns k
 shapeAt moveusp ns k = moveuspAt ns k
 shapeAt (raw op) ns k = rawAt op ns k
-shapeAt (plain op) ns k = plainAt op ns k
+shapeAt (plain op) ns k = noOperandAt op ns k
 shapeAt rtd ns k = rtdAt ns k
 shapeAt movec ns k = movecAt ns k
 shapeAt trapcc ns k = trapccAt ns k

@@ -1,14 +1,14 @@
 // The operations of each shape, by their places in its enum.
 ghost use mathlib.Core.Path.{_≡_};
-ghost use Rattle.numeric_build.specs.Operation.{registerOperation, transferOperation, pairOperation, quickOperation, immediateOperation, wordOperation, unsizedRegisterOperation, unsizedOneOperation, unsizedPairOperation, oneOperation, shiftOperation, packOperation, branchOperation, linkOperation, statusOperation, conditionCodeOperation, vectorOperation, rawOperation, plainOperation};
+ghost use Rattle.numeric_build.specs.Operation.{registerOperation, transferOperation, pairOperation, quickOperation, immediateOperation, wordOperation, unsizedRegisterOperation, unsizedOneOperation, unsizedPairOperation, oneOperation, shiftOperation, packOperation, branchOperation, linkOperation, statusOperation, conditionCodeOperation, vectorOperation, rawOperation, noOperandOperation};
 use isa::BranchOperation;
 use isa::ConditionCodeOperation;
 use isa::ImmediateOperation;
 use isa::LinkOperation;
+use isa::NoOperandOperation;
 use isa::OneOperation;
 use isa::PackOperation;
 use isa::PairOperation;
-use isa::PlainOperation;
 use isa::QuickOperation;
 use isa::RawOperation;
 use isa::RegisterOperation;
@@ -238,18 +238,18 @@ pub fn raw_operation(place: u8) -> RawOperation
     }
 }
 
-pub fn plain_operation(place: u8) -> PlainOperation
-    ensures { λ r. ⌜ r ≡ plainOperation place ⌝ }
+pub fn no_operand_operation(place: u8) -> NoOperandOperation
+    ensures { λ r. ⌜ r ≡ noOperandOperation place ⌝ }
 {
     match place {
-        0 => PlainOperation::RTE,
-        1 => PlainOperation::RESET,
-        2 => PlainOperation::RTR,
-        3 => PlainOperation::TRAPV,
-        4 => PlainOperation::ILLEGAL,
-        5 => PlainOperation::RTS,
-        6 => PlainOperation::NOP,
-        7 => PlainOperation::SIMHALT,
-        _ => PlainOperation::RTE,
+        0 => NoOperandOperation::RTE,
+        1 => NoOperandOperation::RESET,
+        2 => NoOperandOperation::RTR,
+        3 => NoOperandOperation::TRAPV,
+        4 => NoOperandOperation::ILLEGAL,
+        5 => NoOperandOperation::RTS,
+        6 => NoOperandOperation::NOP,
+        7 => NoOperandOperation::SIMHALT,
+        _ => NoOperandOperation::RTE,
     }
 }

@@ -1,18 +1,18 @@
 // The instructions, shape by shape: the fields one after the other.
 ghost use mathlib.Core.Path.{_≡_};
 ghost use Prim.Native.Nat.{_<_};
-ghost use Rattle.numeric_build.specs.Operation.{registerOperation, transferOperation, pairOperation, quickOperation, immediateOperation, wordOperation, unsizedRegisterOperation, unsizedOneOperation, unsizedPairOperation, oneOperation, shiftOperation, packOperation, branchOperation, linkOperation, statusOperation, conditionCodeOperation, vectorOperation, rawOperation, plainOperation};
-ghost use Rattle.numeric_build.specs.Shape.{shapeAt, shapeAtPlace, intoRegisterAt, movemAt, transferAt, pairAt, quickAt, moveqAt, immediateIntoAt, wordIntoDataAt, swapAt, exgAt, unsizedIntoRegisterAt, unsizedOneAt, unsizedPairAt, extAt, oneOperandAt, bccAt, sccAt, dbccAt, branchAt, linkAt, unlkAt, shiftAt, vectorAt, statusAt, conditionCodeAt, moveuspAt, rawAt, plainAt, rtdAt, movecAt, trapccAt, mullAt, packAt, casAt, cas2At, bfAt, divlAt};
+ghost use Rattle.numeric_build.specs.Operation.{registerOperation, transferOperation, pairOperation, quickOperation, immediateOperation, wordOperation, unsizedRegisterOperation, unsizedOneOperation, unsizedPairOperation, oneOperation, shiftOperation, packOperation, branchOperation, linkOperation, statusOperation, conditionCodeOperation, vectorOperation, rawOperation, noOperandOperation};
+ghost use Rattle.numeric_build.specs.Shape.{shapeAt, shapeAtPlace, intoRegisterAt, movemAt, transferAt, pairAt, quickAt, moveqAt, immediateIntoAt, wordIntoDataAt, swapAt, exgAt, unsizedIntoRegisterAt, unsizedOneAt, unsizedPairAt, extAt, oneOperandAt, bccAt, sccAt, dbccAt, branchAt, linkAt, unlkAt, shiftAt, vectorAt, statusAt, conditionCodeAt, moveuspAt, rawAt, noOperandAt, rtdAt, movecAt, trapccAt, mullAt, packAt, casAt, cas2At, bfAt, divlAt};
 ghost use Rattle.numeric_build.specs.Table.{shapeOf};
 use crate::InstructionAt;
 use crate::operation::branch_operation;
 use crate::operation::condition_code_operation;
 use crate::operation::immediate_operation;
 use crate::operation::link_operation;
+use crate::operation::no_operand_operation;
 use crate::operation::one_operation;
 use crate::operation::pack_operation;
 use crate::operation::pair_operation;
-use crate::operation::plain_operation;
 use crate::operation::quick_operation;
 use crate::operation::raw_operation;
 use crate::operation::register_operation;
@@ -507,13 +507,13 @@ fn raw_at(place: u8, numbers: Numbers, k: usize) -> InstructionAt
     }
 }
 
-fn plain_at(place: u8, numbers: Numbers, k: usize) -> InstructionAt
-    ensures { λ r. ⌜ r ≡ plainAt (plainOperation place) numbers k ⌝ }
+fn no_operand_at(place: u8, numbers: Numbers, k: usize) -> InstructionAt
+    ensures { λ r. ⌜ r ≡ noOperandAt (noOperandOperation place) numbers k ⌝ }
 {
-    let operation = plain_operation(place);
+    let operation = no_operand_operation(place);
     InstructionAt {
         ok: true,
-        instruction: Instruction::Plain(operation),
+        instruction: Instruction::NoOperand(operation),
         next: k,
     }
 }
@@ -956,7 +956,7 @@ fn by_later_shape(shape: u8, operation: u8, numbers: Numbers, k: usize) -> Instr
         24 => condition_code_at(operation, numbers, k),
         25 => moveusp_at(numbers, k),
         26 => raw_at(operation, numbers, k),
-        27 => plain_at(operation, numbers, k),
+        27 => no_operand_at(operation, numbers, k),
         28 => rtd_at(numbers, k),
         29 => movec_at(numbers, k),
         30 => trapcc_at(numbers, k),

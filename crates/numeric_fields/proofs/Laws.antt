@@ -1,7 +1,7 @@
 -- Laws of the numbers. Assumes nothing.
 use Prim.Native.Nat.{ℕ, zero, suc, _+_, _-_, _≤_, _<_}
 use mathlib.Core.Path.{_≡_, refl, sym, ap, _∙_}
-use mathlib.Core.Bool.{Bool, true, false, not, _&&_, _||_, and-true, and-false, and-assoc, or-false, or-true}
+use mathlib.Core.Bool.{Bool, true, false, not, _&&_, _||_, and-true, and-false, and-assoc, or-false, or-true, cond}
 use native.Mathlib.Omega.{arith}
 use lib.Dec.{ltb, leb, eqb}
 use lib.ListN.{getD}
@@ -9,7 +9,7 @@ use lib.IntN.{ℤ, pos, negsuc, natAbs}
 use borrow.Author.Tests.{ltb-true, leb-true, lt-ltb, le-ltb, ne-eqb}
 use Rattle.numeric_fields.specs.declared.Numbers.{Numbers}
 use Rattle.numeric_fields.specs.declared.UnsignedAt.{UnsignedAt}
-use Rattle.numeric_fields.specs.Number.{pick, minus, numberAt, present, upTo, isI32, unsignedAt, signedAt}
+use Rattle.numeric_fields.specs.Number.{minus, numberAt, present, upTo, isI32, unsignedAt, signedAt}
 
 -- what is left after n numbers
 abbrev pub Rest : ℕ → ℕ → Type 0
@@ -33,11 +33,11 @@ abs-minus (suc m) = refl
 
 -- a number that is written as a magnitude and a sign
 module _ (m : ℕ) where
-  abs-signed : (negative : Bool) → natAbs (pick negative (minus m) (pos m)) ≡ m
+  abs-signed : (negative : Bool) → natAbs (cond negative (minus m) (pos m)) ≡ m
   abs-signed true = abs-minus m
   abs-signed false = refl
 
-  up-to : (top : ℕ) (negative : Bool) → leb m top && (not negative || eqb m 0) ≡ upTo top (pick negative (minus m) (pos m))
+  up-to : (top : ℕ) (negative : Bool) → leb m top && (not negative || eqb m 0) ≡ upTo top (cond negative (minus m) (pos m))
   up-to top false = and-true (leb m top)
   up-to top true = up-to-minus top m
     where
@@ -75,7 +75,7 @@ pub unsigned-le : (top : ℕ) (ns : Numbers) (k : ℕ) → unsignedAt top ns k .
 unfolding unsignedAt
 unsigned-le top ns k = go (present ns k) (upTo top (numberAt ns k)) refl
   where
-    go : (p t : Bool) → upTo top (numberAt ns k) ≡ t → pick {A = UnsignedAt} (p && t) (record { ok = true; value = natAbs (numberAt ns k); next = k + 1 }) (record { ok = false; value = 0; next = k }) .value ≤ top
+    go : (p t : Bool) → upTo top (numberAt ns k) ≡ t → cond {A = UnsignedAt} (p && t) (record { ok = true; value = natAbs (numberAt ns k); next = k + 1 }) (record { ok = false; value = 0; next = k }) .value ≤ top
     go true true e = up-to-le top (numberAt ns k) e
     go true false e = omega arith
     go false t e = omega arith
@@ -91,7 +91,7 @@ minusTest there m negative = there && negative && ltb 0 m && leb m 2147483648
 abbrev pub plusTest : Bool → ℕ → Bool → Bool
 plusTest there m negative = there && ltb m 2147483648 && (not negative || eqb m 0)
 
-i32-test : (there : Bool) (m : ℕ) (negative : Bool) → minusTest there m negative || plusTest there m negative ≡ there && isI32 (pick negative (minus m) (pos m))
+i32-test : (there : Bool) (m : ℕ) (negative : Bool) → minusTest there m negative || plusTest there m negative ≡ there && isI32 (cond negative (minus m) (pos m))
 i32-test false m negative = refl
 i32-test true m false = and-true (ltb m 2147483648)
 i32-test true zero true = refl
@@ -107,12 +107,12 @@ pub plus-bound : (there : Bool) (m : ℕ) (negative : Bool) → plusTest there m
 plus-bound true m negative h = ltb-true m 2147483648 (both (ltb m 2147483648) (not negative || eqb m 0) h .0)
 plus-bound false m negative h = never h
 
-minus-value : (there : Bool) (m : ℕ) (negative : Bool) → minusTest there m negative ≡ true → pick negative (minus m) (pos m) ≡ minus m
+minus-value : (there : Bool) (m : ℕ) (negative : Bool) → minusTest there m negative ≡ true → cond negative (minus m) (pos m) ≡ minus m
 minus-value true m true h = refl
 minus-value true m false h = never h
 minus-value false m negative h = never h
 
-plus-value : (there : Bool) (m : ℕ) (negative : Bool) → plusTest there m negative ≡ true → pick negative (minus m) (pos m) ≡ pos m
+plus-value : (there : Bool) (m : ℕ) (negative : Bool) → plusTest there m negative ≡ true → cond negative (minus m) (pos m) ≡ pos m
 plus-value true m false h = refl
 plus-value true zero true h = refl
 plus-value true (suc m) true h = never (sym (ne-eqb (suc m) 0 (λ e. omega arith)) ∙ both (ltb (suc m) 2147483648) (eqb (suc m) 0) h .1)

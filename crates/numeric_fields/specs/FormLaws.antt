@@ -1,7 +1,7 @@
 -- What a reader accepts is exactly what the form says.
 use Prim.Native.Nat.{ℕ, zero, suc, _+_, _-_, _^_, _≤_, _<_}
 use mathlib.Core.Path.{_≡_, refl, sym, ap, _∙_}
-use mathlib.Core.Bool.{Bool, true, false, _&&_}
+use mathlib.Core.Bool.{Bool, true, false, _&&_, cond}
 use mathlib.Core.List.{List, [], _∷_, _++_}
 use native.Mathlib.Omega.{arith}
 use native.Mathlib.Nat.{add-zero}
@@ -41,7 +41,7 @@ use Rattle.numeric_fields.specs.declared.Numbers.{Numbers}
 use Rattle.numeric_fields.specs.declared.UnsignedAt.{UnsignedAt}
 use Rattle.numeric_fields.specs.declared.SignedAt.{SignedAt}
 use Rattle.numeric_fields.specs.declared.OperandAt.{OperandAt}
-use Rattle.numeric_fields.specs.Number.{pick, numberAt, present, upTo, isI32, unsignedAt, signedAt, byteAt, wordAt, longAt, flagAt}
+use Rattle.numeric_fields.specs.Number.{numberAt, present, upTo, isI32, unsignedAt, signedAt, byteAt, wordAt, longAt, flagAt}
 use Rattle.numeric_fields.specs.Part.{sizeOf, sizeAt, targetDirectionOf, targetDirectionAt, addressWidthOf, addressWidthAt, conditionOf, conditionAt, branchSizeOf, branchSizeAt, shiftDirectionOf, shiftDirectionAt, signOf, signAt, bitFieldOperationOf, bitFieldOperationAt, registerOf, registerAt, indexAt, fieldValueOf, fieldValueAt, bitFieldAt, trapOperandOf, trapOperandAt, registerChoiceOf, registerChoiceAt}
 use Rattle.numeric_fields.specs.Operand.{immediateAt, registerOperandAt, indirectAt, postIndirectAt, preIndirectAt, indirectDisplacementAt, indirectIndexAt, pcDisplacementAt, pcIndexAt, extendedAt, absoluteAt, operandOf, operandAt}
 use Rattle.numeric_fields.specs.Form.{Entry, unsigned, Span, unsignedForm, byteForm, wordForm, longForm, signedForm, flagPlace, flagForm, sizePlace, sizeForm, targetDirectionPlace, targetDirectionForm, addressWidthPlace, addressWidthForm, conditionPlace, conditionForm, branchSizePlace, branchSizeForm, shiftDirectionPlace, shiftDirectionForm, signPlace, signForm, bitFieldOperationPlace, bitFieldOperationForm, registerPlace, registerFields, registerForm, fieldValuePlace, fieldValueFields, fieldValueForm, trapOperandPlace, trapOperandFields, trapOperandForm, registerChoicePlace, registerChoiceFields, registerChoiceForm, operandPlace, operandFields, operandForm, indexForm, bitFieldForm}
@@ -86,7 +86,7 @@ unfolding unsignedAt
 unsigned-sound top ns k h = go (present ns k) refl (numberAt ns k) refl (upTo top (numberAt ns k)) refl h
   where
     read : Bool → ℤ → Bool → UnsignedAt
-    read p z t = pick (p && t) (record { ok = true; value = natAbs z; next = k + 1 }) (record { ok = false; value = 0; next = k })
+    read p z t = cond (p && t) (record { ok = true; value = natAbs z; next = k + 1 }) (record { ok = false; value = 0; next = k })
 
     go : (p : Bool) → present ns k ≡ p → (z : ℤ) → numberAt ns k ≡ z → (t : Bool) → upTo top z ≡ t → read p z t .ok ≡ true → Span ns k (unsignedForm top (read p z t .value)) (read p z t .next)
     go true hp (pos n) hz true ht h = (hp, hz, ht, refl)
@@ -111,7 +111,7 @@ unfolding signedAt
 signed-sound ns k h = go (present ns k) refl (isI32 (numberAt ns k)) refl h
   where
     read : Bool → Bool → SignedAt
-    read p t = pick (p && t) (record { ok = true; value = numberAt ns k; next = k + 1 }) (record { ok = false; value = pos 0; next = k })
+    read p t = cond (p && t) (record { ok = true; value = numberAt ns k; next = k + 1 }) (record { ok = false; value = pos 0; next = k })
 
     go : (p : Bool) → present ns k ≡ p → (t : Bool) → isI32 (numberAt ns k) ≡ t → read p t .ok ≡ true → Span ns k (signedForm (read p t .value)) (read p t .next)
     go true hp true ht h = (hp, refl, ht, refl)

@@ -1,7 +1,7 @@
 -- The numbers, and a number read from a place: whether it is there and inside its declared type, its value, and the next place.
 -- What is not there leaves the place and the value 0.
 use Prim.Native.Nat.{ℕ, zero, suc, _+_, _-_, _^_}
-use mathlib.Core.Bool.{Bool, true, false, _&&_}
+use mathlib.Core.Bool.{Bool, true, false, _&&_, cond}
 use lib.Dec.{ltb, leb, eqb}
 use lib.ListN.{getD}
 use lib.IntN.{ℤ, pos, negsuc, natAbs}
@@ -13,17 +13,13 @@ use Rattle.numeric_fields.specs.declared.WordAt.{WordAt}
 use Rattle.numeric_fields.specs.declared.LongAt.{LongAt}
 use Rattle.numeric_fields.specs.declared.FlagAt.{FlagAt}
 
-abbrev pub pick : {A : Type 0} → Bool → A → A → A
-pick true a b = a
-pick false a b = b
-
 abbrev pub minus : ℕ → ℤ
 minus zero = pos zero
 minus (suc n) = negsuc n
 
 -- number k, which stands where k is below the count and 24
 abbrev pub numberAt : Numbers → ℕ → ℤ
-numberAt ns k = pick (getD (ns .negative) k false) (minus (getD (ns .magnitude) k 0)) (pos (getD (ns .magnitude) k 0))
+numberAt ns k = cond (getD (ns .negative) k false) (minus (getD (ns .magnitude) k 0)) (pos (getD (ns .magnitude) k 0))
 
 abbrev pub present : Numbers → ℕ → Bool
 present ns k = ltb k 24 && ltb k (ns .count)
@@ -39,13 +35,13 @@ isI32 (negsuc n) = ltb n (2 ^ 31)
 
 unfoldable pub unsignedAt : ℕ → Numbers → ℕ → UnsignedAt
 unsignedAt top ns k =
-    pick (present ns k && upTo top (numberAt ns k))
+    cond (present ns k && upTo top (numberAt ns k))
     (record { ok = true; value = natAbs (numberAt ns k); next = k + 1 })
     (record { ok = false; value = 0; next = k })
 
 unfoldable pub signedAt : Numbers → ℕ → SignedAt
 signedAt ns k =
-    pick (present ns k && isI32 (numberAt ns k))
+    cond (present ns k && isI32 (numberAt ns k))
     (record { ok = true; value = numberAt ns k; next = k + 1 })
     (record { ok = false; value = pos 0; next = k })
 

@@ -1,7 +1,7 @@
 -- Entries written down as numbers stand there.
 use Prim.Native.Nat.{ℕ, zero, suc, _+_, _≤_, _<_}
 use mathlib.Core.Path.{_≡_, refl, sym, ap, _∙_}
-use mathlib.Core.Bool.{true, false}
+use mathlib.Core.Bool.{true, false, cond}
 use mathlib.Core.List.{List, [], _∷_, _++_, map, append-assoc}
 use native.Mathlib.Omega.{arith}
 use lib.ListN.{length, getD, length-append, List·getD-map}
@@ -17,7 +17,7 @@ use Rattle.isa.specs.declared.RegisterChoice.{RegisterChoice}
 use Rattle.isa.specs.declared.RegisterChoice.the-variants as choice
 use Rattle.isa.specs.declared.Operand.{Operand}
 use Rattle.isa.specs.declared.Operand.the-variants.{Immediate, Register, Indirect, PostIndirect, PreIndirect, IndirectDisplacement, IndirectIndex, PcDisplacement, PcIndex, Extended, Absolute}
-use Rattle.numeric_fields.specs.Number.{pick, minus, numberAt, present}
+use Rattle.numeric_fields.specs.Number.{minus, numberAt, present}
 use Rattle.numeric_fields.specs.Form.{Entry, unsigned, numberOf, Inside, Span, isNegative, pad, numbersFrom, registerForm, fieldValueForm, trapOperandForm, registerChoiceForm, operandForm}
 
 getD-pad : {A : Type 0} (n : ℕ) (d : A) (xs : List A) (k : ℕ) → k < n → getD (pad n d xs) k d ≡ getD xs k d
@@ -27,14 +27,14 @@ getD-pad (suc n) d [] (suc k) h = getD-pad n d [] k (omega arith)
 getD-pad (suc n) d (x ∷ xs) zero h = refl
 getD-pad (suc n) d (x ∷ xs) (suc k) h = getD-pad n d xs k (omega arith)
 
-signed-again : (z : ℤ) → pick (isNegative z) (minus (natAbs z)) (pos (natAbs z)) ≡ z
+signed-again : (z : ℤ) → cond (isNegative z) (minus (natAbs z)) (pos (natAbs z)) ≡ z
 signed-again (pos n) = refl
 signed-again (negsuc n) = refl
 
 number-of : (es : List Entry) (k : ℕ) → k < 24 → numberAt (numbersFrom es) k ≡ numberOf (getD es k (unsigned 0 0))
 unfolding numbersFrom
 number-of es k h =
-    (λ i. pick (n i) (minus (m i)) (pos (m i))) ∙ signed-again (numberOf (getD es k (unsigned 0 0)))
+    (λ i. cond (n i) (minus (m i)) (pos (m i))) ∙ signed-again (numberOf (getD es k (unsigned 0 0)))
   where
     n : getD (pad 24 false (map (λ e. isNegative (numberOf e)) es)) k false ≡ isNegative (numberOf (getD es k (unsigned 0 0)))
     n = getD-pad 24 false (map (λ e. isNegative (numberOf e)) es) k h ∙ List·getD-map (λ e. isNegative (numberOf e)) es k (unsigned 0 0)

@@ -1,18 +1,17 @@
 -- Numbers, one after the other.
 use Prim.Native.Nat.{ℕ, _+_}
-use mathlib.Core.Bool.{Bool, false}
+use mathlib.Core.Bool.{Bool, false, cond}
 use mathlib.Core.List.{List, [], _∷_}
 use lib.Dec.{ltb}
 use lib.ListN.{set}
 use lib.IntN.{ℤ, natAbs}
 use Rattle.numeric_fields.specs.declared.Numbers.{Numbers}
-use Rattle.numeric_fields.specs.Number.{pick}
 use Rattle.numeric_fields.specs.Form.{Entry, numberOf, isNegative, pad}
 
 -- n with one number more, where it has room
 unfoldable pub stored : Numbers → Bool → ℕ → Numbers
 stored n negative magnitude =
-    pick (ltb (n .count) 24)
+    cond (ltb (n .count) 24)
     (record { count = n .count + 1; negative = set (n .negative) (n .count) negative; magnitude = set (n .magnitude) (n .count) magnitude })
     n
 

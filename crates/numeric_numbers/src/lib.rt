@@ -56,7 +56,7 @@ fn by_shape(instruction: Instruction) -> Numbers
         Instruction::ConditionCode(op, v) => shape::condition_code(op, v),
         Instruction::MOVEUSP { to_usp, register } => shape::moveusp(to_usp, register),
         Instruction::Raw(op, w) => shape::raw(op, w),
-        Instruction::Plain(op) => shape::plain(op),
+        Instruction::NoOperand(op) => shape::no_operand(op),
         Instruction::RTD(d) => shape::rtd(d),
         Instruction::MOVEC {
             to_control,

@@ -1,14 +1,14 @@
 // The operations' places among the instructions of encoded.rs.
 ghost use mathlib.Core.Path.{_≡_};
-ghost use Rattle.numeric_build.specs.Form.{registerOperationPlace, transferOperationPlace, pairOperationPlace, quickOperationPlace, immediateOperationPlace, wordOperationPlace, unsizedRegisterOperationPlace, unsizedOneOperationPlace, unsizedPairOperationPlace, oneOperationPlace, shiftOperationPlace, packOperationPlace, branchOperationPlace, linkOperationPlace, statusOperationPlace, conditionCodeOperationPlace, vectorOperationPlace, rawOperationPlace, plainOperationPlace};
+ghost use Rattle.numeric_build.specs.Form.{registerOperationPlace, transferOperationPlace, pairOperationPlace, quickOperationPlace, immediateOperationPlace, wordOperationPlace, unsizedRegisterOperationPlace, unsizedOneOperationPlace, unsizedPairOperationPlace, oneOperationPlace, shiftOperationPlace, packOperationPlace, branchOperationPlace, linkOperationPlace, statusOperationPlace, conditionCodeOperationPlace, vectorOperationPlace, rawOperationPlace, noOperandOperationPlace};
 use isa::BranchOperation;
 use isa::ConditionCodeOperation;
 use isa::ImmediateOperation;
 use isa::LinkOperation;
+use isa::NoOperandOperation;
 use isa::OneOperation;
 use isa::PackOperation;
 use isa::PairOperation;
-use isa::PlainOperation;
 use isa::QuickOperation;
 use isa::RawOperation;
 use isa::RegisterOperation;
@@ -220,17 +220,17 @@ pub fn raw_operation_place(operation: RawOperation) -> u64
     }
 }
 
-pub fn plain_operation_place(operation: PlainOperation) -> u64
-    ensures { λ r. ⌜ r ≡ plainOperationPlace operation ⌝ }
+pub fn no_operand_operation_place(operation: NoOperandOperation) -> u64
+    ensures { λ r. ⌜ r ≡ noOperandOperationPlace operation ⌝ }
 {
     match operation {
-        PlainOperation::RTE => 57,
-        PlainOperation::RESET => 59,
-        PlainOperation::RTR => 75,
-        PlainOperation::TRAPV => 77,
-        PlainOperation::ILLEGAL => 78,
-        PlainOperation::RTS => 80,
-        PlainOperation::NOP => 81,
-        PlainOperation::SIMHALT => 82,
+        NoOperandOperation::RTE => 57,
+        NoOperandOperation::RESET => 59,
+        NoOperandOperation::RTR => 75,
+        NoOperandOperation::TRAPV => 77,
+        NoOperandOperation::ILLEGAL => 78,
+        NoOperandOperation::RTS => 80,
+        NoOperandOperation::NOP => 81,
+        NoOperandOperation::SIMHALT => 82,
     }
 }

@@ -1,6 +1,6 @@
 // The numbers of an instruction, shape by shape: its place, then its fields.
 ghost use mathlib.Core.Path.{_≡_};
-ghost use Rattle.isa.specs.declared.Instruction.the-variants.{IntoRegister, MOVEM, Transfer, Pair, Quick, MOVEQ, ImmediateInto, WordIntoData, SWAP, EXG, UnsizedIntoRegister, UnsizedOne, UnsizedPair, EXT, OneOperand, Bcc, Scc, DBcc, Branch, Link, UNLK, Shift, Vector, Status, ConditionCode, MOVEUSP, Raw, Plain, RTD, MOVEC, TRAPcc, MULL, Pack, CAS, CAS2, BF, DIVL};
+ghost use Rattle.isa.specs.declared.Instruction.the-variants.{IntoRegister, MOVEM, Transfer, Pair, Quick, MOVEQ, ImmediateInto, WordIntoData, SWAP, EXG, UnsizedIntoRegister, UnsizedOne, UnsizedPair, EXT, OneOperand, Bcc, Scc, DBcc, Branch, Link, UNLK, Shift, Vector, Status, ConditionCode, MOVEUSP, Raw, NoOperand, RTD, MOVEC, TRAPcc, MULL, Pack, CAS, CAS2, BF, DIVL};
 ghost use Rattle.numeric_build.specs.Form.{formOf};
 ghost use Rattle.numeric_numbers.specs.Pushed.{pushedAll, none};
 use crate::number::begin;
@@ -13,10 +13,10 @@ use crate::operation::branch_operation_place;
 use crate::operation::condition_code_operation_place;
 use crate::operation::immediate_operation_place;
 use crate::operation::link_operation_place;
+use crate::operation::no_operand_operation_place;
 use crate::operation::one_operation_place;
 use crate::operation::pack_operation_place;
 use crate::operation::pair_operation_place;
-use crate::operation::plain_operation_place;
 use crate::operation::quick_operation_place;
 use crate::operation::raw_operation_place;
 use crate::operation::register_operation_place;
@@ -47,11 +47,11 @@ use isa::Condition;
 use isa::ConditionCodeOperation;
 use isa::ImmediateOperation;
 use isa::LinkOperation;
+use isa::NoOperandOperation;
 use isa::OneOperation;
 use isa::Operand;
 use isa::PackOperation;
 use isa::PairOperation;
-use isa::PlainOperation;
 use isa::QuickOperation;
 use isa::RawOperation;
 use isa::RegisterChoice;
@@ -330,10 +330,10 @@ pub fn raw(operation: RawOperation, value: u16) -> Numbers
     push_word(n, value)
 }
 
-pub fn plain(operation: PlainOperation) -> Numbers
-    ensures { λ r. ⌜ r ≡ pushedAll none (formOf (Plain operation)) ⌝ }
+pub fn no_operand(operation: NoOperandOperation) -> Numbers
+    ensures { λ r. ⌜ r ≡ pushedAll none (formOf (NoOperand operation)) ⌝ }
 {
-    begin(plain_operation_place(operation))
+    begin(no_operand_operation_place(operation))
 }
 
 pub fn rtd(displacement: u32) -> Numbers

@@ -1,7 +1,7 @@
 -- The groups of operation words whose fields form an instruction whatever their operands are.
 use mathlib.Core.Path.{_≡_}
-use Rattle.read_spec.specs.declared.Shape.{Shape}
-use Rattle.read_spec.specs.declared.Shape.the-variants.{Unused, DynamicBit, Compare}
+use Rattle.read_spec.specs.declared.Group.{Group}
+use Rattle.read_spec.specs.declared.Group.the-variants.{Unused, DynamicBit, Compare}
 
-abbrev pub Forms : Shape → Type 0
+abbrev pub Forms : Group → Type 0
 Forms s = (s ≡ Unused → ⊥) × (s ≡ DynamicBit → ⊥) × (s ≡ Compare → ⊥)

@@ -5,65 +5,65 @@ use mathlib.Core.List.{List, [], _∷_}
 use native.Mathlib.Omega.{arith}
 use lib.ListN.{getD, length}
 use Rattle.isa.specs.declared.Instruction.{Instruction}
-use Rattle.read_spec.specs.declared.Shape.{Shape}
-use Rattle.read_spec.specs.declared.Fields.{Fields}
+use Rattle.read_spec.specs.declared.Group.{Group}
+use Rattle.read_spec.specs.declared.Tail.{Tail}
 use Rattle.read_spec.specs.declared.Reading.{Reading}
 use Rattle.read_spec.specs.declared.Reading.the-variants.{Short, Nothing}
 use Rattle.read_spec.specs.Tree.{Tree, ret, fail, more, run, Out, got, short, none, At, runAt}
-use Rattle.read_spec.specs.Map.{shapeAt, shapeOf}
-use Rattle.read_spec.specs.Layout.{fieldsTree}
+use Rattle.read_spec.specs.Map.{groupAt, groupOf}
+use Rattle.read_spec.specs.Layout.{tailTree}
 use Rattle.read_spec.specs.Layouts.{layoutOf}
-use Rattle.read_spec.specs.Formed.{formed}
-use Rattle.read_spec.specs.Read.{shapeTree, readingOf, readOf}
-use Rattle.read_spec.specs.Depth.{Within, depth-within, fields-depth}
+use Rattle.read_spec.specs.Decoded.{decoded}
+use Rattle.read_spec.specs.Read.{groupTree, readingOf, readOf}
+use Rattle.read_spec.specs.Depth.{Within, depth-within, tail-depth}
 use Rattle.read_operands.specs.declared.Followed.{Followed}
 use Rattle.read_operands.specs.declared.Followed.the-variants.{Got}
 use Rattle.read_operands.specs.declared.Followed.the-variants as follow
 use Rattle.read_operands.specs.Read.{followed}
 use Rattle.read_opcodes_0_7.specs.ReadAs.{readAs}
 use Rattle.read_operand_laws.specs.TreeLaws.{after, run-bind, run-at, atOf}
-use Rattle.read_laws.specs.FormedLaws.{Flat, formed-flat}
+use Rattle.read_laws.specs.DecodedLaws.{Flat, decoded-flat}
 
 -- at most 13 words are read, so a place modulo 16 is the place
-abbrev pub formedAs : ℕ → Shape → ℕ → ℕ → ℕ → ℕ → Followed → Reading
-formedAs a s line x opmode ea (Got f n) = readAs (formed a s line x opmode ea (f .value) (f .source) (f .destination)) (2 * (n % 16))
-formedAs a s line x opmode ea follow.Short = Short
-formedAs a s line x opmode ea follow.Nothing = Nothing
+abbrev pub decodedAs : ℕ → Group → ℕ → ℕ → ℕ → ℕ → Followed → Reading
+decodedAs a s line x opmode ea (Got f n) = readAs (decoded a s line x opmode ea (f .value) (f .source) (f .destination)) (2 * (n % 16))
+decodedAs a s line x opmode ea follow.Short = Short
+decodedAs a s line x opmode ea follow.Nothing = Nothing
 
-abbrev pub formedAt : ℕ → Shape → ℕ → ℕ → ℕ → ℕ → At Fields → Reading
-formedAt a s line x opmode ea r = formedAs a s line x opmode ea (followed r)
+abbrev pub decodedAt : ℕ → Group → ℕ → ℕ → ℕ → ℕ → At Tail → Reading
+decodedAt a s line x opmode ea r = decodedAs a s line x opmode ea (followed r)
 
 -- the words behind the operation word w of a run
 unfoldable pub followingAt : ℕ → List ℕ → ℕ → Reading
 followingAt a ws w =
-    formedAt a (shapeOf (w / 64)) (w / 4096) (w / 512 % 8) (w / 64 % 8) (w % 64)
-    (runAt (fieldsTree (layoutOf (shapeOf (w / 64)) (w / 4096) (w / 512 % 8) (w / 64 % 8) (w % 64))) a ws 1)
+    decodedAt a (groupOf (w / 64)) (w / 4096) (w / 512 % 8) (w / 64 % 8) (w % 64)
+    (runAt (tailTree (layoutOf (groupOf (w / 64)) (w / 4096) (w / 512 % 8) (w / 64 % 8) (w % 64))) a ws 1)
 
 flat-read : (t : Tree Instruction) → Flat t → (a m : ℕ) (r : List ℕ) → m ≤ 13 → readingOf (run t a m r) ≡ readAs t (2 * (m % 16))
 flat-read (ret i) h a m r l = let e : m % 16 ≡ m = omega arith in rw e
 flat-read fail h a m r l = refl
 flat-read (more k) h a m r l = absurd h
 
-module _ (a : ℕ) (s : Shape) (line x opmode ea : ℕ) where
-  formed-tree : Fields → Tree Instruction
-  formed-tree f = formed a s line x opmode ea (f .value) (f .source) (f .destination)
+module _ (a : ℕ) (s : Group) (line x opmode ea : ℕ) where
+  decoded-tree : Tail → Tree Instruction
+  decoded-tree f = decoded a s line x opmode ea (f .value) (f .source) (f .destination)
 
-  read-after : (o : Out Fields) → Within (atOf o) 13 → readingOf (after o a (λ f. formed a s line x opmode ea (f .value) (f .source) (f .destination))) ≡ formedAt a s line x opmode ea (atOf o)
-  read-after (got f m r) h = flat-read (formed a s line x opmode ea (f .value) (f .source) (f .destination)) (formed-flat a s line x opmode ea (f .value) (f .source) (f .destination)) a m r h
+  read-after : (o : Out Tail) → Within (atOf o) 13 → readingOf (after o a (λ f. decoded a s line x opmode ea (f .value) (f .source) (f .destination))) ≡ decodedAt a s line x opmode ea (atOf o)
+  read-after (got f m r) h = flat-read (decoded a s line x opmode ea (f .value) (f .source) (f .destination)) (decoded-flat a s line x opmode ea (f .value) (f .source) (f .destination)) a m r h
   read-after short h = refl
   read-after none h = refl
 
-  read-shape : (w : ℕ) (ws : List ℕ) → readingOf (run (shapeTree a s line x opmode ea) a 1 ws) ≡ formedAt a s line x opmode ea (runAt (fieldsTree (layoutOf s line x opmode ea)) a (w ∷ ws) 1)
-  read-shape w ws =
+  read-group : (w : ℕ) (ws : List ℕ) → readingOf (run (groupTree a s line x opmode ea) a 1 ws) ≡ decodedAt a s line x opmode ea (runAt (tailTree (layoutOf s line x opmode ea)) a (w ∷ ws) 1)
+  read-group w ws =
       let l = layoutOf s line x opmode ea in
-      let t = fieldsTree l in
+      let t = tailTree l in
       let p : runAt t a (w ∷ ws) 1 ≡ atOf (run t a 1 ws) = run-at t a (w ∷ ws) 1 (omega arith) in
-      let h : Within (runAt t a (w ∷ ws) 1) 13 = depth-within t 12 (fields-depth l) a (w ∷ ws) 1 in
-      ap readingOf (run-bind t _ a 1 ws) ∙ read-after (run t a 1 ws) (rw p at h) ∙ ap (formedAt a s line x opmode ea) (sym p)
+      let h : Within (runAt t a (w ∷ ws) 1) 13 = depth-within t 12 (tail-depth l) a (w ∷ ws) 1 in
+      ap readingOf (run-bind t _ a 1 ws) ∙ read-after (run t a 1 ws) (rw p at h) ∙ ap (decodedAt a s line x opmode ea) (sym p)
 
-shape-same : (w : ℕ) → shapeOf (w / 64) ≡ shapeAt (w / 4096) (w / 512 % 8) (w / 64 % 8)
-unfolding shapeOf
-shape-same w =
+group-same : (w : ℕ) → groupOf (w / 64) ≡ groupAt (w / 4096) (w / 512 % 8) (w / 64 % 8)
+unfolding groupOf
+group-same w =
     let p : w / 64 / 64 ≡ w / 4096 = omega arith in
     let q : w / 64 / 8 ≡ w / 512 = omega arith in
     rw (p, q)
@@ -77,4 +77,4 @@ read-none a (w ∷ ws) h = absurd (omega (arith, h))
 pub read-some : (a : ℕ) (ws : List ℕ) → 0 < length ws → readOf ws a ≡ followingAt a ws (getD ws 0 0)
 unfolding readOf followingAt
 read-some a [] h = absurd (omega arith)
-read-some a (w ∷ ws) h = rw (shape-same w) (read-shape a (shapeAt (w / 4096) (w / 512 % 8) (w / 64 % 8)) (w / 4096) (w / 512 % 8) (w / 64 % 8) (w % 64) w ws)
+read-some a (w ∷ ws) h = rw (group-same w) (read-group a (groupAt (w / 4096) (w / 512 % 8) (w / 64 % 8)) (w / 4096) (w / 512 % 8) (w / 64 % 8) (w % 64) w ws)

@@ -2,14 +2,14 @@
 ghost use mathlib.Core.Path.{_≡_};
 ghost use Prim.Native.Nat.{_<_};
 ghost use Rattle.read_spec.specs.Read.{readOf};
-ghost use Rattle.read_instruction.specs.ReadAt.{formedAs, followingAt};
+ghost use Rattle.read_instruction.specs.ReadAt.{decodedAs, followingAt};
 use read_operands::Followed;
+use read_spec::Group;
 use read_spec::Reading;
-use read_spec::Shape;
 
 // The instruction that an operation word and what was read behind it form.
-fn formed(
-    shape: Shape,
+fn decoded(
+    group: Group,
     address: u32,
     line: u8,
     x: u8,
@@ -18,7 +18,7 @@ fn formed(
     read: Followed,
 ) -> Reading
     requires { ⌜ (line < 16) × (x < 8) × (opmode < 8) × (ea < 64) ⌝ }
-    ensures { λ r. ⌜ r ≡ formedAs address shape line x opmode ea read ⌝ }
+    ensures { λ r. ⌜ r ≡ decodedAs address group line x opmode ea read ⌝ }
 {
     match read {
         Followed::Got(fields, at) => {
@@ -26,7 +26,7 @@ fn formed(
             let destination = fields.destination;
             let length = 2 * ((at % 16) as u32);
             read_forming::form(
-                shape,
+                group,
                 address,
                 line,
                 x,
@@ -51,10 +51,10 @@ fn read_word(words: &[u16], address: u32, w: u16) -> Reading
     let x = (w / 512 % 8) as u8;
     let opmode = (w / 64 % 8) as u8;
     let ea = (w % 64) as u8;
-    let shape = read_layouts::map::shape(w / 64);
-    let layout = read_layouts::layout(shape, line, x, opmode, ea);
+    let group = read_layouts::map::group(w / 64);
+    let layout = read_layouts::layout(group, line, x, opmode, ea);
     let read = read_operands::follow(words, address, layout);
-    formed(shape, address, line, x, opmode, ea, read)
+    decoded(group, address, line, x, opmode, ea, read)
 }
 
 // The instruction that words at an address begin with, in plain form, and its length in bytes.

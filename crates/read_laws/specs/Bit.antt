@@ -1,7 +1,7 @@
 -- BTST BCHG BCLR BSET.
 use Prim.Native.Nat.{ℕ, _+_, _-_, _/_, _%_, _<_}
 use mathlib.Core.Path.{_≡_, refl, ap, sym, _∙_, subst}
-use mathlib.Core.Bool.{Bool, true, false, not, _&&_}
+use mathlib.Core.Bool.{Bool, true, false, not, _&&_, cond}
 use mathlib.Core.List.{List, [], _∷_}
 use native.Mathlib.Omega.{arith}
 use lib.Dec.{ltb, leb, eqb}
@@ -15,26 +15,25 @@ use Rattle.isa.specs.declared.UnsizedPairOperation.the-variants.{ABCD, SBCD, BT
 use Rattle.isa.specs.declared.Operand.{Operand}
 use Rattle.isa.specs.declared.Operand.the-variants.{Immediate, Register, Indirect, PostIndirect, PreIndirect, IndirectDisplacement, IndirectIndex, PcDisplacement, PcIndex, Extended, Absolute}
 use Rattle.isa.specs.declared.Instruction.the-variants.{UnsizedPair}
-use Rattle.isa.specs.ExtensionWord.{pick}
 use Rattle.encode_spec.specs.Item.{Item, Part, fine, malformed, unless, word, range, ranged, dataRegister, dataVerdict, failure, placed, laid}
 use Rattle.isa.specs.Code.{registerBits}
 use Rattle.encode_spec.specs.Ea.{dataModes, dataAlterable, isTyped, isRegister, isImmediate, eaField, typed, withData}
 use Rattle.encode_spec.specs.Bits.{dynamicModes, dynamicReason, dynamicParts, staticModes, staticReason, staticParts, bitParts}
 use Rattle.encode_spec.specs.Instruction.{unsizedPairParts, typedTwo}
 use Rattle.encode_spec.specs.Encode.{itemsOf}
-use Rattle.read_spec.specs.declared.Shape.the-variants as shape
+use Rattle.read_spec.specs.declared.Group.the-variants as group
 use Rattle.read_spec.specs.declared.Specifier.the-variants as specifier
 use Rattle.read_spec.specs.declared.Layout.{Layout}
 use Rattle.read_spec.specs.Tree.{ret}
-use Rattle.read_spec.specs.Formed.{movepFormed, dynamicFormed, wordOf}
-use Rattle.read_spec.specs.Map.{shapeAt, map}
+use Rattle.read_spec.specs.Decoded.{movepDecoded, dynamicDecoded, wordOf}
+use Rattle.read_spec.specs.Map.{groupAt, map}
 use Rattle.read_spec.specs.Layout.{one}
 use Rattle.read_spec.specs.Layouts.{dynamicLayout, layoutOf}
 use Rattle.read_spec.specs.Operation.{bitAt}
-use Rattle.read_operand_laws.specs.Following.{Following, followingWords}
+use Rattle.read_operand_laws.specs.TailStands.{TailStands, tailWords}
 use Rattle.read_operand_laws.specs.Facts.{Eq, eq?, leb-is, all, below, and-true, true-not-false, fine-both, range-holds, holds-range, bit-number-holds, ltb-is, ltb-true, eqb-is, eqb-eq, lt-number, reason-not}
 use Rattle.read_laws.specs.Statements.{Accepted, Reads, Encodes, Sound, InSixBits}
-use Rattle.read_laws.specs.MapLaws.{shape-is, in-group}
+use Rattle.read_laws.specs.MapLaws.{group-is, in-group}
 use Rattle.read_laws.specs.Permitted.{inModes, in-modes, not-true}
 use Rattle.read_laws.specs.General.{data-bits}
 use Rattle.read_laws.specs.Forms.{behind, one-back, source-plain}
@@ -74,14 +73,14 @@ code-of BCLR e = (omega arith, refl)
 code-of BSET e = (omega arith, refl)
 code-of BCHG e = (omega arith, refl)
 
-shape-at : (op : UnsizedPairOperation) → isBit op ≡ true → (shapeAt 0 4 (bitKind op) ≡ shape.StaticBit) × ((x : ℕ) → x < 8 → shapeAt 0 x (4 + bitKind op) ≡ shape.DynamicBit)
-unfolding shapeAt map
-shape-at ABCD e = true-not-false e refl
-shape-at SBCD e = true-not-false e refl
-shape-at BTST e = (refl, shape-is shape.DynamicBit 0 4 refl)
-shape-at BCLR e = (refl, shape-is shape.DynamicBit 0 6 refl)
-shape-at BSET e = (refl, shape-is shape.DynamicBit 0 7 refl)
-shape-at BCHG e = (refl, shape-is shape.DynamicBit 0 5 refl)
+group-at : (op : UnsizedPairOperation) → isBit op ≡ true → (groupAt 0 4 (bitKind op) ≡ group.StaticBit) × ((x : ℕ) → x < 8 → groupAt 0 x (4 + bitKind op) ≡ group.DynamicBitMovep)
+unfolding groupAt map
+group-at ABCD e = true-not-false e refl
+group-at SBCD e = true-not-false e refl
+group-at BTST e = (refl, group-is group.DynamicBitMovep 0 4 refl)
+group-at BCLR e = (refl, group-is group.DynamicBitMovep 0 6 refl)
+group-at BSET e = (refl, group-is group.DynamicBitMovep 0 7 refl)
+group-at BCHG e = (refl, group-is group.DynamicBitMovep 0 5 refl)
 
 -- ---- the bit number in a word
 abbrev staticItems : ℕ → List Item
@@ -108,8 +107,8 @@ static-is a op e v d =
 static-bit-reads : (a : ℕ) (op : UnsizedPairOperation) → isBit op ≡ true → (v : ℕ) (d : Operand) → Accepted a (UnsizedPair op (Immediate v) d) → Reads a (UnsizedPair op (Immediate v) d)
 static-bit-reads a op e v d acc =
     let c = code-of op e in
-    specified-reads a (UnsizedPair op (Immediate v) d) shape.StaticBit (typed (Immediate v) ∷ typed d ∷ []) 0 4 (bitKind op) (staticItems v) specifier.Byte v Byte (staticModes (bitKind op)) d
-    (static-is a op e v d) acc (omega arith) (omega arith) (omega (arith, c .0)) (shape-at op e .0) (acc .0 .1)
+    specified-reads a (UnsizedPair op (Immediate v) d) group.StaticBit (typed (Immediate v) ∷ typed d ∷ []) 0 4 (bitKind op) (staticItems v) specifier.Byte v Byte (staticModes (bitKind op)) d
+    (static-is a op e v d) acc (omega arith) (omega arith) (omega (arith, c .0)) (group-at op e .0) (acc .0 .1)
     (λ g. let l = number-back v (g .1) in (refl, (omega arith, eqb-is (v / 256) 0 (omega arith)), typed-back d (g .0), rw (c .1)))
 
 -- ---- the bit number in a data register
@@ -124,7 +123,7 @@ dynamic-is a op e r d v =
     (specified-is a (typed (Register r) ∷ typed d ∷ []) 0 (registerBits r) (4 + k) (dataRegister r ∷ []) specifier.Nothing v Byte (dynamicModes k) d (dynamicReason k) (placed (placed a 0) 1)
     (omega arith) refl (λ g. refl))
 
-not-address : (b : Bool) → all (inModes (pick b dataModes dataAlterable) (λ ea. not (eqb (ea / 8) 1))) 64 ≡ true
+not-address : (b : Bool) → all (inModes (cond b dataModes dataAlterable) (λ ea. not (eqb (ea / 8) 1))) 64 ≡ true
 not-address true = refl
 not-address false = refl
 
@@ -133,8 +132,8 @@ dynamic-bit-reads a op e r d acc =
     let c = code-of op e in
     let k = bitKind op in
     let m : 4 + k - 4 ≡ k = omega arith in
-    specified-reads a (UnsizedPair op (Register r) d) shape.DynamicBit (typed (Register r) ∷ typed d ∷ []) 0 (registerBits r) (4 + k) (dataRegister r ∷ []) specifier.Nothing 0 Byte
-    (dynamicModes k) d (dynamic-is a op e r d 0) acc (omega arith) (omega arith) (omega (arith, c .0)) (shape-at op e .1 (registerBits r) (omega arith)) (acc .0 .1)
+    specified-reads a (UnsizedPair op (Register r) d) group.DynamicBitMovep (typed (Register r) ∷ typed d ∷ []) 0 (registerBits r) (4 + k) (dataRegister r ∷ []) specifier.Nothing 0 Byte
+    (dynamicModes k) d (dynamic-is a op e r d 0) acc (omega arith) (omega arith) (omega (arith, c .0)) (group-at op e .1 (registerBits r) (omega arith)) (acc .0 .1)
     (λ g.
     let t = typed-back d (g .0) in
     let n = not-true (eqb (eaField d / 8) 1) (in-modes (dynamicModes k) (λ ea. not (eqb (ea / 8) 1)) (not-address (eqb k 0)) Byte (behind a specifier.Nothing 0) d (g .2) t (acc .0 .1)) in
@@ -170,11 +169,11 @@ bit-code k h =
 abbrev staticIn : ℕ → ℕ → ℕ → Bool
 staticIn l x o = eqb l 0 && (eqb x 4 && ltb o 4)
 
-in-static : (line x opmode : ℕ) → line < 16 → x < 8 → opmode < 8 → shapeAt line x opmode ≡ shape.StaticBit → staticIn line x opmode ≡ true
-unfolding shapeAt map
-in-static = in-group shape.StaticBit staticIn refl
+in-static : (line x opmode : ℕ) → line < 16 → x < 8 → opmode < 8 → groupAt line x opmode ≡ group.StaticBit → staticIn line x opmode ≡ true
+unfolding groupAt map
+in-static = in-group group.StaticBit staticIn refl
 
-pub static-bit-sound : Sound shape.StaticBit
+pub static-bit-sound : Sound group.StaticBit
 static-bit-sound a line x opmode ea hl hx ho he e f h p i r =
     let t = and-true (eqb line 0) _ (in-static line x opmode hl hx ho e) in
     let u = and-true (eqb x 4) _ (t .1) in
@@ -183,7 +182,7 @@ static-bit-sound a line x opmode ea hl hx ho he e f h p i r =
     let v = f .value in
     let o = f .source in
     let y : one specifier.Byte Byte ea (staticModes (bitKind op)) ≡ one specifier.Byte Byte ea (staticModes opmode) = ap (λ (k : ℕ). one specifier.Byte Byte ea (staticModes k)) (c .0) in
-    let g = subst (λ (l : Layout). Following a l f) (sym y) h in
+    let g = subst (λ (l : Layout). TailStands a l f) (sym y) h in
     let b = one-back a specifier.Byte Byte ea (staticModes (bitKind op)) f g in
     let z = eqb-eq (v / 256) 0 (b .0 .1) in
     specified-sound a i (UnsizedPair op (Immediate v) o) (wordOf line x opmode ea) (one specifier.Byte Byte ea (staticModes opmode)) (typed (Immediate v) ∷ typed o ∷ []) 0 4 (bitKind op) ea
@@ -191,36 +190,36 @@ static-bit-sound a line x opmode ea hl hx ho he e f h p i r =
     (typed-there o (b .2)) (number-there v (omega arith)) (tt, b .3) refl
     (ap (λ o. UnsizedPair op (Immediate v) o) (source-plain f p))
 
-pub static-bit-six : (line x opmode ea : ℕ) → x < 8 → opmode < 8 → ea < 64 → InSixBits (layoutOf shape.StaticBit line x opmode ea)
+pub static-bit-six : (line x opmode ea : ℕ) → x < 8 → opmode < 8 → ea < 64 → InSixBits (layoutOf group.StaticBit line x opmode ea)
 static-bit-six line x opmode ea hx ho he = (he, omega arith)
 
 abbrev dynamicIn : ℕ → ℕ → ℕ → Bool
 dynamicIn l x o = eqb l 0 && leb 4 o
 
-in-dynamic : (line x opmode : ℕ) → line < 16 → x < 8 → opmode < 8 → shapeAt line x opmode ≡ shape.DynamicBit → dynamicIn line x opmode ≡ true
-unfolding shapeAt map
-in-dynamic = in-group shape.DynamicBit dynamicIn refl
+in-dynamic : (line x opmode : ℕ) → line < 16 → x < 8 → opmode < 8 → groupAt line x opmode ≡ group.DynamicBitMovep → dynamicIn line x opmode ≡ true
+unfolding groupAt map
+in-dynamic = in-group group.DynamicBitMovep dynamicIn refl
 
-pub dynamic-bit-sound : Sound shape.DynamicBit
+pub dynamic-bit-sound : Sound group.DynamicBitMovep
 dynamic-bit-sound a line x opmode ea hl hx ho he e f h p i r = go (eq? (ea / 8) 1)
   where
     t : (eqb line 0 ≡ true) × (leb 4 opmode ≡ true)
     t = and-true (eqb line 0) (leb 4 opmode) (in-dynamic line x opmode hl hx ho e)
 
-    go : Eq (ea / 8) 1 → Encodes a i (wordOf line x opmode ea ∷ followingWords a (layoutOf shape.DynamicBit line x opmode ea) f)
+    go : Eq (ea / 8) 1 → Encodes a i (wordOf line x opmode ea ∷ tailWords a (layoutOf group.DynamicBitMovep line x opmode ea) f)
     go (Eq.same m g) =
         let l4 = leb-is 4 opmode (t .1) in
         let y : one specifier.Nothing Word (40 + ea % 8) 32 ≡ dynamicLayout opmode ea = rw g in
-        let q : movepFormed x opmode (f .source) ≡ dynamicFormed x opmode ea (f .source) = rw g in
-        rw (eqb-eq line 0 (t .0), ← y) (movep-encodes a x opmode ea f i hx l4 ho m (subst (λ (l : Layout). Following a l f) (sym y) h) (q ∙ r))
+        let q : movepDecoded x opmode (f .source) ≡ dynamicDecoded x opmode ea (f .source) = rw g in
+        rw (eqb-eq line 0 (t .0), ← y) (movep-encodes a x opmode ea f i hx l4 ho m (subst (λ (l : Layout). TailStands a l f) (sym y) h) (q ∙ r))
     go (Eq.other m g) =
         let l4 = leb-is 4 opmode (t .1) in
         let c = bit-code (opmode - 4) (omega arith) in
         let op = bitAt (opmode - 4) in
         let o = f .source in
         let y : one specifier.Nothing Byte ea (dynamicModes (bitKind op)) ≡ dynamicLayout opmode ea = rw (g, c .0) in
-        let q : ret (UnsizedPair op (Register (Data x)) o) ≡ dynamicFormed x opmode ea o = rw g in
-        let k = subst (λ (l : Layout). Following a l f) (sym y) h in
+        let q : ret (UnsizedPair op (Register (Data x)) o) ≡ dynamicDecoded x opmode ea o = rw g in
+        let k = subst (λ (l : Layout). TailStands a l f) (sym y) h in
         let b = one-back a specifier.Nothing Byte ea (dynamicModes (bitKind op)) f k in
         let z : 4 + (opmode - 4) ≡ opmode = omega arith in
         let w : x % 8 ≡ x = omega arith in
@@ -229,7 +228,7 @@ dynamic-bit-sound a line x opmode ea hl hx ho he e f h p i r = go (eq? (ea / 8) 
         (dynamic-is a op (c .1) (Data x) o (f .value)) k (typed-there o (b .2)) (rw (lt-number x hx)) (tt, b .3) refl
         (ap (λ o. UnsizedPair op (Register (Data x)) o) (source-plain f p))
 
-pub dynamic-bit-six : (line x opmode ea : ℕ) → x < 8 → opmode < 8 → ea < 64 → InSixBits (layoutOf shape.DynamicBit line x opmode ea)
+pub dynamic-bit-six : (line x opmode ea : ℕ) → x < 8 → opmode < 8 → ea < 64 → InSixBits (layoutOf group.DynamicBitMovep line x opmode ea)
 dynamic-bit-six line x opmode ea hx ho he = go (eqb (ea / 8) 1) refl
   where
     go : (b : Bool) → eqb (ea / 8) 1 ≡ b → InSixBits (dynamicLayout opmode ea)

@@ -1,7 +1,7 @@
 -- The bit-field instructions.
 use Prim.Native.Nat.{ℕ, _+_, _*_, _-_, _/_, _%_, _<_, _≤_}
 use mathlib.Core.Path.{_≡_, refl, ap, subst}
-use mathlib.Core.Bool.{Bool, true, _&&_}
+use mathlib.Core.Bool.{Bool, true, _&&_, cond}
 use mathlib.Core.List.{List, [], _∷_}
 use native.Mathlib.Omega.{arith}
 use native.Mathlib.Nat.{div-div-eq-div-mul}
@@ -16,25 +16,24 @@ use Rattle.isa.specs.declared.BitFieldOperation.the-variants.{Test, ExtractUnsi
 use Rattle.isa.specs.declared.Field.the-variants as field
 use Rattle.isa.specs.declared.Operand.{Operand}
 use Rattle.isa.specs.declared.Instruction.the-variants.{BF}
-use Rattle.isa.specs.ExtensionWord.{pick}
 use Rattle.encode_spec.specs.Item.{fine, numberVerdict, wordsIn, placed}
 use Rattle.encode_spec.specs.Ea.{bitFieldRead, bitFieldWritten, eaField, eaItems}
 use Rattle.encode_spec.specs.Bits.{bitFieldCode, writes, valueBits, valueHolds, valueNumber, larger, bitFieldVerdict, bitFieldParts}
-use Rattle.read_spec.specs.declared.Shape.the-variants as shape
+use Rattle.read_spec.specs.declared.Group.the-variants as group
 use Rattle.read_spec.specs.declared.Specifier.the-variants as specifier
-use Rattle.read_spec.specs.Map.{shapeAt, map}
+use Rattle.read_spec.specs.Map.{groupAt, map}
 use Rattle.read_spec.specs.Operation.{bitFieldAt, valueAt}
 use Rattle.read_spec.specs.Layout.{valuePart, valid}
 use Rattle.read_spec.specs.Layouts.{layoutOf}
-use Rattle.read_spec.specs.Formed.{wordOf}
-use Rattle.read_operand_laws.specs.Following.{SpecifierStands}
+use Rattle.read_spec.specs.Decoded.{wordOf}
+use Rattle.read_operand_laws.specs.TailStands.{SpecifierStands}
 use Rattle.read_operand_laws.specs.Facts.{all, below, and-true, true-and, leb-is, ltb-is, eqb-eq, eqb-is, number-lt, lt-number, fine-both, both-fine, unless-range, true-unless}
 use Rattle.read_laws.specs.Statements.{Accepted, Reads, Sound, InSixBits}
 use Rattle.read_laws.specs.MapLaws.{implies, in-group}
 use Rattle.read_laws.specs.Forms.{Fitting, effective-back, effective-there, effective-words, one-back, source-plain}
 use Rattle.read_laws.specs.Groups.{of-group}
 use Rattle.read_laws.specs.Among.{among, each}
-use Rattle.read_laws.specs.Lays.{Lays, lays, lays-at, lays-as, LaysOne, lays-typed, lays-reads, lays-encodes, formed-as}
+use Rattle.read_laws.specs.Lays.{Lays, lays, lays-at, lays-as, LaysOne, lays-typed, lays-reads, lays-encodes, decoded-as}
 
 -- ---- an offset or a width
 part-lt : (x : FieldValue) → valueBits x < 64
@@ -94,7 +93,7 @@ abbrev codeOpmode : BitFieldOperation → ℕ
 codeOpmode op = 4 * (bitFieldCode op % 2) + 3
 
 abbrev modesOf : BitFieldOperation → ℕ
-modesOf op = pick (writes op) bitFieldWritten bitFieldRead
+modesOf op = cond (writes op) bitFieldWritten bitFieldRead
 
 lays-parts : (op : BitFieldOperation) (o : Operand) (f : BitField) (r : ℕ)
     → Lays 2 (bitFieldParts op o f r) (λ p. Holding f r × Fitting Byte p (modesOf op) o)
@@ -105,11 +104,11 @@ lays-parts op o f r =
       λ e.
           let t = fine-both (bitFieldVerdict f) _ e in
           let u = fine-both (numberVerdict r) _ (t .1) in
-          (holding-back f r (t .0) (u .0), effective-back o Byte (modesOf op) (pick (writes op) 32 33) (placed a 2) (u .1)),
+          (holding-back f r (t .0) (u .0), effective-back o Byte (modesOf op) (cond (writes op) 32 33) (placed a 2) (u .1)),
       λ c.
           both-fine (bitFieldVerdict f) _ (true-unless _ _ (true-and _ _ (c .0 .0) (c .0 .1)))
-          (both-fine (numberVerdict r) _ (lt-number r (c .0 .2)) (effective-there o Byte (modesOf op) (pick (writes op) 32 33) (placed a 2) (c .1))),
-      ap (λ (ws : List ℕ). wordOf 14 (codeX op) (codeOpmode op) (eaField o) ∷ wordIn f r ∷ ws) (effective-words o Byte (modesOf op) (pick (writes op) 32 33) (placed a 2)),
+          (both-fine (numberVerdict r) _ (lt-number r (c .0 .2)) (effective-there o Byte (modesOf op) (cond (writes op) 32 33) (placed a 2) (c .1))),
+      ap (λ (ws : List ℕ). wordOf 14 (codeX op) (codeOpmode op) (eaField o) ∷ wordIn f r ∷ ws) (effective-words o Byte (modesOf op) (cond (writes op) 32 33) (placed a 2)),
     ))
 
 lays-field : (op : BitFieldOperation) (o : Operand) (f : BitField) (r : ℕ)
@@ -123,13 +122,13 @@ opmodes = 3 ∷ 7 ∷ []
 abbrev fieldsIn : ℕ → ℕ → ℕ → Bool
 fieldsIn l x o = eqb l 14 && (leb 4 x && among opmodes o)
 
-of-fields : (line x opmode : ℕ) → line < 16 → x < 8 → opmode < 8 → fieldsIn line x opmode ≡ true → shapeAt line x opmode ≡ shape.BitField
-unfolding shapeAt map
-of-fields = of-group shape.BitField fieldsIn refl
+of-fields : (line x opmode : ℕ) → line < 16 → x < 8 → opmode < 8 → fieldsIn line x opmode ≡ true → groupAt line x opmode ≡ group.BitField
+unfolding groupAt map
+of-fields = of-group group.BitField fieldsIn refl
 
-in-fields : (line x opmode : ℕ) → line < 16 → x < 8 → opmode < 8 → shapeAt line x opmode ≡ shape.BitField → fieldsIn line x opmode ≡ true
-unfolding shapeAt map
-in-fields = in-group shape.BitField fieldsIn refl
+in-fields : (line x opmode : ℕ) → line < 16 → x < 8 → opmode < 8 → groupAt line x opmode ≡ group.BitField → fieldsIn line x opmode ≡ true
+unfolding groupAt map
+in-fields = in-group group.BitField fieldsIn refl
 
 abbrev operationAt : ℕ → ℕ → BitFieldOperation
 operationAt x opmode = bitFieldAt ((x - 4) * 2 + opmode / 4)
@@ -149,7 +148,7 @@ bf-reads a op o f r (n, e, l) =
     let c = code-is op in
     let d : Holding f r = lays-at (lays-field op o f r) a .0 e .1 in
     let w = word-fields f r (d .2) in
-    lays-reads a (BF op o f r) 14 (codeX op) (codeOpmode op) specifier.BitField Byte (modesOf op) (Holding f r) shape.BitField (wordIn f r) o (lays-field op o f r)
+    lays-reads a (BF op o f r) 14 (codeX op) (codeOpmode op) specifier.BitField Byte (modesOf op) (Holding f r) group.BitField (wordIn f r) o (lays-field op o f r)
     (omega arith) (c .1) (c .2) (of-fields 14 (codeX op) (codeOpmode op) (omega arith) (c .1) (c .2) (c .0))
     (rw (c .3)) (word-stands f r (d .2)) n e
     (λ h. rw (c .3, w .1, w .2, w .3, value-bits (f .offset) (d .0), value-bits (f .width) (d .1)))
@@ -178,7 +177,7 @@ code-at x opmode l h t = each (λ o. (codeX (operationAt x o) ≡ x) × (codeOpm
         let y = and-true _ _ (rw q at (below (λ k. eqb (codeX (operationAt (4 + k) o)) (4 + k) && eqb (codeOpmode (operationAt (4 + k) o)) o) 4 e (x - 4) (omega arith))) in
         (eqb-eq _ _ (y .0), eqb-eq _ _ (y .1))
 
-pub bit-field-sound : Sound shape.BitField
+pub bit-field-sound : Sound group.BitField
 bit-field-sound a line x opmode ea hl hx ho he e f h p i r =
     let t = and-true (eqb line 14) _ (in-fields line x opmode hl hx ho e) in
     let u = and-true (leb 4 x) _ (t .1) in
@@ -188,10 +187,10 @@ bit-field-sound a line x opmode ea hl hx ho he e f h p i r =
     let d = field-at (f .value) (h .1 .1) in
     let g = fieldAt (f .value) in
     let n = f .value / 4096 % 8 in
-    formed-as a i (BF op (f .source) g n) _ _ _ r (rw (c .0, c .1, eqb-eq line 14 (t .0)))
+    decoded-as a i (BF op (f .source) g n) _ _ _ r (rw (c .0, c .1, eqb-eq line 14 (t .0)))
     (lays-encodes a (BF op (f .source) g n) 14 (codeX op) (codeOpmode op) specifier.BitField Byte (modesOf op) (Holding g n) ea f
     (subst (λ (v : ℕ). LaysOne (BF op (f .source) g n) 14 (codeX op) (codeOpmode op) specifier.BitField Byte (modesOf op) v (f .source) (Holding g n)) (d .1) (lays-field op (f .source) g n))
     (d .0) (b .3) refl (ap (λ o. BF op o g n) (source-plain f p)) h)
 
-pub bit-field-six : (line x opmode ea : ℕ) → x < 8 → opmode < 8 → ea < 64 → InSixBits (layoutOf shape.BitField line x opmode ea)
+pub bit-field-six : (line x opmode ea : ℕ) → x < 8 → opmode < 8 → ea < 64 → InSixBits (layoutOf group.BitField line x opmode ea)
 bit-field-six line x opmode ea hx ho he = (he, omega arith)

@@ -24,19 +24,19 @@ use Rattle.encode_spec.specs.Ea.{distance}
 use Rattle.encode_spec.specs.Control.{branchParts, bccParts}
 use Rattle.encode_spec.specs.Instruction.{branchesParts}
 use Rattle.encode_spec.specs.Encode.{wordsOf, refusalOf}
-use Rattle.read_spec.specs.declared.Shape.the-variants as shape
+use Rattle.read_spec.specs.declared.Group.the-variants as group
 use Rattle.read_spec.specs.declared.Specifier.{Specifier}
 use Rattle.read_spec.specs.declared.Specifier.the-variants as specifier
-use Rattle.read_spec.specs.declared.Fields.{Fields}
+use Rattle.read_spec.specs.declared.Tail.{Tail}
 use Rattle.read_spec.specs.Number.{signed8, signed16, reach}
 use Rattle.read_spec.specs.Tree.{ret}
 use Rattle.read_spec.specs.Plain.{plain}
 use Rattle.read_spec.specs.LeftOut.{isMinusOne, branchLeftOut}
-use Rattle.read_spec.specs.Map.{shapeAt, map}
+use Rattle.read_spec.specs.Map.{groupAt, map}
 use Rattle.read_spec.specs.Layout.{alone, bare}
 use Rattle.read_spec.specs.Layouts.{branchLayout, layoutOf}
-use Rattle.read_spec.specs.Formed.{branchTo, branchFormed, wordOf}
-use Rattle.read_operand_laws.specs.Following.{Following, followingWords, specifierWords, SpecifierStands}
+use Rattle.read_spec.specs.Decoded.{branchTo, branchDecoded, wordOf}
+use Rattle.read_operand_laws.specs.TailStands.{TailStands, tailWords, specifierWords, SpecifierStands}
 use Rattle.read_operand_laws.specs.Facts.{and-true, true-not-false, ltb-is, eqb-is, eqb-not, fits, low, low8, short-branch-holds, word-branch-holds, range-holds, holds-range, fine-both, both-fine, eqb-eq, true-and, reach-lt, Lt, lt?, signed8-fits, signed16-fits, low-signed8, low-signed16, low-signed32, true-unless, leb-true, unless-reason, leb-is, Eq, eq?, signed8-low, reach-distance, placed-lt}
 use Rattle.read_laws.specs.Statements.{Accepted, Reads, Encodes, Sound, InSixBits}
 use Rattle.read_laws.specs.MapLaws.{in-group}
@@ -45,7 +45,7 @@ use Rattle.read_laws.specs.Distances.{near, word-reach, reach-word}
 use Rattle.read_laws.specs.Tests.{not-yes}
 use Rattle.read_laws.specs.SixBits.{pick-six, alone-six}
 use Rattle.read_laws.specs.Conditions.{condition-lt}
-use Rattle.read_laws.specs.Forms.{placed-from, alone-reads, alone-words, formed-encodes}
+use Rattle.read_laws.specs.Forms.{placed-from, alone-reads, alone-words, decoded-encodes}
 
 -- what a branch of a size holds: its specifier, the value of that, and the byte of its operation word; p is the word after that
 abbrev kindOf : BranchSize → Specifier
@@ -111,7 +111,7 @@ held-there a c t branch.Long h = refl
 -- ---- T1
 layout-as : (a t : ℕ) (s : BranchSize) → t < 2 ^ 32 → Held s (distance t (placed a 1)) → branchLeftOut t s a ≡ false
     → (branchLayout (byteOf t (placed a 1) s) ≡ alone (kindOf s)) × SpecifierStands (kindOf s) (valueOf t (placed a 1) s)
-    × ((k : ℕ) → branchFormed a k (byteOf t (placed a 1) s) (valueOf t (placed a 1) s) ≡ branchTo k t s)
+    × ((k : ℕ) → branchDecoded a k (byteOf t (placed a 1) s) (valueOf t (placed a 1) s) ≡ branchTo k t s)
 layout-as a t branch.Short l h m =
     let b = short-byte (distance t (placed a 1)) h m in
     let r : reach (placed a 1) (signed8 (bitsOf (distance t (placed a 1)) % 256)) ≡ t = ap (reach (placed a 1)) (signed8-low (distance t (placed a 1)) (b .0)) ∙ reach-distance t (placed a 1) l (placed-lt a 1) in
@@ -119,9 +119,9 @@ layout-as a t branch.Short l h m =
 layout-as a t branch.Word l h m = (refl, (omega arith, refl), λ k. rw (reach-word a t l h))
 layout-as a t branch.Long l h m = (refl, (omega arith, refl, refl), λ k. rw (reach-distance t (placed a 1) l (placed-lt a 1)))
 
-shape-at : (x opmode : ℕ) → x < 8 → opmode < 8 → shapeAt 6 x opmode ≡ shape.Branch
-unfolding shapeAt map
-shape-at x opmode hx ho = in-line shape.Branch 6 (λ o. true) refl x opmode hx ho refl
+group-at : (x opmode : ℕ) → x < 8 → opmode < 8 → groupAt 6 x opmode ≡ group.Branch
+unfolding groupAt map
+group-at x opmode hx ho = in-line group.Branch 6 (λ o. true) refl x opmode hx ho refl
 
 reads-as : (a c t : ℕ) (s : BranchSize) (i : Instruction) → c < 16 → t < 2 ^ 32 → Held s (distance t (placed a 1)) → branchLeftOut t s a ≡ false
     → branchTo c t s ≡ plain i → wordsOf i a ≡ wordsIn (laid (branchParts c t s) a) → Reads a i
@@ -131,10 +131,10 @@ reads-as a c t s i hc l h m e w =
     let y = layout-as a t s l h m in
     let k : c / 2 * 2 + (4 * (c % 2) + b / 64) / 4 ≡ c = omega arith in
     let q : (4 * (c % 2) + b / 64) % 4 * 64 + b % 64 ≡ b = omega arith in
-    alone-reads a i shape.Branch 6 (c / 2) (4 * (c % 2) + b / 64) (b % 64) (kindOf s) (valueOf t (placed a 1) s)
-    (omega arith) (omega arith) (omega arith) (omega arith) (shape-at (c / 2) (4 * (c % 2) + b / 64) (omega arith) (omega arith))
+    alone-reads a i group.Branch 6 (c / 2) (4 * (c % 2) + b / 64) (b % 64) (kindOf s) (valueOf t (placed a 1) s)
+    (omega arith) (omega arith) (omega arith) (omega arith) (group-at (c / 2) (4 * (c % 2) + b / 64) (omega arith) (omega arith))
     (ap branchLayout q ∙ y .0) (y .1)
-    (ap ret (ap (λ (n : ℕ). branchFormed a n ((4 * (c % 2) + b / 64) % 4 * 64 + b % 64) (valueOf t (placed a 1) s)) k ∙ ap (λ (n : ℕ). branchFormed a c n (valueOf t (placed a 1) s)) q ∙ y .2 c ∙ e))
+    (ap ret (ap (λ (n : ℕ). branchDecoded a n ((4 * (c % 2) + b / 64) % 4 * 64 + b % 64) (valueOf t (placed a 1) s)) k ∙ ap (λ (n : ℕ). branchDecoded a c n (valueOf t (placed a 1) s)) q ∙ y .2 c ∙ e))
     (w ∙ words-as a c t s)
 
 pub branch-reads : (a : ℕ) (op : BranchOperation) (t : ℕ) (s : BranchSize) → Accepted a (Branch op t s) → Reads a (Branch op t s)
@@ -220,16 +220,16 @@ jump-encodes : (a k byte v t : ℕ) (s : BranchSize) → k < 16 → Jump a byte 
     → Encodes a (branchTo k t s) (wordOf 6 (k / 2) (4 * (k % 2) + byte / 64) (byte % 64) ∷ specifierWords (kindOf s) v)
 jump-encodes a k byte v t s hk (l, h, m, p, q) = rw (← p, ← q, ← words-as a k t s) (branch-encodes a k t s hk l h m)
 
-sound-as : (a k byte t : ℕ) (s : BranchSize) (f : Fields) → k < 16 → Following a (alone (kindOf s)) f → Jump a byte (f .value) t s
-    → Encodes a (branchTo k t s) (wordOf 6 (k / 2) (4 * (k % 2) + byte / 64) (byte % 64) ∷ followingWords a (alone (kindOf s)) f)
+sound-as : (a k byte t : ℕ) (s : BranchSize) (f : Tail) → k < 16 → TailStands a (alone (kindOf s)) f → Jump a byte (f .value) t s
+    → Encodes a (branchTo k t s) (wordOf 6 (k / 2) (4 * (k % 2) + byte / 64) (byte % 64) ∷ tailWords a (alone (kindOf s)) f)
 sound-as a k byte t s f hk h j = rw (alone-words a (kindOf s) f h) (jump-encodes a k byte (f .value) t s hk j)
 
-jump-sound : (a k byte : ℕ) (f : Fields) → k < 16 → byte < 256 → Following a (branchLayout byte) f
-    → Encodes a (branchFormed a k byte (f .value)) (wordOf 6 (k / 2) (4 * (k % 2) + byte / 64) (byte % 64) ∷ followingWords a (branchLayout byte) f)
+jump-sound : (a k byte : ℕ) (f : Tail) → k < 16 → byte < 256 → TailStands a (branchLayout byte) f
+    → Encodes a (branchDecoded a k byte (f .value)) (wordOf 6 (k / 2) (4 * (k % 2) + byte / 64) (byte % 64) ∷ tailWords a (branchLayout byte) f)
 jump-sound a k byte f hk hb h = go (eq? byte 0) (eq? byte 255)
   where
     go : Eq byte 0 → Eq byte 255
-        → Encodes a (branchFormed a k byte (f .value)) (wordOf 6 (k / 2) (4 * (k % 2) + byte / 64) (byte % 64) ∷ followingWords a (branchLayout byte) f)
+        → Encodes a (branchDecoded a k byte (f .value)) (wordOf 6 (k / 2) (4 * (k % 2) + byte / 64) (byte % 64) ∷ tailWords a (branchLayout byte) f)
     go (Eq.same p g) y =
         let h' = rw g at h in
         rw (g, p) (sound-as a k 0 _ branch.Word f hk h' (jump-word a (f .value) (h' .1 .0)))
@@ -240,11 +240,11 @@ jump-sound a k byte f hk hb h = go (eq? byte 0) (eq? byte 255)
         let h' = rw (g, y) at h in
         rw (g, y) (sound-as a k byte _ branch.Short f hk h' (rw (h' .1) (jump-short a byte hb p q)))
 
-in-fields : (line x opmode : ℕ) → line < 16 → x < 8 → opmode < 8 → shapeAt line x opmode ≡ shape.Branch → eqb line 6 ≡ true
-unfolding shapeAt map
-in-fields = in-group shape.Branch (λ l x o. eqb l 6) refl
+in-fields : (line x opmode : ℕ) → line < 16 → x < 8 → opmode < 8 → groupAt line x opmode ≡ group.Branch → eqb line 6 ≡ true
+unfolding groupAt map
+in-fields = in-group group.Branch (λ l x o. eqb l 6) refl
 
-pub branch-sound : Sound shape.Branch
+pub branch-sound : Sound group.Branch
 branch-sound a line x opmode ea hl hx ho he e f h p i r =
     let k = x * 2 + opmode / 4 in
     let byte = opmode % 4 * 64 + ea in
@@ -253,9 +253,9 @@ branch-sound a line x opmode ea hl hx ho he e f h p i r =
     let o : 4 * (k % 2) + byte / 64 ≡ opmode = omega arith in
     let b : byte % 64 ≡ ea = omega arith in
     let w : wordOf 6 (k / 2) (4 * (k % 2) + byte / 64) (byte % 64) ≡ wordOf line x opmode ea = rw (y, o, b, l) in
-    formed-encodes a i (branchFormed a k byte (f .value)) _ _ (branchLayout byte) (branchLayout byte) f r w refl (jump-sound a k byte f (omega arith) (omega arith) h)
+    decoded-encodes a i (branchDecoded a k byte (f .value)) _ _ (branchLayout byte) (branchLayout byte) f r w refl (jump-sound a k byte f (omega arith) (omega arith) h)
 
-pub branch-six : (line x opmode ea : ℕ) → x < 8 → opmode < 8 → ea < 64 → InSixBits (layoutOf shape.Branch line x opmode ea)
+pub branch-six : (line x opmode ea : ℕ) → x < 8 → opmode < 8 → ea < 64 → InSixBits (layoutOf group.Branch line x opmode ea)
 branch-six line x opmode ea hx ho he =
     let byte = opmode % 4 * 64 + ea in
     pick-six (eqb byte 0) (alone specifier.Word) _ (alone-six specifier.Word) (pick-six (eqb byte 255) (alone specifier.Long) bare (alone-six specifier.Long) (alone-six specifier.Nothing))

@@ -12,28 +12,28 @@ use Rattle.isa.specs.declared.Operand.{Operand}
 use Rattle.isa.specs.declared.Instruction.{Instruction}
 use Rattle.isa.specs.declared.Instruction.the-variants.{CAS, CAS2}
 use Rattle.encode_spec.specs.Item.{Item, fine, noEncoding, unless, failure, word, register, placed}
-use Rattle.isa.specs.Code.{sizeCode, longBit, isByte, numberIn, general}
+use Rattle.isa.specs.Code.{sizeCode, longBit, isByte, numberOfRegister, general}
 use Rattle.encode_spec.specs.Ea.{memoryAlterable, typed, eaField}
 use Rattle.encode_spec.specs.System.{casParts, cas2Items, cas2Parts}
 use Rattle.encode_spec.specs.Encode.{itemsOf, wordsOf, refusalOf}
-use Rattle.read_spec.specs.declared.Shape.the-variants as shape
+use Rattle.read_spec.specs.declared.Group.the-variants as group
 use Rattle.read_spec.specs.declared.Specifier.the-variants as specifier
 use Rattle.read_spec.specs.declared.Layout.{Layout}
-use Rattle.read_spec.specs.declared.Fields.{Fields}
+use Rattle.read_spec.specs.declared.Tail.{Tail}
 use Rattle.read_spec.specs.Tree.{ret}
 use Rattle.read_spec.specs.Operand.{generalOf}
 use Rattle.read_spec.specs.Layout.{valid, one, alone}
 use Rattle.read_spec.specs.Layouts.{casLayout, layoutOf}
-use Rattle.read_spec.specs.Map.{shapeAt, map}
+use Rattle.read_spec.specs.Map.{groupAt, map}
 use Rattle.read_spec.specs.Operation.{sizeAt}
-use Rattle.read_spec.specs.Formed.{casFormed, cas2Formed, wordOf}
+use Rattle.read_spec.specs.Decoded.{casDecoded, cas2Decoded, wordOf}
 use Rattle.read_operand_laws.specs.Facts.{below, true-not-false, fine-both, both-fine, unless-reason, failure-append, and-true, true-and, eqb-is, eqb-eq}
-use Rattle.read_operand_laws.specs.Following.{SpecifierStands, Following, followingWords}
+use Rattle.read_operand_laws.specs.TailStands.{SpecifierStands, TailStands, tailWords}
 use Rattle.read_laws.specs.Statements.{Accepted, Reads, Encodes, Sound, InSixBits}
 use Rattle.read_laws.specs.MapLaws.{implies, in-group, size-code, code-lt, each-size}
 use Rattle.read_laws.specs.General.{general-lt, general-of, of-general}
 use Rattle.read_laws.specs.Permitted.{in-modes, not-true}
-use Rattle.read_laws.specs.Forms.{behind, one-back, source-plain, alone-back, alone-reads, alone-encodes, formed-encodes}
+use Rattle.read_laws.specs.Forms.{behind, one-back, source-plain, alone-back, alone-reads, alone-encodes, decoded-encodes}
 use Rattle.read_laws.specs.Specified.{Specified, specified-is, specified-reads, specified-sound, typed-back, typed-there, register-back, register-there}
 
 -- ---- CAS
@@ -96,13 +96,13 @@ halves h l a b = (omega arith, omega arith, omega arith)
 
 -- ---- T1
 pub cas-reads : (a compare update : ℕ) (o : Operand) (s : Size) → Accepted a (CAS compare update o s) → Reads a (CAS compare update o s)
-unfolding shapeAt map
+unfolding groupAt map
 cas-reads a compare update o s acc =
     let w = casWord compare update in
     let m : 5 + sizeCode s - 5 ≡ sizeCode s = omega arith in
-    specified-reads a (CAS compare update o s) shape.CAS (typed o ∷ []) 0 (5 + sizeCode s) 3 (casItems compare update) specifier.Compare w s memoryAlterable o
+    specified-reads a (CAS compare update o s) group.CAS (typed o ∷ []) 0 (5 + sizeCode s) 3 (casItems compare update) specifier.Compare w s memoryAlterable o
     (cas-is a compare update o s w refl) acc (omega arith) (omega (arith, code-lt s)) (omega arith)
-    (each-size (λ t. shapeAt 0 (5 + sizeCode t) 3 ≡ shape.CAS) refl refl refl s) (acc .0)
+    (each-size (λ t. groupAt 0 (5 + sizeCode t) 3 ≡ group.CAS) refl refl refl s) (acc .0)
     (λ g.
     let t = typed-back o (g .0) in
     let u = register-back update _ (g .1) in
@@ -112,15 +112,15 @@ cas-reads a compare update o s acc =
     (rw (n, m, size-code s), f .2, t, rw (n, m, size-code s, f .0, f .1)))
 
 -- the code of a word or a long
-wide : (s : Size) → not (isByte s) ≡ true → (6 + longBit s < 8) × (sizeAt (6 + longBit s - 5) ≡ s) × (leb 6 (6 + longBit s) ≡ true) × (shapeAt 0 (6 + longBit s) 3 ≡ shape.CAS)
-unfolding shapeAt map
+wide : (s : Size) → not (isByte s) ≡ true → (6 + longBit s < 8) × (sizeAt (6 + longBit s - 5) ≡ s) × (leb 6 (6 + longBit s) ≡ true) × (groupAt 0 (6 + longBit s) 3 ≡ group.CAS)
+unfolding groupAt map
 wide Byte e = true-not-false e refl
 wide Word e = (omega arith, refl, refl, refl)
 wide Long e = (omega arith, refl, refl, refl)
 
-items-back : (compare update : ℕ) (pointer : RegisterOperand) → failure true (cas2Items compare update pointer) ≡ fine → (numberIn pointer < 8) × (update < 8) × (compare < 8)
+items-back : (compare update : ℕ) (pointer : RegisterOperand) → failure true (cas2Items compare update pointer) ≡ fine → (numberOfRegister pointer < 8) × (update < 8) × (compare < 8)
 items-back compare update pointer e =
-    let p = register-back (numberIn pointer) _ e in
+    let p = register-back (numberOfRegister pointer) _ e in
     let u = register-back update _ (p .1) in
     (p .0, u .0, register-back compare fine (u .1) .0)
 
@@ -168,7 +168,7 @@ module _ (a compare1 compare2 update1 update2 : ℕ) (pointer1 pointer2 : Regist
       let g = cas2-fields compare2 update2 pointer2 c2 u2 in
       let v = high * 65536 + low in
       let m = halves high low (f .0) (g .0) in
-      alone-reads a twoCas shape.CAS 0 (6 + longBit s) 3 60 specifier.CompareTwo v (omega arith) (k .0) (omega arith) (omega arith) (k .3)
+      alone-reads a twoCas group.CAS 0 (6 + longBit s) 3 60 specifier.CompareTwo v (omega arith) (k .0) (omega arith) (omega arith) (k .3)
       (rw (k .2)) (m .2, rw (m .0) (f .1), rw (m .1) (g .1))
       (rw (k .2, m .0, m .1, f .2, f .3, f .4, g .2, g .3, g .4, general-of pointer1 p1, general-of pointer2 p2, k .1))
       (rw (m .0, m .1) cas2-words)
@@ -177,9 +177,9 @@ module _ (a compare1 compare2 update1 update2 : ℕ) (pointer1 pointer2 : Regist
 abbrev fieldsIn : ℕ → ℕ → ℕ → Bool
 fieldsIn l x o = eqb l 0 && (eqb (5 + sizeCode (sizeAt (x - 5))) x && eqb o 3)
 
-in-fields : (line x opmode : ℕ) → line < 16 → x < 8 → opmode < 8 → shapeAt line x opmode ≡ shape.CAS → fieldsIn line x opmode ≡ true
-unfolding shapeAt map
-in-fields = in-group shape.CAS fieldsIn refl
+in-fields : (line x opmode : ℕ) → line < 16 → x < 8 → opmode < 8 → groupAt line x opmode ≡ group.CAS → fieldsIn line x opmode ≡ true
+unfolding groupAt map
+in-fields = in-group group.CAS fieldsIn refl
 
 abbrev wideIn : ℕ → Bool
 wideIn x = implies (leb 6 x) (eqb (6 + longBit (sizeAt (x - 5))) x && not (isByte (sizeAt (x - 5))))
@@ -193,11 +193,11 @@ wide-code x h e =
 -- what a word names is in range
 items-there : (w : ℕ) → failure true (cas2Items (w % 8) (w / 64 % 8) (generalOf (w / 4096 % 16))) ≡ fine
 items-there w =
-    register-there (numberIn (generalOf (w / 4096 % 16))) _ (of-general (w / 4096 % 16) (omega arith) .1)
+    register-there (numberOfRegister (generalOf (w / 4096 % 16))) _ (of-general (w / 4096 % 16) (omega arith) .1)
     (register-there (w / 64 % 8) _ (omega arith) (register-there (w % 8) fine (omega arith) refl))
 
-cas2-encodes : (a x : ℕ) → x < 8 → leb 6 x ≡ true → (f : Fields) → Following a (alone specifier.CompareTwo) f
-    → Encodes a (cas2Formed x (f .value / 65536) (f .value % 65536)) (wordOf 0 x 3 60 ∷ followingWords a (alone specifier.CompareTwo) f)
+cas2-encodes : (a x : ℕ) → x < 8 → leb 6 x ≡ true → (f : Tail) → TailStands a (alone specifier.CompareTwo) f
+    → Encodes a (cas2Decoded x (f .value / 65536) (f .value % 65536)) (wordOf 0 x 3 60 ∷ tailWords a (alone specifier.CompareTwo) f)
 cas2-encodes a x hx e f k =
     let h = f .value / 65536 in
     let l = f .value % 65536 in
@@ -206,11 +206,11 @@ cas2-encodes a x hx e f k =
     let q = generalOf (l / 4096 % 16) in
     let b = alone-back a specifier.CompareTwo f k in
     let c = wide-code x hx e in
-    alone-encodes a (cas2Formed x h l) (wordOf 0 x 3 60) specifier.CompareTwo f k
+    alone-encodes a (cas2Decoded x h l) (wordOf 0 x 3 60) specifier.CompareTwo f k
     (tt, cas2-there a (h % 8) (l % 8) (h / 64 % 8) (l / 64 % 8) p q s (c .1) (items-there h) (items-there l), refl) refl
     (cas2-words a (h % 8) (l % 8) (h / 64 % 8) (l / 64 % 8) p q s ∙ rw (c .0, fields-cas2 h (omega (arith, b .0)) (b .1), fields-cas2 l (omega arith) (b .2)))
 
-pub cas-sound : Sound shape.CAS
+pub cas-sound : Sound group.CAS
 cas-sound a line x opmode ea hl hx ho he e f h p i r = go (eqb ea 60 && leb 6 x) refl
   where
     t : (eqb line 0 ≡ true) × (eqb (5 + sizeCode (sizeAt (x - 5))) x && eqb opmode 3 ≡ true)
@@ -219,28 +219,28 @@ cas-sound a line x opmode ea hl hx ho he e f h p i r = go (eqb ea 60 && leb 6 x)
     u : (eqb (5 + sizeCode (sizeAt (x - 5))) x ≡ true) × (eqb opmode 3 ≡ true)
     u = and-true (eqb (5 + sizeCode (sizeAt (x - 5))) x) (eqb opmode 3) (t .1)
 
-    go : (b : Bool) → eqb ea 60 && leb 6 x ≡ b → Encodes a i (wordOf line x opmode ea ∷ followingWords a (layoutOf shape.CAS line x opmode ea) f)
+    go : (b : Bool) → eqb ea 60 && leb 6 x ≡ b → Encodes a i (wordOf line x opmode ea ∷ tailWords a (layoutOf group.CAS line x opmode ea) f)
     go true n =
         let d = and-true (eqb ea 60) (leb 6 x) n in
         let y : alone specifier.CompareTwo ≡ casLayout x ea = rw n in
-        let q : cas2Formed x (f .value / 65536) (f .value % 65536) ≡ casFormed x ea (f .value) (f .source) = rw n in
-        formed-encodes a i (cas2Formed x (f .value / 65536) (f .value % 65536)) (wordOf line x opmode ea) (wordOf 0 x 3 60) (casLayout x ea) (alone specifier.CompareTwo) f (ap ret q ∙ r)
+        let q : cas2Decoded x (f .value / 65536) (f .value % 65536) ≡ casDecoded x ea (f .value) (f .source) = rw n in
+        decoded-encodes a i (cas2Decoded x (f .value / 65536) (f .value % 65536)) (wordOf line x opmode ea) (wordOf 0 x 3 60) (casLayout x ea) (alone specifier.CompareTwo) f (ap ret q ∙ r)
         (rw (eqb-eq line 0 (t .0), eqb-eq opmode 3 (u .1), eqb-eq ea 60 (d .0))) y
-        (cas2-encodes a x hx (d .1) f (subst (λ (l : Layout). Following a l f) (sym y) h))
+        (cas2-encodes a x hx (d .1) f (subst (λ (l : Layout). TailStands a l f) (sym y) h))
     go false n =
         let s = sizeAt (x - 5) in
         let v = f .value in
         let o = f .source in
         let y : one specifier.Compare s ea memoryAlterable ≡ casLayout x ea = rw n in
-        let q : CAS (v % 8) (v / 64 % 8) o s ≡ casFormed x ea v o = rw n in
-        let k = subst (λ (l : Layout). Following a l f) (sym y) h in
+        let q : CAS (v % 8) (v / 64 % 8) o s ≡ casDecoded x ea v o = rw n in
+        let k = subst (λ (l : Layout). TailStands a l f) (sym y) h in
         let b = one-back a specifier.Compare s ea memoryAlterable f k in
         specified-sound a i (CAS (v % 8) (v / 64 % 8) o s) (wordOf line x opmode ea) (casLayout x ea) (typed o ∷ []) 0 (5 + sizeCode s) 3 ea (casItems (v % 8) (v / 64 % 8)) specifier.Compare s
         memoryAlterable f (ap ret q ∙ r) (rw (eqb-eq (5 + sizeCode s) x (u .0), eqb-eq line 0 (t .0), eqb-eq opmode 3 (u .1))) y (cas-is a (v % 8) (v / 64 % 8) o s v (fields-cas v (b .0))) k
         (typed-there o (b .2)) (register-there (v / 64 % 8) _ (omega arith) (register-there (v % 8) fine (omega arith) refl)) (b .3) refl
         (ap (λ o. CAS (v % 8) (v / 64 % 8) o s) (source-plain f p))
 
-pub cas-six : (line x opmode ea : ℕ) → x < 8 → opmode < 8 → ea < 64 → InSixBits (layoutOf shape.CAS line x opmode ea)
+pub cas-six : (line x opmode ea : ℕ) → x < 8 → opmode < 8 → ea < 64 → InSixBits (layoutOf group.CAS line x opmode ea)
 cas-six line x opmode ea hx ho he = go (eqb ea 60 && leb 6 x) refl
   where
     go : (b : Bool) → eqb ea 60 && leb 6 x ≡ b → InSixBits (casLayout x ea)

@@ -1,7 +1,7 @@
 -- EOR from a data register; CMPM.
 use Prim.Native.Nat.{ℕ, _+_, _-_, _/_, _%_, _<_}
 use mathlib.Core.Path.{_≡_, refl, ap, sym, _∙_, subst₂}
-use mathlib.Core.Bool.{Bool, true, false, _&&_, false≢true}
+use mathlib.Core.Bool.{Bool, true, false, _&&_, false≢true, cond}
 use mathlib.Core.List.{[], _∷_, _++_}
 use native.Mathlib.Omega.{arith}
 use lib.Dec.{ltb, leb, eqb}
@@ -12,47 +12,46 @@ use Rattle.isa.specs.declared.Operand.{Operand}
 use Rattle.isa.specs.declared.Operand.the-variants.{PostIndirect}
 use Rattle.isa.specs.declared.Instruction.{Instruction}
 use Rattle.isa.specs.declared.Instruction.the-variants.{Pair}
-use Rattle.isa.specs.ExtensionWord.{pick}
 use Rattle.encode_spec.specs.Item.{fine, numberVerdict, wordsIn}
 use Rattle.isa.specs.Code.{sizeCode}
 use Rattle.encode_spec.specs.Ea.{dataAlterable, isTyped, eaItems, registerField, registerNumber, bothOf, modeOf}
 use Rattle.encode_spec.specs.Arithmetic.{cmpmParts}
 use Rattle.encode_spec.specs.Instruction.{partsOf, pairParts}
-use Rattle.read_spec.specs.declared.Shape.the-variants as shape
+use Rattle.read_spec.specs.declared.Group.the-variants as group
 use Rattle.read_spec.specs.declared.Specifier.the-variants as specifier
 use Rattle.read_spec.specs.declared.Layout.{Layout}
-use Rattle.read_spec.specs.declared.Fields.{Fields}
+use Rattle.read_spec.specs.declared.Tail.{Tail}
 use Rattle.read_spec.specs.Tree.{ret}
-use Rattle.read_spec.specs.Map.{shapeAt, map}
+use Rattle.read_spec.specs.Map.{groupAt, map}
 use Rattle.read_spec.specs.Operand.{permitted, modeAt}
 use Rattle.read_spec.specs.Operation.{sizeAt}
 use Rattle.read_spec.specs.Layout.{two, one}
 use Rattle.read_spec.specs.Layouts.{layoutOf}
-use Rattle.read_spec.specs.Formed.{dataOperand, cmpmFormed, wordOf}
+use Rattle.read_spec.specs.Decoded.{dataOperand, cmpmDecoded, wordOf}
 use Rattle.read_operand_laws.specs.Stands.{Stands}
-use Rattle.read_operand_laws.specs.Following.{Following, followingWords}
+use Rattle.read_operand_laws.specs.TailStands.{TailStands, tailWords}
 use Rattle.read_operand_laws.specs.Facts.{below, and-true, true-and, Eq, eq?, ltb-true, ltb-is, leb-true, leb-is, eqb-eq, eqb-is, number-lt, lt-number, fine-both, both-fine}
 use Rattle.read_laws.specs.Statements.{Accepted, Reads, reads, Encodes, Sound, InSixBits}
 use Rattle.read_laws.specs.MapLaws.{implies, in-group, code-lt}
 use Rattle.read_laws.specs.Modes.{mode-of}
 use Rattle.read_laws.specs.Groups.{of-group}
 use Rattle.read_laws.specs.Operands.{simple-is}
-use Rattle.read_laws.specs.Lays.{Lays, lays, lays-at, lays-typed-two, Numbers, numbers-back, numbers-there, word-as, formed-as}
+use Rattle.read_laws.specs.Lays.{Lays, lays, lays-at, lays-typed-two, Numbers, numbers-back, numbers-there, word-as, decoded-as}
 use Rattle.read_laws.specs.FromData.{Slot, LaysFrom, lays-from, from-reads, from-encodes, upper-size, upper-code}
 
 abbrev fieldsIn : ℕ → ℕ → ℕ → Bool
 fieldsIn l x o = eqb l 11 && (leb 4 o && ltb o 7)
 
-of-fields : (line x opmode : ℕ) → line < 16 → x < 8 → opmode < 8 → fieldsIn line x opmode ≡ true → shapeAt line x opmode ≡ shape.Compare
-unfolding shapeAt map
-of-fields = of-group shape.Compare fieldsIn refl
+of-fields : (line x opmode : ℕ) → line < 16 → x < 8 → opmode < 8 → fieldsIn line x opmode ≡ true → groupAt line x opmode ≡ group.LogicCompare
+unfolding groupAt map
+of-fields = of-group group.LogicCompare fieldsIn refl
 
-in-fields : (line x opmode : ℕ) → line < 16 → x < 8 → opmode < 8 → shapeAt line x opmode ≡ shape.Compare → fieldsIn line x opmode ≡ true
-unfolding shapeAt map
-in-fields = in-group shape.Compare fieldsIn refl
+in-fields : (line x opmode : ℕ) → line < 16 → x < 8 → opmode < 8 → groupAt line x opmode ≡ group.LogicCompare → fieldsIn line x opmode ≡ true
+unfolding groupAt map
+in-fields = in-group group.LogicCompare fieldsIn refl
 
-shape-at : (x : ℕ) (s : Size) → x < 8 → shapeAt 11 x (4 + sizeCode s) ≡ shape.Compare
-shape-at x s hx =
+group-at : (x : ℕ) (s : Size) → x < 8 → groupAt 11 x (4 + sizeCode s) ≡ group.LogicCompare
+group-at x s hx =
     let l = code-lt s in
     of-fields 11 x (4 + sizeCode s) (omega arith) hx (omega arith)
     (true-and _ _ (leb-true 4 (4 + sizeCode s) (omega arith)) (ltb-true (4 + sizeCode s) 7 (omega arith)))
@@ -67,10 +66,10 @@ not-address ea h = go (eq? (ea / 8) 1)
         absurd (false≢true (rw (q, h) at (below (λ k. implies (permitted dataAlterable (8 + k)) false) 8 refl (ea % 8) (omega arith))))
     go (Eq.other p g) = g
 
-eor-slot : (s : Size) → Slot shape.Compare EOR 11 dataAlterable s
+eor-slot : (s : Size) → Slot group.LogicCompare EOR 11 dataAlterable s
 eor-slot s = (
   omega arith,
-  (λ x hx. shape-at x s hx),
+  (λ x hx. group-at x s hx),
   (λ x ea m. rw (upper-size s, not-address ea m)),
   (λ a x ea v o d m. rw (upper-size s, not-address ea m)),
 )
@@ -80,7 +79,7 @@ unfolding pairParts
 lays-eor o d s = lays-from 11 dataAlterable 42 o d s
 
 pub eor-reads : (a : ℕ) (o d : Operand) (s : Size) → Accepted a (Pair EOR o d s) → Reads a (Pair EOR o d s)
-eor-reads a o d s = from-reads a shape.Compare EOR 11 dataAlterable o d s (eor-slot s) (lays-eor o d s)
+eor-reads a o d s = from-reads a group.LogicCompare EOR 11 dataAlterable o d s (eor-slot s) (lays-eor o d s)
 
 -- ---- CMPM
 post-stands : (s : Size) (at y : ℕ) → y < 8 → Stands s at (24 + y) (PostIndirect y)
@@ -124,7 +123,7 @@ cmpm-encodes a x y s hx hy =
 post-permitted : (y : ℕ) → y < 8 → permitted 8 (24 + y) ≡ true
 post-permitted = below (λ k. permitted 8 (24 + k)) 8 refl
 
-cmpm-layout : (x y opmode : ℕ) → y < 8 → layoutOf shape.Compare 11 x opmode (8 + y) ≡ two specifier.Nothing Byte (24 + y) 8 (24 + x) 8
+cmpm-layout : (x y opmode : ℕ) → y < 8 → layoutOf group.LogicCompare 11 x opmode (8 + y) ≡ two specifier.Nothing Byte (24 + y) 8 (24 + x) 8
 cmpm-layout x y opmode hy =
     let m : (8 + y) % 8 ≡ y = omega arith in
     rw (eqb-is ((8 + y) / 8) 1 (omega arith), m)
@@ -132,9 +131,9 @@ cmpm-layout x y opmode hy =
 cmpm-plain : (a x y : ℕ) (s : Size) → x < 8 → y < 8 → Reads a (cmpmOf s x y)
 cmpm-plain a x y s hx hy =
     let c = cmpm-encodes a x y s hx hy in
-    let f : Fields = record { value = 0; source = PostIndirect y; destination = PostIndirect x } in
+    let f : Tail = record { value = 0; source = PostIndirect y; destination = PostIndirect x } in
     let l = cmpm-layout x y (4 + sizeCode s) hy in
-    reads shape.Compare 11 x (4 + sizeCode s) (8 + y) f (omega arith) hx (omega (arith, code-lt s)) (omega arith) (shape-at x s hx)
+    reads group.LogicCompare 11 x (4 + sizeCode s) (8 + y) f (omega arith) hx (omega (arith, code-lt s)) (omega arith) (group-at x s hx)
     (rw l (true-and _ _ (post-permitted y hy) (post-permitted x hx), refl, post-stands Byte a y hy, post-stands Byte a x hx))
     (rw (eqb-is ((8 + y) / 8) 1 (omega arith), upper-size s))
     (rw l (c .2))
@@ -148,14 +147,14 @@ cmpm-reads a o d s (n, e, l) =
 
 -- ---- T2
 cmpm-sound : (a x y p q : ℕ) (s : Size) (o d : Operand) (i : Instruction) → x < 8 → y < 8
-    → o ≡ PostIndirect y → d ≡ PostIndirect x → cmpmFormed s o d ≡ ret i
+    → o ≡ PostIndirect y → d ≡ PostIndirect x → cmpmDecoded s o d ≡ ret i
     → Encodes a i (wordOf 11 x (4 + sizeCode s) (8 + y) ∷ (wordsIn (eaItems o Byte p) ++ wordsIn (eaItems d Byte q)))
 cmpm-sound a x y p q s o d i hx hy eo ed =
     subst₂
-    (λ o d. cmpmFormed s o d ≡ ret i → Encodes a i (wordOf 11 x (4 + sizeCode s) (8 + y) ∷ (wordsIn (eaItems o Byte p) ++ wordsIn (eaItems d Byte q))))
-    (sym eo) (sym ed) (λ r. formed-as a i (cmpmOf s x y) _ _ _ r refl (cmpm-encodes a x y s hx hy))
+    (λ o d. cmpmDecoded s o d ≡ ret i → Encodes a i (wordOf 11 x (4 + sizeCode s) (8 + y) ∷ (wordsIn (eaItems o Byte p) ++ wordsIn (eaItems d Byte q))))
+    (sym eo) (sym ed) (λ r. decoded-as a i (cmpmOf s x y) _ _ _ r refl (cmpm-encodes a x y s hx hy))
 
-pub compare-sound : Sound shape.Compare
+pub compare-sound : Sound group.LogicCompare
 compare-sound a line x opmode ea hl hx ho he e f h p i r =
     let t = and-true (eqb line 11) _ (in-fields line x opmode hl hx ho e) in
     let u = and-true (leb 4 opmode) _ (t .1) in
@@ -169,21 +168,21 @@ compare-sound a line x opmode ea hl hx ho he e f h p i r =
     both : ℕ → Layout
     both y = two specifier.Nothing Byte (24 + y) 8 (24 + x) 8
 
-    go : (b : Bool) → eqb (ea / 8) 1 ≡ b → Following a (pick b (both (ea % 8)) (one specifier.Nothing s ea dataAlterable)) f
-        → pick b (cmpmFormed s (f .source) (f .destination)) (ret (Pair EOR (dataOperand x) (f .source) s)) ≡ ret i
-        → Encodes a i (wordOf 11 x (4 + sizeCode s) ea ∷ followingWords a (pick b (both (ea % 8)) (one specifier.Nothing s ea dataAlterable)) f)
+    go : (b : Bool) → eqb (ea / 8) 1 ≡ b → TailStands a (cond b (both (ea % 8)) (one specifier.Nothing s ea dataAlterable)) f
+        → cond b (cmpmDecoded s (f .source) (f .destination)) (ret (Pair EOR (dataOperand x) (f .source) s)) ≡ ret i
+        → Encodes a i (wordOf 11 x (4 + sizeCode s) ea ∷ tailWords a (cond b (both (ea % 8)) (one specifier.Nothing s ea dataAlterable)) f)
     go true g h r =
         let m : ea ≡ 8 + ea % 8 = omega (arith, eqb-eq (ea / 8) 1 g) in
         word-as a i _ _ _ (ap (wordOf 11 x (4 + sizeCode s)) (sym m))
         (cmpm-sound a x (ea % 8) _ _ s (f .source) (f .destination) i hx (omega arith)
         (post-is Byte _ (ea % 8) (f .source) (omega arith) (h .2)) (post-is Byte _ x (f .destination) hx (h .3)) r)
     go false g h r =
-        formed-as a i (Pair EOR (dataOperand x) (f .source) s) _ _ _ r refl
+        decoded-as a i (Pair EOR (dataOperand x) (f .source) s) _ _ _ r refl
         (from-encodes a x ea EOR 11 dataAlterable s f hx (lays-eor (dataOperand x) (f .source) s) h p)
 
-pub compare-six : (line x opmode ea : ℕ) → x < 8 → opmode < 8 → ea < 64 → InSixBits (layoutOf shape.Compare line x opmode ea)
+pub compare-six : (line x opmode ea : ℕ) → x < 8 → opmode < 8 → ea < 64 → InSixBits (layoutOf group.LogicCompare line x opmode ea)
 compare-six line x opmode ea hx ho he = go (eqb (ea / 8) 1)
   where
-    go : (b : Bool) → InSixBits (pick b (two specifier.Nothing Byte (24 + ea % 8) 8 (24 + x) 8) (one specifier.Nothing (sizeAt (opmode - 4)) ea dataAlterable))
+    go : (b : Bool) → InSixBits (cond b (two specifier.Nothing Byte (24 + ea % 8) 8 (24 + x) 8) (one specifier.Nothing (sizeAt (opmode - 4)) ea dataAlterable))
     go true = (omega arith, omega arith)
     go false = (he, omega arith)

@@ -22,25 +22,25 @@ use Rattle.isa.specs.Code.{conditionCode}
 use Rattle.encode_spec.specs.Ea.{dataAlterable, distance, eaField}
 use Rattle.encode_spec.specs.Control.{sccParts, dbccParts, trapccParts, trapOpmode, trapItems}
 use Rattle.encode_spec.specs.Encode.{wordsOf}
-use Rattle.read_spec.specs.declared.Shape.the-variants as shape
+use Rattle.read_spec.specs.declared.Group.the-variants as group
 use Rattle.read_spec.specs.declared.Specifier.{Specifier}
 use Rattle.read_spec.specs.declared.Specifier.the-variants as specifier
-use Rattle.read_spec.specs.declared.Fields.{Fields}
+use Rattle.read_spec.specs.declared.Tail.{Tail}
 use Rattle.read_spec.specs.Number.{signed16, reach}
 use Rattle.read_spec.specs.Tree.{ret}
-use Rattle.read_spec.specs.Plain.{plain, plainFields}
+use Rattle.read_spec.specs.Plain.{plain, plainTail}
 use Rattle.read_spec.specs.Operand.{permitted}
-use Rattle.read_spec.specs.Map.{shapeAt, map}
+use Rattle.read_spec.specs.Map.{groupAt, map}
 use Rattle.read_spec.specs.Layout.{one, alone}
 use Rattle.read_spec.specs.Layouts.{conditionalLayout, trapSpecifier, layoutOf}
-use Rattle.read_spec.specs.Formed.{conditionalFormed, wordOf}
+use Rattle.read_spec.specs.Decoded.{conditionalDecoded, wordOf}
 use Rattle.read_operand_laws.specs.Stands.{Stands}
-use Rattle.read_operand_laws.specs.Following.{Following, followingWords, specifierWords, SpecifierStands}
+use Rattle.read_operand_laws.specs.TailStands.{TailStands, tailWords, specifierWords, SpecifierStands}
 use Rattle.read_operand_laws.specs.Facts.{below, and-true, Eq, eq?, leb-is, eqb-eq, reach-lt, signed16-fits, low-signed16, fine-both, both-fine, number-lt, lt-number, reason-not, word-branch-holds, range-holds, holds-range, eqb-is}
-use Rattle.read_laws.specs.Statements.{Accepted, Reads, Encodes, Sound, InSixBits, TypedTrap}
+use Rattle.read_laws.specs.Statements.{Accepted, Reads, Encodes, Sound, InSixBits, TrapInTypes}
 use Rattle.read_laws.specs.MapLaws.{in-group, implies}
 use Rattle.read_operand_laws.specs.OperandLaws.{permits-is, stands-lt}
-use Rattle.read_laws.specs.Forms.{missing, one-reads, one-back, one-encodes, single-back, single-there, single-words, alone-reads, alone-words, formed-encodes, source-plain}
+use Rattle.read_laws.specs.Forms.{missing, one-reads, one-back, one-encodes, single-back, single-there, single-words, alone-reads, alone-words, decoded-encodes, source-plain}
 use Rattle.read_laws.specs.Lines.{in-line}
 use Rattle.read_laws.specs.Distances.{word-reach, reach-word}
 use Rattle.read_laws.specs.Tests.{not-yes}
@@ -54,11 +54,11 @@ high c = conditionCode c / 2
 abbrev opmodeOf : Condition → ℕ
 opmodeOf c = 4 * (conditionCode c % 2) + 3
 
-shape-at : (c : Condition) → shapeAt 5 (high c) (opmodeOf c) ≡ shape.Conditional
-unfolding shapeAt map
-shape-at c =
+group-at : (c : Condition) → groupAt 5 (high c) (opmodeOf c) ≡ group.Conditional
+unfolding groupAt map
+group-at c =
     let k = condition-lt c in
-    in-line shape.Conditional 5 (λ o. eqb (o % 4) 3) refl (high c) (opmodeOf c) (omega (arith, k)) (omega arith) (eqb-is (opmodeOf c % 4) 3 (omega arith))
+    in-line group.Conditional 5 (λ o. eqb (o % 4) 3) refl (high c) (opmodeOf c) (omega (arith, k)) (omega arith) (eqb-is (opmodeOf c % 4) 3 (omega arith))
 
 condition-back : (c : Condition) → conditionOf (high c * 2 + opmodeOf c / 4) ≡ c
 condition-back c =
@@ -78,15 +78,15 @@ scc-reads a o c (n, e, l) =
     let g = single-back 5 (high c) (opmodeOf c) o Byte dataAlterable 35 a e in
     let q : Stands Byte (placed a 1) (eaField o) o = (g .1 .1, g .0, n, refl) in
     let m = neither (eaField o) (stands-lt Byte (placed a 1) (eaField o) o q) (sym (permits-is dataAlterable Byte (placed a 1) (eaField o) o q) ∙ g .1 .0) in
-    one-reads a (Scc o c) shape.Conditional 5 (high c) (opmodeOf c) specifier.Nothing Byte dataAlterable 0 o (omega arith) (omega (arith, condition-lt c)) (omega arith)
-    (shape-at c) (rw (m .0, m .1)) refl (g .1) (g .0) n (rw (m .0, m .1, condition-back c)) (single-words 5 (high c) (opmodeOf c) o Byte dataAlterable 35 a)
+    one-reads a (Scc o c) group.Conditional 5 (high c) (opmodeOf c) specifier.Nothing Byte dataAlterable 0 o (omega arith) (omega (arith, condition-lt c)) (omega arith)
+    (group-at c) (rw (m .0, m .1)) refl (g .1) (g .0) n (rw (m .0, m .1, condition-back c)) (single-words 5 (high c) (opmodeOf c) o Byte dataAlterable 35 a)
 
 -- a condition's instruction without an operand
 reads-as : (a : ℕ) (i : Instruction) (c : Condition) (ea : ℕ) (k : Specifier) (v : ℕ) → ea < 64 → conditionalLayout ea ≡ alone k → SpecifierStands k v
-    → ((n : ℕ) → conditionOf n ≡ c → conditionalFormed a n ea v missing ≡ plain i)
+    → ((n : ℕ) → conditionOf n ≡ c → conditionalDecoded a n ea v missing ≡ plain i)
     → wordsOf i a ≡ wordOf 5 (high c) (opmodeOf c) ea ∷ specifierWords k v → Reads a i
 reads-as a i c ea k v he l sp p w =
-    alone-reads a i shape.Conditional 5 (high c) (opmodeOf c) ea k v (omega arith) (omega (arith, condition-lt c)) (omega arith) he (shape-at c) l sp
+    alone-reads a i group.Conditional 5 (high c) (opmodeOf c) ea k v (omega arith) (omega (arith, condition-lt c)) (omega arith) he (group-at c) l sp
     (ap ret (p (high c * 2 + opmodeOf c / 4) (condition-back c))) w
 
 pub dbcc-reads : (a : ℕ) (r : RegisterOperand) (t : ℕ) (c : Condition) → Accepted a (DBcc r t c) → Reads a (DBcc r t c)
@@ -112,8 +112,8 @@ trapcc-reads a c (trap.Word v) (n, e, l) =
 trapcc-reads a c (trap.Long v) (n, e, l) = reads-as a (TRAPcc c (trap.Long v)) c 59 specifier.Long v (omega arith) refl (n, refl, refl) (λ k y. rw y) refl
 
 -- ---- T2
-scc-encodes : (a ea : ℕ) (c : Condition) (f : Fields) → Following a (one specifier.Nothing Byte ea dataAlterable) f → plainFields f ≡ f
-    → Encodes a (Scc (f .source) c) (wordOf 5 (high c) (opmodeOf c) ea ∷ followingWords a (one specifier.Nothing Byte ea dataAlterable) f)
+scc-encodes : (a ea : ℕ) (c : Condition) (f : Tail) → TailStands a (one specifier.Nothing Byte ea dataAlterable) f → plainTail f ≡ f
+    → Encodes a (Scc (f .source) c) (wordOf 5 (high c) (opmodeOf c) ea ∷ tailWords a (one specifier.Nothing Byte ea dataAlterable) f)
 unfolding sccParts
 scc-encodes a ea c f h p =
     let b = one-back a specifier.Nothing Byte ea dataAlterable f h in
@@ -131,19 +131,19 @@ dbcc-encodes a n v c h g =
     let b = both-fine (ranged true field.WordBranch z) fine (holds-range field.WordBranch z (word-branch-holds z ∙ signed16-fits v g)) refl in
     rw (word-reach a v g, e) ((reach-lt (placed a 1) (signed16 (v % 65536)), both-fine (numberVerdict n) _ (lt-number n h) b, refl), refl, rw (low-signed16 v g))
 
-trapcc-encodes : (a : ℕ) (c : Condition) (x : TrapOperand) → TypedTrap x
+trapcc-encodes : (a : ℕ) (c : Condition) (x : TrapOperand) → TrapInTypes x
     → Encodes a (TRAPcc c x) (wordOf 5 (high c) (opmodeOf c) (56 + trapOpmode x) ∷ wordsIn (trapItems x))
 unfolding trapccParts
 trapcc-encodes a c trap.None n = ((n, refl, refl), refl, refl)
 trapcc-encodes a c (trap.Word v) n = ((n, refl, refl), refl, refl)
 trapcc-encodes a c (trap.Long v) n = ((n, refl, refl), refl, refl)
 
-abbrev Right : ℕ → ℕ → Fields → ℕ → Type 0
+abbrev Right : ℕ → ℕ → Tail → ℕ → Type 0
 Right a k f ea =
-    Following a (conditionalLayout ea) f
-    → Encodes a (conditionalFormed a k ea (f .value) (f .source)) (wordOf 5 (high (conditionOf k)) (opmodeOf (conditionOf k)) ea ∷ followingWords a (conditionalLayout ea) f)
+    TailStands a (conditionalLayout ea) f
+    → Encodes a (conditionalDecoded a k ea (f .value) (f .source)) (wordOf 5 (high (conditionOf k)) (opmodeOf (conditionOf k)) ea ∷ tailWords a (conditionalLayout ea) f)
 
-module _ (a k : ℕ) (f : Fields) where
+module _ (a k : ℕ) (f : Tail) where
   dbcc-right : (n : ℕ) → n < 8 → Right a k f (8 + n)
   dbcc-right n l =
       let q : (8 + n) / 8 ≡ 1 = omega arith in
@@ -166,7 +166,7 @@ module _ (a k : ℕ) (f : Fields) where
   trap-right ea l u (Eq.other p g) (Eq.same q y) = subst (Right a k f) (sym q) trap-long
   trap-right ea l u (Eq.other p g) (Eq.other q y) = let z : 60 ≡ ea = omega (arith, p, q) in subst (Right a k f) z trap-none
 
-  right : (ea : ℕ) → plainFields f ≡ f → Right a k f ea
+  right : (ea : ℕ) → plainTail f ≡ f → Right a k f ea
   right ea p = go (eq? (ea / 8) 1) (leb 58 ea && leb ea 60) refl
     where
       go : Eq (ea / 8) 1 → (b : Bool) → (leb 58 ea && leb ea 60) ≡ b → Right a k f ea
@@ -179,11 +179,11 @@ module _ (a k : ℕ) (f : Fields) where
 abbrev fieldsIn : ℕ → ℕ → ℕ → Bool
 fieldsIn l x o = eqb l 5 && eqb (o % 4) 3
 
-in-fields : (line x opmode : ℕ) → line < 16 → x < 8 → opmode < 8 → shapeAt line x opmode ≡ shape.Conditional → fieldsIn line x opmode ≡ true
-unfolding shapeAt map
-in-fields = in-group shape.Conditional fieldsIn refl
+in-fields : (line x opmode : ℕ) → line < 16 → x < 8 → opmode < 8 → groupAt line x opmode ≡ group.Conditional → fieldsIn line x opmode ≡ true
+unfolding groupAt map
+in-fields = in-group group.Conditional fieldsIn refl
 
-pub conditional-sound : Sound shape.Conditional
+pub conditional-sound : Sound group.Conditional
 conditional-sound a line x opmode ea hl hx ho he e f h p i r =
     let t = and-true (eqb line 5) _ (in-fields line x opmode hl hx ho e) in
     let l = eqb-eq line 5 (t .0) in
@@ -193,9 +193,9 @@ conditional-sound a line x opmode ea hl hx ho he e f h p i r =
     let y : high (conditionOf k) ≡ x = omega (arith, c) in
     let o : opmodeOf (conditionOf k) ≡ opmode = omega (arith, c, m) in
     let w : wordOf 5 (high (conditionOf k)) (opmodeOf (conditionOf k)) ea ≡ wordOf line x opmode ea = rw (y, o, l) in
-    formed-encodes a i (conditionalFormed a k ea (f .value) (f .source)) _ _ (conditionalLayout ea) (conditionalLayout ea) f r w refl (right a k f ea p h)
+    decoded-encodes a i (conditionalDecoded a k ea (f .value) (f .source)) _ _ (conditionalLayout ea) (conditionalLayout ea) f r w refl (right a k f ea p h)
 
-pub conditional-six : (line x opmode ea : ℕ) → x < 8 → opmode < 8 → ea < 64 → InSixBits (layoutOf shape.Conditional line x opmode ea)
+pub conditional-six : (line x opmode ea : ℕ) → x < 8 → opmode < 8 → ea < 64 → InSixBits (layoutOf group.Conditional line x opmode ea)
 conditional-six line x opmode ea hx ho he =
     pick-six (eqb (ea / 8) 1) (alone specifier.Word) _ (alone-six specifier.Word)
     (pick-six (leb 58 ea && leb ea 60) (alone (trapSpecifier ea)) _ (alone-six (trapSpecifier ea)) (one-six specifier.Nothing Byte ea dataAlterable he))

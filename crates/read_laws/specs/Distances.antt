@@ -8,7 +8,7 @@ use Rattle.base_signed.specs.Signed.{signed32, bitsOf}
 use Rattle.encode_spec.specs.Item.{placed}
 use Rattle.encode_spec.specs.Ea.{distance}
 use Rattle.read_spec.specs.Number.{signed16, reach}
-use Rattle.read_spec.specs.Formed.{extended}
+use Rattle.read_spec.specs.Decoded.{extended}
 use Rattle.read_operand_laws.specs.Facts.{fits, fits-wider, as-fits32, signed16-low, signed32-low, low-signed32, signed16-fits, distance-reach, reach-distance, placed-lt}
 
 again : (x : ℕ) → x % 65536 % 65536 ≡ x % 65536

@@ -1,7 +1,7 @@
 -- The forms Dy,Dx and -(Ay),-(Ax): x in bits 11 to 9, y in bits 2 to 0, and bit 3 says which.
 use Prim.Native.Nat.{ℕ, _+_, _*_, _%_, _<_}
 use mathlib.Core.Path.{_≡_, refl, sym, _∙_, subst₂}
-use mathlib.Core.Bool.{Bool, true, false}
+use mathlib.Core.Bool.{Bool, true, false, cond}
 use mathlib.Core.List.{List, [], _∷_}
 use native.Mathlib.Omega.{arith}
 use lib.Dec.{ltb}
@@ -9,26 +9,25 @@ use Rattle.isa.specs.declared.RegisterOperand.the-variants.{Data}
 use Rattle.isa.specs.declared.Operand.{Operand}
 use Rattle.isa.specs.declared.Operand.the-variants.{Register, PreIndirect}
 use Rattle.isa.specs.declared.Instruction.{Instruction}
-use Rattle.isa.specs.ExtensionWord.{pick}
 use Rattle.encode_spec.specs.Item.{fine}
 use Rattle.encode_spec.specs.Ea.{isTyped, registerField, registerNumber, bothOf, paired, memoryBit}
 use Rattle.encode_spec.specs.Arithmetic.{extendedParts}
 use Rattle.encode_spec.specs.Instruction.{typedTwo, partsOf}
 use Rattle.encode_spec.specs.Encode.{refusalOf}
-use Rattle.read_spec.specs.declared.Shape.{Shape}
+use Rattle.read_spec.specs.declared.Group.{Group}
 use Rattle.read_spec.specs.declared.Specifier.{Specifier}
 use Rattle.read_spec.specs.Tree.{ret}
-use Rattle.read_spec.specs.Map.{shapeAt}
+use Rattle.read_spec.specs.Map.{groupAt}
 use Rattle.read_spec.specs.Layout.{alone}
 use Rattle.read_spec.specs.Layouts.{layoutOf}
 use Rattle.read_spec.specs.Plain.{plain, plainOperand}
 use Rattle.read_spec.specs.LeftOut.{leftOut}
 use Rattle.read_spec.specs.Operation.{eitherAt}
-use Rattle.read_spec.specs.Formed.{formed, wordOf}
-use Rattle.read_operand_laws.specs.Stands.{Typed}
-use Rattle.read_operand_laws.specs.Following.{specifierWords, SpecifierStands}
+use Rattle.read_spec.specs.Decoded.{decoded, wordOf}
+use Rattle.read_operand_laws.specs.Stands.{InTypes}
+use Rattle.read_operand_laws.specs.TailStands.{specifierWords, SpecifierStands}
 use Rattle.read_operand_laws.specs.Facts.{Lt, lt?, ltb-true, ltb-not, and-true}
-use Rattle.read_laws.specs.Statements.{Reads, Encodes, TypedInstruction}
+use Rattle.read_laws.specs.Statements.{Reads, Encodes, InstructionInTypes}
 use Rattle.read_laws.specs.Forms.{missing}
 use Rattle.read_laws.specs.Operands.{simple-is}
 use Rattle.read_laws.specs.Lays.{Lays, lays, lays-at, lays-typed-two, Numbers, numbers-back, numbers-there, plain-reads}
@@ -64,10 +63,10 @@ Pairing o d = (isTyped o ≡ true) × (isTyped d ≡ true) × Numbers (paired o 
 abbrev pub pairingWord : ℕ → ℕ → Operand → Operand → ℕ
 pairingWord line opmode o d = wordOf line (registerField d) opmode (8 * memoryBit o + registerField o)
 
-pub either-plain : (ea k : ℕ) → (plainOperand (eitherAt ea k) ≡ eitherAt ea k) × Typed (eitherAt ea k)
+pub either-plain : (ea k : ℕ) → (plainOperand (eitherAt ea k) ≡ eitherAt ea k) × InTypes (eitherAt ea k)
 either-plain ea k = go (ltb ea 8)
   where
-    go : (b : Bool) → (plainOperand (pick b (Register (Data k)) (PreIndirect k)) ≡ pick b (Register (Data k)) (PreIndirect k)) × Typed (pick b (Register (Data k)) (PreIndirect k))
+    go : (b : Bool) → (plainOperand (cond b (Register (Data k)) (PreIndirect k)) ≡ cond b (Register (Data k)) (PreIndirect k)) × InTypes (cond b (Register (Data k)) (PreIndirect k))
     go true = (refl, tt)
     go false = (refl, tt)
 
@@ -93,7 +92,7 @@ abbrev pub Joins : ℕ → (Operand → Operand → Instruction) → ℕ → ℕ
 Joins a J line opmode ws =
     (o d : Operand)
     → Lays 1 (partsOf (J o d)) (λ p. Pairing o d) (λ p. pairingWord line opmode o d ∷ ws)
-    × (Typed o × Typed d → TypedInstruction (J o d))
+    × (InTypes o × InTypes d → InstructionInTypes (J o d))
     × (leftOut (J o d) a ≡ false)
     × (plain (J o d) ≡ J (plainOperand o) (plainOperand d))
 
@@ -106,11 +105,11 @@ either-encodes a J line opmode ws j ea x he hx =
     let (l, n, u, p) = j (eitherAt ea (ea % 8)) (eitherAt ea x) in
     ((n (y .1, z .1), lays-at l a .1 (c .0), u), rw (y .0, z .0) at p, lays-at l a .2 ∙ rw (c .1))
 
-pub either-reads : (a : ℕ) (J : Operand → Operand → Instruction) (sh : Shape) (line opmode : ℕ) (k : Specifier) (v : ℕ) → Joins a J line opmode (specifierWords k v)
-    → line < 16 → opmode < 8 → ((x : ℕ) → x < 8 → shapeAt line x opmode ≡ sh)
+pub either-reads : (a : ℕ) (J : Operand → Operand → Instruction) (sh : Group) (line opmode : ℕ) (k : Specifier) (v : ℕ) → Joins a J line opmode (specifierWords k v)
+    → line < 16 → opmode < 8 → ((x : ℕ) → x < 8 → groupAt line x opmode ≡ sh)
     → ((ea x : ℕ) → ltb ea 16 ≡ true → layoutOf sh line x opmode ea ≡ alone k)
     → SpecifierStands k v
-    → ((ea x : ℕ) → ltb ea 16 ≡ true → formed a sh line x opmode ea v missing missing ≡ ret (J (eitherAt ea (ea % 8)) (eitherAt ea x)))
+    → ((ea x : ℕ) → ltb ea 16 ≡ true → decoded a sh line x opmode ea v missing missing ≡ ret (J (eitherAt ea (ea % 8)) (eitherAt ea x)))
     → (o d : Operand) → refusalOf true (J o d) a ≡ fine → Reads a (J o d)
 either-reads a J sh line opmode k v j hl ho e l sp p o d r =
     paired-are (λ o d. Reads a (J o d))

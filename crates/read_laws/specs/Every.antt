@@ -10,11 +10,11 @@ use Rattle.isa.specs.declared.UnsizedPairOperation.the-variants.{ABCD, SBCD, BT
 use Rattle.isa.specs.declared.LinkOperation.the-variants.{LINK, LINKL}
 use Rattle.isa.specs.declared.VectorOperation.the-variants.{TRAP, BKPT}
 use Rattle.isa.specs.declared.StatusOperation.the-variants.{ANDItoSR, ORItoSR, EORItoSR, STOP}
-use Rattle.isa.specs.declared.PlainOperation.the-variants.{RTE, RESET, RTR, TRAPV, ILLEGAL, RTS, NOP, SIMHALT}
+use Rattle.isa.specs.declared.NoOperandOperation.the-variants.{RTE, RESET, RTR, TRAPV, ILLEGAL, RTS, NOP, SIMHALT}
 use Rattle.isa.specs.declared.Instruction.{Instruction}
-use Rattle.isa.specs.declared.Instruction.the-variants.{IntoRegister, MOVEM, Transfer, Pair, Quick, MOVEQ, ImmediateInto, WordIntoData, SWAP, EXG, UnsizedIntoRegister, UnsizedOne, UnsizedPair, EXT, OneOperand, Bcc, Scc, DBcc, Branch, Link, UNLK, Shift, Vector, Status, ConditionCode, MOVEUSP, Raw, Plain, RTD, MOVEC, TRAPcc, MULL, Pack, CAS, CAS2, BF, DIVL}
-use Rattle.read_spec.specs.declared.Shape.{Shape}
-use Rattle.read_spec.specs.declared.Shape.the-variants as shape
+use Rattle.isa.specs.declared.Instruction.the-variants.{IntoRegister, MOVEM, Transfer, Pair, Quick, MOVEQ, ImmediateInto, WordIntoData, SWAP, EXG, UnsizedIntoRegister, UnsizedOne, UnsizedPair, EXT, OneOperand, Bcc, Scc, DBcc, Branch, Link, UNLK, Shift, Vector, Status, ConditionCode, MOVEUSP, Raw, NoOperand, RTD, MOVEC, TRAPcc, MULL, Pack, CAS, CAS2, BF, DIVL}
+use Rattle.read_spec.specs.declared.Group.{Group}
+use Rattle.read_spec.specs.declared.Group.the-variants as group
 use Rattle.read_spec.specs.Layouts.{layoutOf}
 use Rattle.read_laws.specs.Statements.{Accepted, Reads, Sound, InSixBits}
 use Rattle.read_laws.specs.Arithmetic.{addx-reads, arithmetic-six, arithmetic-sound, subx-reads}
@@ -103,14 +103,14 @@ instruction-reads a (Status STOP v) h = stop-reads a v h
 instruction-reads a (ConditionCode op v) h = condition-code-reads a op v h
 instruction-reads a (MOVEUSP to r) h = moveusp-reads a to r h
 instruction-reads a (Raw op w) h = raw-reads a op w h
-instruction-reads a (Plain RTE) h = plain-reads a RTE refl h
-instruction-reads a (Plain RESET) h = plain-reads a RESET refl h
-instruction-reads a (Plain RTR) h = plain-reads a RTR refl h
-instruction-reads a (Plain TRAPV) h = plain-reads a TRAPV refl h
-instruction-reads a (Plain ILLEGAL) h = illegal-reads a h
-instruction-reads a (Plain RTS) h = plain-reads a RTS refl h
-instruction-reads a (Plain NOP) h = plain-reads a NOP refl h
-instruction-reads a (Plain SIMHALT) h = plain-reads a SIMHALT refl h
+instruction-reads a (NoOperand RTE) h = plain-reads a RTE refl h
+instruction-reads a (NoOperand RESET) h = plain-reads a RESET refl h
+instruction-reads a (NoOperand RTR) h = plain-reads a RTR refl h
+instruction-reads a (NoOperand TRAPV) h = plain-reads a TRAPV refl h
+instruction-reads a (NoOperand ILLEGAL) h = illegal-reads a h
+instruction-reads a (NoOperand RTS) h = plain-reads a RTS refl h
+instruction-reads a (NoOperand NOP) h = plain-reads a NOP refl h
+instruction-reads a (NoOperand SIMHALT) h = plain-reads a SIMHALT refl h
 instruction-reads a (RTD d) h = rtd-reads a d h
 instruction-reads a (MOVEC to control r) h = movec-reads a to control r h
 instruction-reads a (TRAPcc condition x) h = trapcc-reads a condition x h
@@ -121,76 +121,76 @@ instruction-reads a (CAS2 compare1 compare2 update1 update2 pointer1 pointer2 s)
 instruction-reads a (BF op o f r) h = bf-reads a op o f r h
 instruction-reads a (DIVL o quotient remainder wide sign) h = divl-reads a o quotient remainder wide sign h
 
-pub shape-sound : (s : Shape) → Sound s
-shape-sound shape.Unused = λ a line x opmode ea hl hx ho he e f h p i r. absurd (false≢true (h .0))
-shape-sound shape.ImmediateInto = immediate-into-sound
-shape-sound shape.StaticBit = static-bit-sound
-shape-sound shape.DynamicBit = dynamic-bit-sound
-shape-sound shape.MOVES = moves-sound
-shape-sound shape.Bounds = bounds-sound
-shape-sound shape.CAS = cas-sound
-shape-sound shape.MOVE = move-sound
-shape-sound shape.OneOperand = one-operand-sound
-shape-sound shape.UnsizedOne = unsized-one-sound
-shape-sound shape.NBCD = nbcd-sound
-shape-sound shape.PEA = pea-sound
-shape-sound shape.MOVEM = movem-sound
-shape-sound shape.MULL = mull-sound
-shape-sound shape.DIVL = divl-sound
-shape-sound shape.System = system-sound
-shape-sound shape.LEA = lea-sound
-shape-sound shape.CHK = chk-sound
-shape-sound shape.Quick = quick-sound
-shape-sound shape.Conditional = conditional-sound
-shape-sound shape.Branch = branch-sound
-shape-sound shape.MOVEQ = moveq-sound
-shape-sound shape.IntoData = into-data-sound
-shape-sound shape.Arithmetic = arithmetic-sound
-shape-sound shape.Decimal = decimal-sound
-shape-sound shape.Pack = pack-sound
-shape-sound shape.Exchange = exchange-sound
-shape-sound shape.Compare = compare-sound
-shape-sound shape.WordIntoData = word-into-data-sound
-shape-sound shape.IntoAddress = into-address-sound
-shape-sound shape.ShiftRegister = shift-register-sound
-shape-sound shape.ShiftMemory = shift-memory-sound
-shape-sound shape.BitField = bit-field-sound
-shape-sound shape.LineA = line-a-sound
-shape-sound shape.LineF = line-f-sound
+pub group-sound : (s : Group) → Sound s
+group-sound group.Unused = λ a line x opmode ea hl hx ho he e f h p i r. absurd (false≢true (h .0))
+group-sound group.ImmediateInto = immediate-into-sound
+group-sound group.StaticBit = static-bit-sound
+group-sound group.DynamicBitMovep = dynamic-bit-sound
+group-sound group.MOVES = moves-sound
+group-sound group.Bounds = bounds-sound
+group-sound group.CAS = cas-sound
+group-sound group.MOVE = move-sound
+group-sound group.OneOperand = one-operand-sound
+group-sound group.UnsizedOne = unsized-one-sound
+group-sound group.NbcdLink = nbcd-sound
+group-sound group.PeaSwapBkpt = pea-sound
+group-sound group.MovemExt = movem-sound
+group-sound group.MULL = mull-sound
+group-sound group.DIVL = divl-sound
+group-sound group.System = system-sound
+group-sound group.LeaExtb = lea-sound
+group-sound group.CHK = chk-sound
+group-sound group.Quick = quick-sound
+group-sound group.Conditional = conditional-sound
+group-sound group.Branch = branch-sound
+group-sound group.MOVEQ = moveq-sound
+group-sound group.IntoData = into-data-sound
+group-sound group.ArithmeticExtended = arithmetic-sound
+group-sound group.LogicDecimal = decimal-sound
+group-sound group.LogicPack = pack-sound
+group-sound group.LogicExchange = exchange-sound
+group-sound group.LogicCompare = compare-sound
+group-sound group.WordIntoData = word-into-data-sound
+group-sound group.IntoAddress = into-address-sound
+group-sound group.ShiftRegister = shift-register-sound
+group-sound group.ShiftMemory = shift-memory-sound
+group-sound group.BitField = bit-field-sound
+group-sound group.LineA = line-a-sound
+group-sound group.LineF = line-f-sound
 
-pub shape-six : (s : Shape) (line x opmode ea : ℕ) → x < 8 → opmode < 8 → ea < 64 → InSixBits (layoutOf s line x opmode ea)
-shape-six shape.Unused = λ line x opmode ea hx ho he. (omega arith, omega arith)
-shape-six shape.ImmediateInto = immediate-into-six
-shape-six shape.StaticBit = static-bit-six
-shape-six shape.DynamicBit = dynamic-bit-six
-shape-six shape.MOVES = moves-six
-shape-six shape.Bounds = bounds-six
-shape-six shape.CAS = cas-six
-shape-six shape.MOVE = move-six
-shape-six shape.OneOperand = one-operand-six
-shape-six shape.UnsizedOne = unsized-one-six
-shape-six shape.NBCD = nbcd-six
-shape-six shape.PEA = pea-six
-shape-six shape.MOVEM = movem-six
-shape-six shape.MULL = mull-six
-shape-six shape.DIVL = divl-six
-shape-six shape.System = system-six
-shape-six shape.LEA = lea-six
-shape-six shape.CHK = chk-six
-shape-six shape.Quick = quick-six
-shape-six shape.Conditional = conditional-six
-shape-six shape.Branch = branch-six
-shape-six shape.MOVEQ = moveq-six
-shape-six shape.IntoData = into-data-six
-shape-six shape.Arithmetic = arithmetic-six
-shape-six shape.Decimal = decimal-six
-shape-six shape.Pack = pack-six
-shape-six shape.Exchange = exchange-six
-shape-six shape.Compare = compare-six
-shape-six shape.WordIntoData = word-into-data-six
-shape-six shape.IntoAddress = into-address-six
-shape-six shape.ShiftRegister = shift-register-six
-shape-six shape.ShiftMemory = shift-memory-six
-shape-six shape.BitField = bit-field-six
-shape-six shape.LineA = line-a-six
-shape-six shape.LineF = line-f-six
+pub group-six : (s : Group) (line x opmode ea : ℕ) → x < 8 → opmode < 8 → ea < 64 → InSixBits (layoutOf s line x opmode ea)
+group-six group.Unused = λ line x opmode ea hx ho he. (omega arith, omega arith)
+group-six group.ImmediateInto = immediate-into-six
+group-six group.StaticBit = static-bit-six
+group-six group.DynamicBitMovep = dynamic-bit-six
+group-six group.MOVES = moves-six
+group-six group.Bounds = bounds-six
+group-six group.CAS = cas-six
+group-six group.MOVE = move-six
+group-six group.OneOperand = one-operand-six
+group-six group.UnsizedOne = unsized-one-six
+group-six group.NbcdLink = nbcd-six
+group-six group.PeaSwapBkpt = pea-six
+group-six group.MovemExt = movem-six
+group-six group.MULL = mull-six
+group-six group.DIVL = divl-six
+group-six group.System = system-six
+group-six group.LeaExtb = lea-six
+group-six group.CHK = chk-six
+group-six group.Quick = quick-six
+group-six group.Conditional = conditional-six
+group-six group.Branch = branch-six
+group-six group.MOVEQ = moveq-six
+group-six group.IntoData = into-data-six
+group-six group.ArithmeticExtended = arithmetic-six
+group-six group.LogicDecimal = decimal-six
+group-six group.LogicPack = pack-six
+group-six group.LogicExchange = exchange-six
+group-six group.LogicCompare = compare-six
+group-six group.WordIntoData = word-into-data-six
+group-six group.IntoAddress = into-address-six
+group-six group.ShiftRegister = shift-register-six
+group-six group.ShiftMemory = shift-memory-six
+group-six group.BitField = bit-field-six
+group-six group.LineA = line-a-six
+group-six group.LineF = line-f-six

@@ -13,13 +13,13 @@ use Rattle.isa.specs.declared.Instruction.the-variants.{EXT}
 use Rattle.encode_spec.specs.Item.{fine, noEncoding, unless, dataVerdict}
 use Rattle.encode_spec.specs.Arithmetic.{extOpmode, extParts}
 use Rattle.encode_spec.specs.Encode.{wordsOf, refusalOf}
-use Rattle.read_spec.specs.declared.Shape.the-variants as shape
+use Rattle.read_spec.specs.declared.Group.the-variants as group
 use Rattle.read_spec.specs.declared.Specifier.the-variants as specifier
-use Rattle.read_spec.specs.declared.Fields.{Fields}
+use Rattle.read_spec.specs.declared.Tail.{Tail}
 use Rattle.read_spec.specs.Layout.{bare}
-use Rattle.read_spec.specs.Map.{shapeAt, map}
-use Rattle.read_spec.specs.Formed.{wordOf}
-use Rattle.read_operand_laws.specs.Following.{Following, followingWords}
+use Rattle.read_spec.specs.Map.{groupAt, map}
+use Rattle.read_spec.specs.Decoded.{wordOf}
+use Rattle.read_operand_laws.specs.TailStands.{TailStands, tailWords}
 use Rattle.read_operand_laws.specs.Facts.{ltb-true, lt-number, fine-both, both-fine, unless-reason, true-unless}
 use Rattle.read_laws.specs.Statements.{Accepted, Reads, Encodes}
 use Rattle.read_laws.specs.Forms.{data-is, alone-reads, alone-encodes}
@@ -46,18 +46,18 @@ ext-words a n from to h = let e : n % 8 ≡ n = omega arith in rw e
 
 -- ---- T1
 data-reads : (a n : ℕ) (from to : Size) → n < 8 → Extends from to → Reads a (EXT (Data n) from to)
-unfolding shapeAt map
+unfolding groupAt map
 data-reads a n Byte Byte h e = absurd (false≢true e)
 data-reads a n Byte Word h e =
-    alone-reads a (EXT (Data n) Byte Word) shape.MOVEM 4 4 2 n specifier.Nothing 0 (omega arith) (omega arith) (omega arith) (omega arith)
+    alone-reads a (EXT (Data n) Byte Word) group.MovemExt 4 4 2 n specifier.Nothing 0 (omega arith) (omega arith) (omega arith) (omega arith)
     refl (rw (ltb-true n 8 h)) refl (rw (ltb-true n 8 h)) (ext-words a n Byte Word h)
 data-reads a n Byte Long h e =
-    alone-reads a (EXT (Data n) Byte Long) shape.LEA 4 4 7 n specifier.Nothing 0 (omega arith) (omega arith) (omega arith) (omega arith)
+    alone-reads a (EXT (Data n) Byte Long) group.LeaExtb 4 4 7 n specifier.Nothing 0 (omega arith) (omega arith) (omega arith) (omega arith)
     refl (rw (ltb-true n 8 h)) refl (rw (ltb-true n 8 h)) (ext-words a n Byte Long h)
 data-reads a n Word Byte h e = absurd (false≢true e)
 data-reads a n Word Word h e = absurd (false≢true e)
 data-reads a n Word Long h e =
-    alone-reads a (EXT (Data n) Word Long) shape.MOVEM 4 4 3 n specifier.Nothing 0 (omega arith) (omega arith) (omega arith) (omega arith)
+    alone-reads a (EXT (Data n) Word Long) group.MovemExt 4 4 3 n specifier.Nothing 0 (omega arith) (omega arith) (omega arith) (omega arith)
     refl (rw (ltb-true n 8 h)) refl (rw (ltb-true n 8 h)) (ext-words a n Word Long h)
 data-reads a n Long Byte h e = absurd (false≢true e)
 data-reads a n Long Word h e = absurd (false≢true e)
@@ -70,7 +70,7 @@ ext-reads a r from to (t, e, l) =
     rw (q .2) (data-reads a (q .0) from to (q .1) (b .0))
 
 -- ---- T2
-pub ext-encodes : (a n : ℕ) (from to : Size) → n < 8 → Extends from to → (f : Fields) → Following a bare f
-    → Encodes a (EXT (Data n) from to) (wordOf 4 4 (extOpmode from to) n ∷ followingWords a bare f)
+pub ext-encodes : (a n : ℕ) (from to : Size) → n < 8 → Extends from to → (f : Tail) → TailStands a bare f
+    → Encodes a (EXT (Data n) from to) (wordOf 4 4 (extOpmode from to) n ∷ tailWords a bare f)
 ext-encodes a n from to h e f g =
     alone-encodes a (EXT (Data n) from to) (wordOf 4 4 (extOpmode from to) n) specifier.Nothing f g (tt, ext-there a n from to e h, refl) refl (ext-words a n from to h)

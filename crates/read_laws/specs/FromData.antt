@@ -1,7 +1,7 @@
 -- Dn,<ea> of OR, SUB, EOR, AND and ADD: the encoder's `fromData`.
 use Prim.Native.Nat.{ℕ, _+_, _-_, _%_, _<_, _≤_}
 use mathlib.Core.Path.{_≡_, refl, ap, sym, _∙_}
-use mathlib.Core.Bool.{Bool, true, false, false≢true}
+use mathlib.Core.Bool.{Bool, true, false, false≢true, cond}
 use mathlib.Core.List.{List, [], _∷_}
 use native.Mathlib.Omega.{arith}
 use lib.Dec.{ltb}
@@ -14,27 +14,26 @@ use Rattle.isa.specs.declared.Operand.{Operand}
 use Rattle.isa.specs.declared.Operand.the-variants.{Register}
 use Rattle.isa.specs.declared.Instruction.{Instruction}
 use Rattle.isa.specs.declared.Instruction.the-variants.{Pair}
-use Rattle.isa.specs.ExtensionWord.{pick}
 use Rattle.encode_spec.specs.Item.{fine, dataVerdict, placed}
 use Rattle.isa.specs.Code.{sizeCode, registerBits}
 use Rattle.encode_spec.specs.Ea.{memoryAlterable, permits, isTyped, isRegister, registerIn, eaField, fromData}
 use Rattle.encode_spec.specs.Arithmetic.{arithmeticParts}
 use Rattle.encode_spec.specs.Logic.{logicalParts}
 use Rattle.encode_spec.specs.Instruction.{typedTwo, pairParts}
-use Rattle.read_spec.specs.declared.Shape.{Shape}
+use Rattle.read_spec.specs.declared.Group.{Group}
 use Rattle.read_spec.specs.declared.Specifier.{Specifier}
 use Rattle.read_spec.specs.declared.Specifier.the-variants as specifier
-use Rattle.read_spec.specs.declared.Fields.{Fields}
+use Rattle.read_spec.specs.declared.Tail.{Tail}
 use Rattle.read_spec.specs.Tree.{Tree, ret}
-use Rattle.read_spec.specs.Plain.{plainOperand, plainFields}
-use Rattle.read_spec.specs.Map.{shapeAt}
+use Rattle.read_spec.specs.Plain.{plainOperand, plainTail}
+use Rattle.read_spec.specs.Map.{groupAt}
 use Rattle.read_spec.specs.Operand.{permitted}
 use Rattle.read_spec.specs.Operation.{sizeAt, pairAt}
 use Rattle.read_spec.specs.Layout.{one, alone}
 use Rattle.read_spec.specs.Layouts.{fromDataLayout, layoutOf}
-use Rattle.read_spec.specs.Formed.{dataOperand, formed, wordOf}
+use Rattle.read_spec.specs.Decoded.{dataOperand, decoded, wordOf}
 use Rattle.read_operand_laws.specs.Stands.{Stands}
-use Rattle.read_operand_laws.specs.Following.{specifierWords, SpecifierStands, Following, followingWords}
+use Rattle.read_operand_laws.specs.TailStands.{specifierWords, SpecifierStands, TailStands, tailWords}
 use Rattle.read_operand_laws.specs.Facts.{Lt, lt?, below, lt-number, true-not-false}
 use Rattle.read_laws.specs.Statements.{Accepted, Reads, Encodes, InSixBits}
 use Rattle.read_laws.specs.MapLaws.{implies, code-size, code-lt}
@@ -42,7 +41,7 @@ use Rattle.read_operand_laws.specs.OperandLaws.{permits-is}
 use Rattle.read_laws.specs.Forms.{Fitting, missing, one-back, source-plain}
 use Rattle.read_laws.specs.Among.{among, each}
 use Rattle.read_laws.specs.Operands.{data-bits, by-register}
-use Rattle.read_laws.specs.Lays.{Lays, LaysOne, operandWords, lays-at, lays-as, lays-allow, lays-typed-two, lays-data, lays-reads, lays-encodes, formed-as, plain-encodes}
+use Rattle.read_laws.specs.Lays.{Lays, LaysOne, operandWords, lays-at, lays-as, lays-allow, lays-typed-two, lays-data, lays-reads, lays-encodes, decoded-as, plain-encodes}
 
 -- the source is a data register
 abbrev pub FromRegister : Operand → Type 0
@@ -96,14 +95,14 @@ memory-ea ea h = go (lt? ea 16)
     go (Lt.notLess l e) = l
 
 -- ---- where a group has the form
-abbrev pub Slot : Shape → PairOperation → ℕ → ℕ → Size → Type 0
+abbrev pub Slot : Group → PairOperation → ℕ → ℕ → Size → Type 0
 Slot sh op line modes s =
     (line < 16)
-    × ((x : ℕ) → x < 8 → shapeAt line x (4 + sizeCode s) ≡ sh)
+    × ((x : ℕ) → x < 8 → groupAt line x (4 + sizeCode s) ≡ sh)
     × ((x ea : ℕ) → permitted modes ea ≡ true → layoutOf sh line x (4 + sizeCode s) ea ≡ one specifier.Nothing s ea modes)
-    × ((a x ea v : ℕ) (o d : Operand) → permitted modes ea ≡ true → formed a sh line x (4 + sizeCode s) ea v o d ≡ ret (Pair op (dataOperand x) o s))
+    × ((a x ea v : ℕ) (o d : Operand) → permitted modes ea ≡ true → decoded a sh line x (4 + sizeCode s) ea v o d ≡ ret (Pair op (dataOperand x) o s))
 
-pub from-reads : (a : ℕ) (sh : Shape) (op : PairOperation) (line modes : ℕ) (o d : Operand) (s : Size)
+pub from-reads : (a : ℕ) (sh : Group) (op : PairOperation) (line modes : ℕ) (o d : Operand) (s : Size)
     → Slot sh op line modes s → LaysFrom op line modes o d s → Accepted a (Pair op o d s) → Reads a (Pair op o d s)
 from-reads a sh op line modes o d s slot l (n, e, y) =
     let c = lays-at l a .0 e in
@@ -113,9 +112,9 @@ from-reads a sh op line modes o d s slot l (n, e, y) =
     (slot .0) (omega arith) (omega (arith, code-lt s)) (slot .1 (numberFrom o) (omega arith)) (slot .2 (numberFrom o) (eaField d) m) refl (n .1) e
     (λ r. slot .3 a (numberFrom o) (eaField d) 0 (plainOperand d) missing m ∙ ap (λ (p : Operand). ret (Pair op p (plainOperand d) s)) (from-is o r))
 
-pub from-encodes : (a x ea : ℕ) (op : PairOperation) (line modes : ℕ) (s : Size) (f : Fields) → x < 8 → LaysFrom op line modes (dataOperand x) (f .source) s
-    → Following a (one specifier.Nothing s ea modes) f → plainFields f ≡ f
-    → Encodes a (Pair op (dataOperand x) (f .source) s) (wordOf line x (4 + sizeCode s) ea ∷ followingWords a (one specifier.Nothing s ea modes) f)
+pub from-encodes : (a x ea : ℕ) (op : PairOperation) (line modes : ℕ) (s : Size) (f : Tail) → x < 8 → LaysFrom op line modes (dataOperand x) (f .source) s
+    → TailStands a (one specifier.Nothing s ea modes) f → plainTail f ≡ f
+    → Encodes a (Pair op (dataOperand x) (f .source) s) (wordOf line x (4 + sizeCode s) ea ∷ tailWords a (one specifier.Nothing s ea modes) f)
 from-encodes a x ea op line modes s f hx l h p =
     let b = one-back a specifier.Nothing s ea modes f h in
     let m : x % 8 ≡ x = omega arith in
@@ -124,27 +123,27 @@ from-encodes a x ea op line modes s f hx l h p =
     ea f l (refl, refl, lt-number x hx) (tt, b .3) refl (ap (λ (d : Operand). Pair op (dataOperand x) d s) (source-plain f p)) h)
 
 -- to memory
-pub pair-reads : (a : ℕ) (sh : Shape) (line : ℕ) (o d : Operand) (s : Size) → Slot sh (pairAt line) line memoryAlterable s → among memoryLines line ≡ true → isRegister d ≡ false
+pub pair-reads : (a : ℕ) (sh : Group) (line : ℕ) (o d : Operand) (s : Size) → Slot sh (pairAt line) line memoryAlterable s → among memoryLines line ≡ true → isRegister d ≡ false
     → Accepted a (Pair (pairAt line) o d s) → Reads a (Pair (pairAt line) o d s)
 pair-reads a sh line o d s slot t e = from-reads a sh (pairAt line) line memoryAlterable o d s slot (lays-pair o d s e line t)
 
-pub pair-encodes : (a line x ea : ℕ) (s : Size) (f : Fields) → among memoryLines line ≡ true → x < 8
-    → Following a (one specifier.Nothing s ea memoryAlterable) f → plainFields f ≡ f
-    → Encodes a (Pair (pairAt line) (dataOperand x) (f .source) s) (wordOf line x (4 + sizeCode s) ea ∷ followingWords a (one specifier.Nothing s ea memoryAlterable) f)
+pub pair-encodes : (a line x ea : ℕ) (s : Size) (f : Tail) → among memoryLines line ≡ true → x < 8
+    → TailStands a (one specifier.Nothing s ea memoryAlterable) f → plainTail f ≡ f
+    → Encodes a (Pair (pairAt line) (dataOperand x) (f .source) s) (wordOf line x (4 + sizeCode s) ea ∷ tailWords a (one specifier.Nothing s ea memoryAlterable) f)
 pair-encodes a line x ea s f t hx h p =
     let b = one-back a specifier.Nothing s ea memoryAlterable f h in
     from-encodes a x ea (pairAt line) line memoryAlterable s f hx (lays-pair (dataOperand x) (f .source) s (memory-not (f .source) (b .1 .0)) line t) h p
 
 -- beside another form, which a test says
-pub beside-encodes : (a line x ea : ℕ) (s : Size) (k : Specifier) (f : Fields) (i j : Instruction) (b : Bool) → among memoryLines line ≡ true → x < 8
+pub beside-encodes : (a line x ea : ℕ) (s : Size) (k : Specifier) (f : Tail) (i j : Instruction) (b : Bool) → among memoryLines line ≡ true → x < 8
     → (b ≡ true → SpecifierStands k (f .value) → Encodes a j (wordOf line x (4 + sizeCode s) ea ∷ specifierWords k (f .value)))
-    → Following a (pick b (alone k) (one specifier.Nothing s ea memoryAlterable)) f → plainFields f ≡ f
-    → _≡_ {A = Tree Instruction} (ret (pick b j (Pair (pairAt line) (dataOperand x) (f .source) s))) (ret i)
-    → Encodes a i (wordOf line x (4 + sizeCode s) ea ∷ followingWords a (pick b (alone k) (one specifier.Nothing s ea memoryAlterable)) f)
+    → TailStands a (cond b (alone k) (one specifier.Nothing s ea memoryAlterable)) f → plainTail f ≡ f
+    → _≡_ {A = Tree Instruction} (ret (cond b j (Pair (pairAt line) (dataOperand x) (f .source) s))) (ret i)
+    → Encodes a i (wordOf line x (4 + sizeCode s) ea ∷ tailWords a (cond b (alone k) (one specifier.Nothing s ea memoryAlterable)) f)
 beside-encodes a line x ea s k f i j true t hx g h p r =
-    formed-as a i j _ _ _ r refl (plain-encodes a j (wordOf line x (4 + sizeCode s) ea) k f h (g refl (h .1)))
+    decoded-as a i j _ _ _ r refl (plain-encodes a j (wordOf line x (4 + sizeCode s) ea) k f h (g refl (h .1)))
 beside-encodes a line x ea s k f i j false t hx g h p r =
-    formed-as a i (Pair (pairAt line) (dataOperand x) (f .source) s) _ _ _ r refl (pair-encodes a line x ea s f t hx h p)
+    decoded-as a i (Pair (pairAt line) (dataOperand x) (f .source) s) _ _ _ r refl (pair-encodes a line x ea s f t hx h p)
 
 -- the size in bits 7 and 6, where bit 8 is 1
 pub upper-size : (s : Size) → sizeAt (4 + sizeCode s - 4) ≡ s
@@ -158,6 +157,6 @@ upper-code opmode l h = omega (arith, code-size (opmode - 4) (omega arith))
 pub from-six : (k : Specifier) (s : Size) (ea : ℕ) → ea < 64 → InSixBits (fromDataLayout k s ea)
 from-six k s ea h = go (ltb ea 16)
   where
-    go : (b : Bool) → InSixBits (pick b (alone k) (one specifier.Nothing s ea memoryAlterable))
+    go : (b : Bool) → InSixBits (cond b (alone k) (one specifier.Nothing s ea memoryAlterable))
     go true = (omega arith, omega arith)
     go false = (h, omega arith)

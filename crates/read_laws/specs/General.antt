@@ -5,25 +5,25 @@ use native.Mathlib.Omega.{arith}
 use Rattle.isa.specs.declared.RegisterOperand.{RegisterOperand}
 use Rattle.isa.specs.declared.RegisterOperand.the-variants.{Address, Data}
 use Rattle.encode_spec.specs.Item.{fine, dataVerdict, addressVerdict}
-use Rattle.isa.specs.Code.{numberIn, registerBits, general}
+use Rattle.isa.specs.Code.{numberOfRegister, registerBits, general}
 use Rattle.read_spec.specs.Operand.{generalOf}
 use Rattle.read_spec.specs.declared.Specifier.the-variants as specifier
-use Rattle.read_operand_laws.specs.Following.{SpecifierStands}
+use Rattle.read_operand_laws.specs.TailStands.{SpecifierStands}
 use Rattle.read_operand_laws.specs.Facts.{Lt, lt?, ltb-true, ltb-not, eqb-is, eqb-eq, number-lt, reason-not}
 
 pub general-lt : (r : RegisterOperand) → general r < 16
 general-lt (Address n) = omega arith
 general-lt (Data n) = omega arith
 
-pub general-of : (r : RegisterOperand) → numberIn r < 8 → generalOf (general r) ≡ r
+pub general-of : (r : RegisterOperand) → numberOfRegister r < 8 → generalOf (general r) ≡ r
 general-of (Address n) h = rw (ltb-not (8 + n % 8) 8 (omega arith)) (ap Address (omega arith))
 general-of (Data n) h = rw (ltb-true (n % 8) 8 (omega arith)) (ap Data (omega arith))
 
 -- the code of the register that four bits name, and its number
-pub of-general : (k : ℕ) → k < 16 → (general (generalOf k) ≡ k) × (numberIn (generalOf k) < 8)
+pub of-general : (k : ℕ) → k < 16 → (general (generalOf k) ≡ k) × (numberOfRegister (generalOf k) < 8)
 of-general k h = go (lt? k 8)
   where
-    go : Lt k 8 → (general (generalOf k) ≡ k) × (numberIn (generalOf k) < 8)
+    go : Lt k 8 → (general (generalOf k) ≡ k) × (numberOfRegister (generalOf k) < 8)
     go (Lt.less l e) = rw e (omega arith, l)
     go (Lt.notLess l e) = rw e (omega arith, omega arith)
 

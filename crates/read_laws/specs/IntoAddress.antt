@@ -1,7 +1,7 @@
 -- ADDA SUBA CMPA.
 use Prim.Native.Nat.{ℕ, _+_, _*_, _%_, _<_}
 use mathlib.Core.Path.{_≡_, refl, ap, sym, _∙_, subst}
-use mathlib.Core.Bool.{Bool, true, not, false≢true, _&&_, _||_}
+use mathlib.Core.Bool.{Bool, true, not, false≢true, _&&_, _||_, cond}
 use mathlib.Core.List.{List, _∷_}
 use native.Mathlib.Omega.{arith}
 use lib.Dec.{eqb}
@@ -12,26 +12,25 @@ use Rattle.isa.specs.declared.RegisterOperand.the-variants.{Address}
 use Rattle.isa.specs.declared.Operand.{Operand}
 use Rattle.isa.specs.declared.RegisterOperation.the-variants.{ADDA, SUBA, CMPA}
 use Rattle.isa.specs.declared.Instruction.the-variants.{IntoRegister}
-use Rattle.isa.specs.ExtensionWord.{pick}
 use Rattle.encode_spec.specs.Item.{Part, fine, malformed, noEncoding, unless, addressVerdict, failure, laid, wordsIn, placed}
 use Rattle.isa.specs.Code.{isByte, longBit, registerBits}
 use Rattle.encode_spec.specs.Ea.{everyMode, isTyped, eaField, eaItems}
 use Rattle.encode_spec.specs.Arithmetic.{intoAddressParts}
 use Rattle.encode_spec.specs.Instruction.{registerParts, typedOne}
 use Rattle.encode_spec.specs.Encode.{wordsOf, refusalOf}
-use Rattle.read_spec.specs.declared.Shape.the-variants as shape
+use Rattle.read_spec.specs.declared.Group.the-variants as group
 use Rattle.read_spec.specs.declared.Specifier.the-variants as specifier
-use Rattle.read_spec.specs.declared.Fields.{Fields}
-use Rattle.read_spec.specs.Plain.{plainFields}
+use Rattle.read_spec.specs.declared.Tail.{Tail}
+use Rattle.read_spec.specs.Plain.{plainTail}
 use Rattle.read_spec.specs.Layout.{one}
 use Rattle.read_spec.specs.Layouts.{layoutOf}
-use Rattle.read_spec.specs.Map.{shapeAt, map}
+use Rattle.read_spec.specs.Map.{groupAt, map}
 use Rattle.read_spec.specs.Operation.{addressAt}
-use Rattle.read_spec.specs.Formed.{wordOf}
-use Rattle.read_operand_laws.specs.Following.{Following, followingWords}
+use Rattle.read_spec.specs.Decoded.{wordOf}
+use Rattle.read_operand_laws.specs.TailStands.{TailStands, tailWords}
 use Rattle.read_operand_laws.specs.Facts.{Eq, same, other, eq?, and-true, eqb-eq, lt-number, fine-both, both-fine, unless-reason, true-unless}
 use Rattle.read_laws.specs.Statements.{Accepted, Reads, Encodes, Sound, InSixBits}
-use Rattle.read_laws.specs.MapLaws.{shape-is, in-group}
+use Rattle.read_laws.specs.MapLaws.{group-is, in-group}
 use Rattle.read_laws.specs.Forms.{Fitting, address-back, address-there, address-words, address-is, placed-from, one-back, one-reads, one-encodes, source-plain}
 use Rattle.read_laws.specs.Apart.{same-encodes}
 
@@ -72,16 +71,16 @@ isLine line = eqb line 13 || (eqb line 9 || eqb line 11)
 abbrev Line : ℕ → Type 0
 Line line =
     (reason : ℕ) × ((o : Operand) (r : RegisterOperand) (s : Size) → registerParts (addressAt line) o r s ≡ intoAddressParts line reason o r s)
-    × (line < 16) × ((x : ℕ) → x < 8 → shapeAt line x 3 ≡ shape.IntoAddress) × ((x : ℕ) → x < 8 → shapeAt line x 7 ≡ shape.IntoAddress)
+    × (line < 16) × ((x : ℕ) → x < 8 → groupAt line x 3 ≡ group.IntoAddress) × ((x : ℕ) → x < 8 → groupAt line x 7 ≡ group.IntoAddress)
 
 line-is : (line : ℕ) → isLine line ≡ true → Line line
-unfolding registerParts shapeAt map
+unfolding registerParts groupAt map
 line-is line e = go (eq? line 13) (eq? line 9) (eq? line 11)
   where
     go : Eq line 13 → Eq line 9 → Eq line 11 → Line line
-    go (same p q) u v = subst Line (sym p) (44, λ o r s. refl, omega arith, shape-is shape.IntoAddress 13 3 refl, shape-is shape.IntoAddress 13 7 refl)
-    go (other p q) (same u k) v = subst Line (sym u) (37, λ o r s. refl, omega arith, shape-is shape.IntoAddress 9 3 refl, shape-is shape.IntoAddress 9 7 refl)
-    go (other p q) (other u k) (same v m) = subst Line (sym v) (40, λ o r s. refl, omega arith, shape-is shape.IntoAddress 11 3 refl, shape-is shape.IntoAddress 11 7 refl)
+    go (same p q) u v = subst Line (sym p) (44, λ o r s. refl, omega arith, group-is group.IntoAddress 13 3 refl, group-is group.IntoAddress 13 7 refl)
+    go (other p q) (same u k) v = subst Line (sym u) (37, λ o r s. refl, omega arith, group-is group.IntoAddress 9 3 refl, group-is group.IntoAddress 9 7 refl)
+    go (other p q) (other u k) (same v m) = subst Line (sym v) (40, λ o r s. refl, omega arith, group-is group.IntoAddress 11 3 refl, group-is group.IntoAddress 11 7 refl)
     go (other p q) (other u k) (other v m) = absurd (false≢true (rw (q, k, m) at e))
 
 module _ (a line : ℕ) (o : Operand) (r : RegisterOperand) (s : Size) (q : Line line) where
@@ -99,9 +98,9 @@ words a line o n s q h =
 
 -- ---- T1
 abbrev sizeOf : ℕ → Size
-sizeOf opmode = pick (eqb opmode 7) Long Word
+sizeOf opmode = cond (eqb opmode 7) Long Word
 
-codes : (line n : ℕ) (s : Size) → Line line → n < 8 → Sized s → (opmodeOf s < 8) × (sizeOf (opmodeOf s) ≡ s) × (shapeAt line n (opmodeOf s) ≡ shape.IntoAddress)
+codes : (line n : ℕ) (s : Size) → Line line → n < 8 → Sized s → (opmodeOf s < 8) × (sizeOf (opmodeOf s) ≡ s) × (groupAt line n (opmodeOf s) ≡ group.IntoAddress)
 codes line n Byte q h z = absurd (false≢true z)
 codes line n Word q h z = (omega arith, refl, q .3 n h)
 codes line n Long q h z = (omega arith, refl, q .4 n h)
@@ -114,7 +113,7 @@ into-address-reads a line o r s q (t, e, l) =
     let n : ℕ = k .0 in
     let c = codes line n s q (k .1) (b .0) in
     rw (k .2)
-    (one-reads a (IntoRegister (addressAt line) o (Address n) s) shape.IntoAddress line n (opmodeOf s) specifier.Nothing s everyMode 0 o
+    (one-reads a (IntoRegister (addressAt line) o (Address n) s) group.IntoAddress line n (opmodeOf s) specifier.Nothing s everyMode 0 o
     (q .2) (k .1) (c .0) (c .2) (rw (c .1)) refl (b .3) (b .1) t (rw (c .1)) (words a line o n s q (k .1)))
 
 pub adda-reads : (a : ℕ) (o : Operand) (r : RegisterOperand) (s : Size) → Accepted a (IntoRegister ADDA o r s) → Reads a (IntoRegister ADDA o r s)
@@ -130,12 +129,12 @@ cmpa-reads a o r s h = into-address-reads a 11 o r s (line-is 11 refl) h
 abbrev fieldsIn : ℕ → ℕ → ℕ → Bool
 fieldsIn l x o = isLine l && (not (isByte (sizeOf o)) && eqb (opmodeOf (sizeOf o)) o)
 
-in-fields : (line x opmode : ℕ) → line < 16 → x < 8 → opmode < 8 → shapeAt line x opmode ≡ shape.IntoAddress → fieldsIn line x opmode ≡ true
-unfolding shapeAt map
-in-fields = in-group shape.IntoAddress fieldsIn refl
+in-fields : (line x opmode : ℕ) → line < 16 → x < 8 → opmode < 8 → groupAt line x opmode ≡ group.IntoAddress → fieldsIn line x opmode ≡ true
+unfolding groupAt map
+in-fields = in-group group.IntoAddress fieldsIn refl
 
-encodes-as : (a line x ea : ℕ) (s : Size) (f : Fields) → Line line → x < 8 → Sized s → Following a (one specifier.Nothing s ea everyMode) f → plainFields f ≡ f
-    → Encodes a (IntoRegister (addressAt line) (f .source) (Address x) s) (wordOf line x (opmodeOf s) ea ∷ followingWords a (one specifier.Nothing s ea everyMode) f)
+encodes-as : (a line x ea : ℕ) (s : Size) (f : Tail) → Line line → x < 8 → Sized s → TailStands a (one specifier.Nothing s ea everyMode) f → plainTail f ≡ f
+    → Encodes a (IntoRegister (addressAt line) (f .source) (Address x) s) (wordOf line x (opmodeOf s) ea ∷ tailWords a (one specifier.Nothing s ea everyMode) f)
 encodes-as a line x ea s f q hx z h p =
     let b = one-back a specifier.Nothing s ea everyMode f h in
     one-encodes a (IntoRegister (addressAt line) (f .source) (Address x) s) line x (opmodeOf s) ea specifier.Nothing s everyMode f h
@@ -143,10 +142,10 @@ encodes-as a line x ea s f q hx z h p =
     (ap (λ o. IntoRegister (addressAt line) o (Address x) s) (source-plain f p))
     (words a line (f .source) x s q hx)
 
-pub into-address-six : (line x opmode ea : ℕ) → x < 8 → opmode < 8 → ea < 64 → InSixBits (layoutOf shape.IntoAddress line x opmode ea)
+pub into-address-six : (line x opmode ea : ℕ) → x < 8 → opmode < 8 → ea < 64 → InSixBits (layoutOf group.IntoAddress line x opmode ea)
 into-address-six line x opmode ea hx ho he = (he, omega arith)
 
-pub into-address-sound : Sound shape.IntoAddress
+pub into-address-sound : Sound group.IntoAddress
 into-address-sound a line x opmode ea hl hx ho he e f h p i r =
     let s : Size = sizeOf opmode in
     let t = and-true (isLine line) _ (in-fields line x opmode hl hx ho e) in

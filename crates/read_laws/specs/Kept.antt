@@ -7,12 +7,12 @@ use Rattle.isa.specs.declared.Instruction.{Instruction}
 use Rattle.read_spec.specs.declared.Reading.{Reading}
 use Rattle.read_spec.specs.declared.Reading.the-variants.{Read, Short, Nothing}
 use Rattle.read_spec.specs.Tree.{Tree, ret, fail, more, bind, run, Out, got, short, none, At, found, ended, refused}
-use Rattle.read_spec.specs.Depth.{Depth, fields-depth, atOut, depth-take}
-use Rattle.read_spec.specs.Map.{shapeAt}
-use Rattle.read_spec.specs.Layout.{fieldsTree}
+use Rattle.read_spec.specs.Depth.{Depth, tail-depth, atOut, depth-take}
+use Rattle.read_spec.specs.Map.{groupAt}
+use Rattle.read_spec.specs.Layout.{tailTree}
 use Rattle.read_spec.specs.Layouts.{layoutOf}
 use Rattle.read_spec.specs.Read.{reader, wordTree, readingOf, readOf}
-use Rattle.read_laws.specs.FormedLaws.{Flat, formed-flat}
+use Rattle.read_laws.specs.DecodedLaws.{Flat, decoded-flat}
 
 flat-depth : (t : Tree Instruction) → Flat t → (d : ℕ) → Depth t d
 flat-depth (ret i) h d = tt
@@ -33,9 +33,9 @@ deeper (more k) (suc d) h = λ at w. deeper (k at w) d (h at w)
 
 word-depth : (a line x opmode ea : ℕ) → Depth (wordTree a line x opmode ea) 15
 word-depth a line x opmode ea =
-    let s = shapeAt line x opmode in
+    let s = groupAt line x opmode in
     let t = wordTree a line x opmode ea in
-    let h : Depth t 12 = bind-depth (fieldsTree (layoutOf s line x opmode ea)) _ 12 (fields-depth (layoutOf s line x opmode ea)) (λ f. formed-flat a s line x opmode ea (f .value) (f .source) (f .destination)) in
+    let h : Depth t 12 = bind-depth (tailTree (layoutOf s line x opmode ea)) _ 12 (tail-depth (layoutOf s line x opmode ea)) (λ f. decoded-flat a s line x opmode ea (f .value) (f .source) (f .destination)) in
     deeper t 14 (deeper t 13 (deeper t 12 h))
 
 reader-depth : (a : ℕ) → Depth (reader a) 16

@@ -13,20 +13,20 @@ use Rattle.isa.specs.Code.{registerBits}
 use Rattle.encode_spec.specs.Ea.{isTyped, eaField, eaItems, single, withData}
 use Rattle.encode_spec.specs.Instruction.{typedOne, typedTwo, partsOf}
 use Rattle.encode_spec.specs.Encode.{refusalOf}
-use Rattle.read_spec.specs.declared.Shape.{Shape}
+use Rattle.read_spec.specs.declared.Group.{Group}
 use Rattle.read_spec.specs.declared.Specifier.{Specifier}
-use Rattle.read_spec.specs.declared.Fields.{Fields}
+use Rattle.read_spec.specs.declared.Tail.{Tail}
 use Rattle.read_spec.specs.Tree.{Tree, ret}
 use Rattle.read_spec.specs.Plain.{plain, plainOperand}
 use Rattle.read_spec.specs.LeftOut.{leftOut}
-use Rattle.read_spec.specs.Map.{shapeAt}
+use Rattle.read_spec.specs.Map.{groupAt}
 use Rattle.read_spec.specs.Layout.{one, alone}
 use Rattle.read_spec.specs.Layouts.{layoutOf}
-use Rattle.read_spec.specs.Formed.{formed, wordOf}
-use Rattle.read_operand_laws.specs.Stands.{Typed}
-use Rattle.read_operand_laws.specs.Following.{specifierWords, SpecifierStands, Following, followingWords}
+use Rattle.read_spec.specs.Decoded.{decoded, wordOf}
+use Rattle.read_operand_laws.specs.Stands.{InTypes}
+use Rattle.read_operand_laws.specs.TailStands.{specifierWords, SpecifierStands, TailStands, tailWords}
 use Rattle.read_operand_laws.specs.Facts.{fine-both, both-fine, unless-reason, unless-malformed, true-unless, number-lt, lt-number}
-use Rattle.read_laws.specs.Statements.{Reads, Encodes, TypedInstruction}
+use Rattle.read_laws.specs.Statements.{Reads, Encodes, InstructionInTypes}
 use Rattle.read_laws.specs.Forms.{Fitting, effective-back, effective-there, effective-words, placed-from, missing, one-back, one-reads, one-encodes, alone-reads, alone-encodes}
 
 -- by the place after n words
@@ -108,18 +108,18 @@ LaysOne i line x opmode k s modes v o D =
     (λ p. wordOf line x opmode (eaField o) ∷ (specifierWords k v ++ wordsIn (eaItems o s p)))
 
 module _ (a : ℕ) (i : Instruction) (line x opmode : ℕ) (k : Specifier) (s : Size) (modes : ℕ) (D : Type 0) where
-  pub lays-reads : (sh : Shape) (v : ℕ) (o : Operand) → LaysOne i line x opmode k s modes v o D → line < 16 → x < 8 → opmode < 8 → shapeAt line x opmode ≡ sh
+  pub lays-reads : (sh : Group) (v : ℕ) (o : Operand) → LaysOne i line x opmode k s modes v o D → line < 16 → x < 8 → opmode < 8 → groupAt line x opmode ≡ sh
       → layoutOf sh line x opmode (eaField o) ≡ one k s (eaField o) modes
-      → SpecifierStands k v → Typed o → refusalOf true i a ≡ fine
-      → (D → formed a sh line x opmode (eaField o) v (plainOperand o) missing ≡ ret (plain i))
+      → SpecifierStands k v → InTypes o → refusalOf true i a ≡ fine
+      → (D → decoded a sh line x opmode (eaField o) v (plainOperand o) missing ≡ ret (plain i))
       → Reads a i
   lays-reads sh v o l hl hx ho e y sp n r p =
       let c = lays-at l a .0 r in
       one-reads a i sh line x opmode k s modes v o hl hx ho e y sp (c .2) (c .0) n (p (c .1)) (lays-at l a .2)
 
-  pub lays-encodes : (ea : ℕ) (f : Fields) → LaysOne i line x opmode k s modes (f .value) (f .source) D → D
-      → TypedInstruction i → leftOut i a ≡ false → plain i ≡ i → Following a (one k s ea modes) f
-      → Encodes a i (wordOf line x opmode ea ∷ followingWords a (one k s ea modes) f)
+  pub lays-encodes : (ea : ℕ) (f : Tail) → LaysOne i line x opmode k s modes (f .value) (f .source) D → D
+      → InstructionInTypes i → leftOut i a ≡ false → plain i ≡ i → TailStands a (one k s ea modes) f
+      → Encodes a i (wordOf line x opmode ea ∷ tailWords a (one k s ea modes) f)
   lays-encodes ea f l d n y p h =
       let b = one-back a k s ea modes f h in
       one-encodes a i line x opmode ea k s modes f h (n, lays-at l a .1 (b .2, d, b .1), y) p (lays-at l a .2)
@@ -129,23 +129,23 @@ pub word-as : (a : ℕ) (i : Instruction) (w u : ℕ) (ws : List ℕ) → u ≡ 
 word-as a i w u ws e h = rw (← e) h
 
 -- what encodes is what is formed
-pub formed-as : (a : ℕ) (i j : Instruction) (w u : ℕ) (ws : List ℕ) → _≡_ {A = Tree Instruction} (ret j) (ret i) → u ≡ w → Encodes a j (u ∷ ws) → Encodes a i (w ∷ ws)
-formed-as a i j w u ws r e h =
+pub decoded-as : (a : ℕ) (i j : Instruction) (w u : ℕ) (ws : List ℕ) → _≡_ {A = Tree Instruction} (ret j) (ret i) → u ≡ w → Encodes a j (u ∷ ws) → Encodes a i (w ∷ ws)
+decoded-as a i j w u ws r e h =
     let q : j ≡ i = cc in
     rw (← q, ← e) h
 
 -- ---- an instruction in plain form, of a specifier alone
-pub plain-reads : (a : ℕ) (i : Instruction) (sh : Shape) (line x opmode ea : ℕ) (k : Specifier) (v : ℕ)
-    → line < 16 → x < 8 → opmode < 8 → ea < 64 → shapeAt line x opmode ≡ sh
+pub plain-reads : (a : ℕ) (i : Instruction) (sh : Group) (line x opmode ea : ℕ) (k : Specifier) (v : ℕ)
+    → line < 16 → x < 8 → opmode < 8 → ea < 64 → groupAt line x opmode ≡ sh
     → layoutOf sh line x opmode ea ≡ alone k → SpecifierStands k v
-    → formed a sh line x opmode ea v missing missing ≡ ret i
+    → decoded a sh line x opmode ea v missing missing ≡ ret i
     → Encodes a i (wordOf line x opmode ea ∷ specifierWords k v)
     → Reads a i
 plain-reads a i sh line x opmode ea k v hl hx ho he e l sp p h =
     alone-reads a i sh line x opmode ea k v hl hx ho he e l sp (p ∙ ap (λ (j : Instruction). ret j) (sym (h .1))) (h .2)
 
-pub plain-encodes : (a : ℕ) (i : Instruction) (w : ℕ) (k : Specifier) (f : Fields) → Following a (alone k) f
-    → Encodes a i (w ∷ specifierWords k (f .value)) → Encodes a i (w ∷ followingWords a (alone k) f)
+pub plain-encodes : (a : ℕ) (i : Instruction) (w : ℕ) (k : Specifier) (f : Tail) → TailStands a (alone k) f
+    → Encodes a i (w ∷ specifierWords k (f .value)) → Encodes a i (w ∷ tailWords a (alone k) f)
 plain-encodes a i w k f h e = alone-encodes a i w k f h (e .0) (e .1) (e .2)
 
 -- ---- a test and two register numbers

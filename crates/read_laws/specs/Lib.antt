@@ -13,7 +13,7 @@ pub mod Movem
 pub mod UnsizedIntoRegister
 pub mod WordIntoData
 pub mod IntoAddress
-pub mod FormedLaws
+pub mod DecodedLaws
 pub mod Tests
 pub mod Lines
 pub mod Conditions

@@ -1,4 +1,5 @@
 -- The mode that an operand is in, from the six bits of its effective address.
+use mathlib.Core.Bool.{cond}
 use Prim.Native.Nat.{ℕ, _+_, _*_, _-_, _%_, _<_, _≤_}
 use mathlib.Core.Path.{_≡_, refl, sym, subst}
 use native.Mathlib.Omega.{arith}
@@ -8,7 +9,7 @@ use Rattle.isa.specs.declared.AddressWidth.the-variants as width
 use Rattle.isa.specs.declared.RegisterOperand.the-variants.{Address, Data}
 use Rattle.isa.specs.declared.Operand.{Operand}
 use Rattle.isa.specs.declared.Operand.the-variants.{Immediate, Register, Indirect, PostIndirect, PreIndirect, IndirectDisplacement, IndirectIndex, PcDisplacement, PcIndex, Extended, Absolute}
-use Rattle.isa.specs.ExtensionWord.{pick, isCanonical}
+use Rattle.isa.specs.ExtensionWord.{isCanonical}
 use Rattle.encode_spec.specs.Ea.{modeOf, eaField}
 use Rattle.read_spec.specs.Operand.{modeAt}
 use Rattle.read_operand_laws.specs.Stands.{Stands}
@@ -20,11 +21,11 @@ mode-low m n h = rw (ltb-true (m * 8 + n % 8) 56 (omega arith)) (omega arith)
 abbrev Mode : Operand → Type 0
 Mode o = (modeAt (eaField o) ≡ modeOf o) × (modeOf o < 12) × (eaField o < 64)
 
-extended-mode : (base : ℕ) → base ≤ 8 → (modeAt (pick (ltb base 8) 6 7 * 8 + pick (ltb base 8) (base % 8) 3) ≡ pick (eqb base 8) 10 6) × (pick (eqb base 8) 10 6 < 12) × (pick (ltb base 8) 6 7 * 8 + pick (ltb base 8) (base % 8) 3 < 64)
+extended-mode : (base : ℕ) → base ≤ 8 → (modeAt (cond (ltb base 8) 6 7 * 8 + cond (ltb base 8) (base % 8) 3) ≡ cond (eqb base 8) 10 6) × (cond (eqb base 8) 10 6 < 12) × (cond (ltb base 8) 6 7 * 8 + cond (ltb base 8) (base % 8) 3 < 64)
 extended-mode base h = go (eq? base 8)
   where
-    go : Eq base 8 → (modeAt (pick (ltb base 8) 6 7 * 8 + pick (ltb base 8) (base % 8) 3) ≡ pick (eqb base 8) 10 6) × (pick (eqb base 8) 10 6 < 12) × (pick (ltb base 8) 6 7 * 8 + pick (ltb base 8) (base % 8) 3 < 64)
-    go (Eq.same p g) = subst (λ (b : ℕ). (modeAt (pick (ltb b 8) 6 7 * 8 + pick (ltb b 8) (b % 8) 3) ≡ pick (eqb b 8) 10 6) × (pick (eqb b 8) 10 6 < 12) × (pick (ltb b 8) 6 7 * 8 + pick (ltb b 8) (b % 8) 3 < 64)) (sym p) (refl, omega arith, omega arith)
+    go : Eq base 8 → (modeAt (cond (ltb base 8) 6 7 * 8 + cond (ltb base 8) (base % 8) 3) ≡ cond (eqb base 8) 10 6) × (cond (eqb base 8) 10 6 < 12) × (cond (ltb base 8) 6 7 * 8 + cond (ltb base 8) (base % 8) 3 < 64)
+    go (Eq.same p g) = subst (λ (b : ℕ). (modeAt (cond (ltb b 8) 6 7 * 8 + cond (ltb b 8) (b % 8) 3) ≡ cond (eqb b 8) 10 6) × (cond (eqb b 8) 10 6 < 12) × (cond (ltb b 8) 6 7 * 8 + cond (ltb b 8) (b % 8) 3 < 64)) (sym p) (refl, omega arith, omega arith)
     go (Eq.other p g) = rw (g, ltb-true base 8 (omega arith)) (mode-low 6 base (omega arith), omega arith, omega arith)
 
 pub mode-of : (s : Size) (at ea : ℕ) (o : Operand) → Stands s at ea o → Mode o

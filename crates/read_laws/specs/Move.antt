@@ -1,7 +1,7 @@
 -- MOVE MOVEA.
 use Prim.Native.Nat.{ℕ, _+_, _*_, _/_, _%_, _<_}
 use mathlib.Core.Path.{_≡_, refl, ap, sym, _∙_, subst}
-use mathlib.Core.Bool.{Bool, true, false, not}
+use mathlib.Core.Bool.{Bool, true, false, not, cond}
 use mathlib.Core.List.{List, [], _∷_, _++_}
 use native.Mathlib.Omega.{arith}
 use lib.Dec.{ltb, eqb}
@@ -15,34 +15,33 @@ use Rattle.isa.specs.declared.PairOperation.the-variants.{MOVE}
 use Rattle.isa.specs.declared.Operand.{Operand}
 use Rattle.isa.specs.declared.Operand.the-variants.{Immediate, Register, Indirect, PostIndirect, PreIndirect, IndirectDisplacement, IndirectIndex, PcDisplacement, PcIndex, Extended, Absolute}
 use Rattle.isa.specs.declared.Instruction.the-variants.{Pair, IntoRegister}
-use Rattle.isa.specs.ExtensionWord.{pick}
 use Rattle.encode_spec.specs.Item.{Item, fine, malformed, noEncoding, unless, addressRegister, addressVerdict, allow, failure, wordsIn, countOf, placed}
 use Rattle.isa.specs.Code.{moveCode, isByte, registerBits}
 use Rattle.encode_spec.specs.Ea.{everyMode, dataModes, dataAlterable, byteOfAddress, permits, isTyped, typed, modeField, registerField, eaField, eaItems, effective, withAddress}
 use Rattle.encode_spec.specs.Movement.{moveParts, moveaParts}
 use Rattle.encode_spec.specs.Instruction.{registerParts, pairParts}
 use Rattle.encode_spec.specs.Encode.{itemsOf, wordsOf, refusalOf}
-use Rattle.read_spec.specs.declared.Shape.the-variants as shape
+use Rattle.read_spec.specs.declared.Group.the-variants as group
 use Rattle.read_spec.specs.declared.Specifier.the-variants as specifier
-use Rattle.read_spec.specs.declared.Fields.{Fields}
+use Rattle.read_spec.specs.declared.Tail.{Tail}
 use Rattle.read_spec.specs.declared.Layout.{Layout}
 use Rattle.read_spec.specs.Tree.{ret}
-use Rattle.read_spec.specs.Plain.{plainFields}
+use Rattle.read_spec.specs.Plain.{plainTail}
 use Rattle.read_spec.specs.Operand.{permitted}
 use Rattle.read_spec.specs.Layout.{accepts, one, two, noLayout}
 use Rattle.read_spec.specs.Layouts.{readableModes, moveLayout, layoutOf}
-use Rattle.read_spec.specs.Map.{shapeAt, map, groupNumber}
+use Rattle.read_spec.specs.Map.{groupAt, map, groupNumber}
 use Rattle.read_spec.specs.Operation.{moveSize}
-use Rattle.read_spec.specs.Formed.{moveFormed, wordOf}
+use Rattle.read_spec.specs.Decoded.{moveDecoded, wordOf}
 use Rattle.read_operand_laws.specs.Stands.{Stands}
-use Rattle.read_operand_laws.specs.Following.{Following, followingWords}
+use Rattle.read_operand_laws.specs.TailStands.{TailStands, tailWords}
 use Rattle.read_operand_laws.specs.Facts.{Eq, eq?, true-not-false, below, all, and-true, true-and, fine-both, both-fine, failure-append, words-in-append, unless-malformed, unless-reason, eqb-eq, lt-number}
 use Rattle.read_laws.specs.Statements.{Accepted, Reads, reads, Encodes, Sound, InSixBits}
-use Rattle.read_laws.specs.MapLaws.{shape-is, in-group, each-size}
+use Rattle.read_laws.specs.MapLaws.{group-is, in-group, each-size}
 use Rattle.read_laws.specs.General.{address-bits}
 use Rattle.read_laws.specs.Permitted.{in-modes, not-true}
 use Rattle.read_operand_laws.specs.OperandLaws.{permits-is, stands-lt}
-use Rattle.read_laws.specs.Forms.{Fitting, effective-back, effective-there, effective-words, byte-modes, one-back, source-plain, destination-plain, formed-encodes}
+use Rattle.read_laws.specs.Forms.{Fitting, effective-back, effective-there, effective-words, byte-modes, one-back, source-plain, destination-plain, decoded-encodes}
 use Rattle.read_laws.specs.Specified.{Specified, specified-is, specified-reads, specified-sound}
 
 -- ---- the two operands of MOVE
@@ -116,7 +115,7 @@ register-lt (PcDisplacement t) = omega arith
 register-lt (PcIndex t x) = omega arith
 register-lt (Extended base w z outer) = go (ltb base 8)
   where
-    go : (b : Bool) → pick b (base % 8) 3 < 8
+    go : (b : Bool) → cond b (base % 8) 3 < 8
     go true = omega arith
     go false = omega arith
 register-lt (Absolute a width.Word) = omega arith
@@ -128,14 +127,14 @@ move-size Byte = (refl, omega arith)
 move-size Word = (refl, omega arith)
 move-size Long = (refl, omega arith)
 
-move-shape : (s : Size) (x opmode : ℕ) → x < 8 → opmode < 8 → shapeAt (moveCode s) x opmode ≡ shape.MOVE
-unfolding shapeAt map
-move-shape s x opmode hx ho =
-    let row : Size → ℕ → Bool = λ s o. all (λ x. eqb (groupNumber (shapeAt (moveCode s) x o)) 7) 8 in
+move-group : (s : Size) (x opmode : ℕ) → x < 8 → opmode < 8 → groupAt (moveCode s) x opmode ≡ group.MOVE
+unfolding groupAt map
+move-group s x opmode hx ho =
+    let row : Size → ℕ → Bool = λ s o. all (λ x. eqb (groupNumber (groupAt (moveCode s) x o)) 7) 8 in
     let t : all (row s) 8 ≡ true = each-size (λ s. all (row s) 8 ≡ true) refl refl refl s in
-    shape-is shape.MOVE (moveCode s) opmode (below (row s) 8 t opmode ho) x hx
+    group-is group.MOVE (moveCode s) opmode (below (row s) 8 t opmode ho) x hx
 
-abbrev movedFields : Operand → Operand → Fields
+abbrev movedFields : Operand → Operand → Tail
 movedFields o d = record { value = 0; source = o; destination = d }
 
 pub move-reads : (a : ℕ) (o d : Operand) (s : Size) → Accepted a (Pair MOVE o d s) → Reads a (Pair MOVE o d s)
@@ -148,8 +147,8 @@ move-reads a o d s ((n, v), e, l) =
     let z : eaField d / 8 ≡ modeField d = omega arith in
     let k = stands-lt s (destinationPlace a o s) (eaField d) d q in
     let y : moveLayout (moveSize (moveCode s)) (registerField d) (modeField d) (eaField o) ≡ two specifier.Nothing s (eaField o) (readableModes s) (eaField d) dataAlterable = rw (move-size s .0, rw z at m) in
-    reads shape.MOVE (moveCode s) (registerField d) (modeField d) (eaField o) (movedFields o d) (move-size s .1) r (omega arith) (stands-lt s (placed a 1) (eaField o) o p)
-    (move-shape s (registerField d) (modeField d) r (omega arith))
+    reads group.MOVE (moveCode s) (registerField d) (modeField d) (eaField o) (movedFields o d) (move-size s .1) r (omega arith) (stands-lt s (placed a 1) (eaField o) o p)
+    (move-group s (registerField d) (modeField d) r (omega arith))
     (rw y (
       true-and (permitted (readableModes s) (eaField o)) (permitted dataAlterable (eaField d)) (sym (permits-is (readableModes s) s (placed a 1) (eaField o) o p) ∙ g .0)
           (sym (permits-is dataAlterable s (destinationPlace a o s) (eaField d) d q) ∙ h .0),
@@ -178,8 +177,8 @@ before-back o s e =
 pub movea-reads : (a : ℕ) (o : Operand) (r : RegisterOperand) (s : Size) → Accepted a (IntoRegister MOVEA o r s) → Reads a (IntoRegister MOVEA o r s)
 movea-reads a o r s acc =
     let m = move-size s in
-    specified-reads a (IntoRegister MOVEA o r s) shape.MOVE (before o s) (moveCode s) (registerBits r) 1 (addressRegister r ∷ []) specifier.Nothing 0 s everyMode o
-    (movea-is a o r s 0) acc (m .1) (omega arith) (omega arith) (move-shape s (registerBits r) 1 (omega arith) (omega arith)) (acc .0)
+    specified-reads a (IntoRegister MOVEA o r s) group.MOVE (before o s) (moveCode s) (registerBits r) 1 (addressRegister r ∷ []) specifier.Nothing 0 s everyMode o
+    (movea-is a o r s 0) acc (m .1) (omega arith) (omega arith) (move-group s (registerBits r) 1 (omega arith) (omega arith)) (acc .0)
     (λ g.
     let b = before-back o s (g .0) in
     (rw (m .0, b .1), refl, b .0, rw (m .0, address-bits r (fine-both (addressVerdict r) fine (g .1) .0))))
@@ -188,13 +187,13 @@ movea-reads a o r s acc =
 abbrev fieldsIn : ℕ → ℕ → ℕ → Bool
 fieldsIn l x o = eqb (moveCode (moveSize l)) l
 
-in-fields : (line x opmode : ℕ) → line < 16 → x < 8 → opmode < 8 → shapeAt line x opmode ≡ shape.MOVE → fieldsIn line x opmode ≡ true
-unfolding shapeAt map
-in-fields = in-group shape.MOVE fieldsIn refl
+in-fields : (line x opmode : ℕ) → line < 16 → x < 8 → opmode < 8 → groupAt line x opmode ≡ group.MOVE → fieldsIn line x opmode ≡ true
+unfolding groupAt map
+in-fields = in-group group.MOVE fieldsIn refl
 
-move-encodes : (a x opmode ea : ℕ) (s : Size) (f : Fields) → x < 8 → Following a (two specifier.Nothing s ea (readableModes s) (opmode * 8 + x) dataAlterable) f → plainFields f ≡ f
+move-encodes : (a x opmode ea : ℕ) (s : Size) (f : Tail) → x < 8 → TailStands a (two specifier.Nothing s ea (readableModes s) (opmode * 8 + x) dataAlterable) f → plainTail f ≡ f
     → Encodes a (Pair MOVE (f .source) (f .destination) s)
-    (wordOf (moveCode s) x opmode ea ∷ followingWords a (two specifier.Nothing s ea (readableModes s) (opmode * 8 + x) dataAlterable) f)
+    (wordOf (moveCode s) x opmode ea ∷ tailWords a (two specifier.Nothing s ea (readableModes s) (opmode * 8 + x) dataAlterable) f)
 move-encodes a x opmode ea s f hx (c, v, q, k) p =
     let o = f .source in
     let d = f .destination in
@@ -207,13 +206,13 @@ move-encodes a x opmode ea s f hx (c, v, q, k) p =
     let r : registerField d ≡ x = omega arith in
     (((q .2, k .2), move-there a o d s (q .1, k .1, g, h), refl), rw (source-plain f p, destination-plain f p), move-words a o d s ∙ rw (m, r, q .3))
 
-pub move-sound : Sound shape.MOVE
+pub move-sound : Sound group.MOVE
 move-sound a line x opmode ea hl hx ho he e f h p i r = go (eq? opmode 1)
   where
     t : moveCode (moveSize line) ≡ line
     t = eqb-eq (moveCode (moveSize line)) line (in-fields line x opmode hl hx ho e)
 
-    movea : (b : Bool) → isByte (moveSize line) ≡ b → opmode ≡ 1 → eqb opmode 1 ≡ true → Encodes a i (wordOf line x opmode ea ∷ followingWords a (layoutOf shape.MOVE line x opmode ea) f)
+    movea : (b : Bool) → isByte (moveSize line) ≡ b → opmode ≡ 1 → eqb opmode 1 ≡ true → Encodes a i (wordOf line x opmode ea ∷ tailWords a (layoutOf group.MOVE line x opmode ea) f)
     movea true n m g =
         let y : moveLayout (moveSize line) x opmode ea ≡ noLayout = rw (g, n) in
         true-not-false (subst (λ (l : Layout). accepts l ≡ true) y (h .0)) refl
@@ -221,8 +220,8 @@ move-sound a line x opmode ea hl hx ho he e f h p i r = go (eq? opmode 1)
         let s = moveSize line in
         let o = f .source in
         let y : one specifier.Nothing s ea everyMode ≡ moveLayout s x opmode ea = rw (g, n) in
-        let q : IntoRegister MOVEA o (Address x) s ≡ moveFormed line x opmode o (f .destination) = rw g in
-        let k = subst (λ (l : Layout). Following a l f) (sym y) h in
+        let q : IntoRegister MOVEA o (Address x) s ≡ moveDecoded line x opmode o (f .destination) = rw g in
+        let k = subst (λ (l : Layout). TailStands a l f) (sym y) h in
         let b = one-back a specifier.Nothing s ea everyMode f k in
         let w : x % 8 ≡ x = omega arith in
         specified-sound a i (IntoRegister MOVEA o (Address x) s) (wordOf line x opmode ea) (moveLayout s x opmode ea) (before o s) (moveCode s) (registerBits (Address x)) 1 ea
@@ -230,17 +229,17 @@ move-sound a line x opmode ea hl hx ho he e f h p i r = go (eq? opmode 1)
         (rw (b .2, n)) (rw (lt-number x hx)) (b .3) refl
         (ap (λ o. IntoRegister MOVEA o (Address x) s) (source-plain f p))
 
-    go : Eq opmode 1 → Encodes a i (wordOf line x opmode ea ∷ followingWords a (layoutOf shape.MOVE line x opmode ea) f)
+    go : Eq opmode 1 → Encodes a i (wordOf line x opmode ea ∷ tailWords a (layoutOf group.MOVE line x opmode ea) f)
     go (Eq.same m g) = movea (isByte (moveSize line)) refl m g
     go (Eq.other m g) =
         let s = moveSize line in
         let l = two specifier.Nothing s ea (readableModes s) (opmode * 8 + x) dataAlterable in
         let y : l ≡ moveLayout s x opmode ea = rw g in
-        let q : Pair MOVE (f .source) (f .destination) s ≡ moveFormed line x opmode (f .source) (f .destination) = rw g in
-        formed-encodes a i (Pair MOVE (f .source) (f .destination) s) (wordOf line x opmode ea) (wordOf (moveCode s) x opmode ea) (moveLayout s x opmode ea) l f (ap ret q ∙ r) (rw t) y
-        (move-encodes a x opmode ea s f hx (subst (λ (l : Layout). Following a l f) (sym y) h) p)
+        let q : Pair MOVE (f .source) (f .destination) s ≡ moveDecoded line x opmode (f .source) (f .destination) = rw g in
+        decoded-encodes a i (Pair MOVE (f .source) (f .destination) s) (wordOf line x opmode ea) (wordOf (moveCode s) x opmode ea) (moveLayout s x opmode ea) l f (ap ret q ∙ r) (rw t) y
+        (move-encodes a x opmode ea s f hx (subst (λ (l : Layout). TailStands a l f) (sym y) h) p)
 
-pub move-six : (line x opmode ea : ℕ) → x < 8 → opmode < 8 → ea < 64 → InSixBits (layoutOf shape.MOVE line x opmode ea)
+pub move-six : (line x opmode ea : ℕ) → x < 8 → opmode < 8 → ea < 64 → InSixBits (layoutOf group.MOVE line x opmode ea)
 move-six line x opmode ea hx ho he = go (eqb opmode 1) refl (isByte (moveSize line)) refl
   where
     go : (b : Bool) → eqb opmode 1 ≡ b → (c : Bool) → isByte (moveSize line) ≡ c → InSixBits (moveLayout (moveSize line) x opmode ea)

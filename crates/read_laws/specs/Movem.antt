@@ -18,17 +18,17 @@ use Rattle.encode_spec.specs.Ea.{movemToMemory, isTyped, eaField, eaItems}
 use Rattle.encode_spec.specs.Movement.{movemModes, movemReason, movemParts}
 use Rattle.encode_spec.specs.Arithmetic.{extOpmode}
 use Rattle.encode_spec.specs.Encode.{wordsOf, refusalOf}
-use Rattle.read_spec.specs.declared.Shape.the-variants as shape
+use Rattle.read_spec.specs.declared.Group.the-variants as group
 use Rattle.read_spec.specs.declared.Specifier.the-variants as specifier
-use Rattle.read_spec.specs.declared.Fields.{Fields}
-use Rattle.read_spec.specs.Plain.{plainFields}
+use Rattle.read_spec.specs.declared.Tail.{Tail}
+use Rattle.read_spec.specs.Plain.{plainTail}
 use Rattle.read_spec.specs.Layout.{one, bare}
 use Rattle.read_spec.specs.Layouts.{layoutOf}
-use Rattle.read_spec.specs.Map.{shapeAt, map}
+use Rattle.read_spec.specs.Map.{groupAt, map}
 use Rattle.read_spec.specs.Operation.{sizeAt, toMemoryAt}
-use Rattle.read_spec.specs.Formed.{wordOf}
-use Rattle.read_operand_laws.specs.Stands.{Typed}
-use Rattle.read_operand_laws.specs.Following.{Following, followingWords}
+use Rattle.read_spec.specs.Decoded.{wordOf}
+use Rattle.read_operand_laws.specs.Stands.{InTypes}
+use Rattle.read_operand_laws.specs.TailStands.{TailStands, tailWords}
 use Rattle.read_operand_laws.specs.Facts.{and-true, eqb-eq, ltb-is, fine-both, both-fine, unless-malformed, unless-reason, true-unless}
 use Rattle.read_laws.specs.Statements.{Accepted, Reads, Encodes, Sound, InSixBits}
 use Rattle.read_laws.specs.MapLaws.{in-group}
@@ -73,11 +73,11 @@ module _ (a : ℕ) (direction : TargetDirection) (s : Size) (mask : ℕ) (o : Op
 -- ---- T1
 abbrev Codes : TargetDirection → Size → Type 0
 Codes direction s =
-    (codeOf direction < 8) × (opmodeOf s < 8) × (shapeAt 4 (codeOf direction) (opmodeOf s) ≡ shape.MOVEM)
+    (codeOf direction < 8) × (opmodeOf s < 8) × (groupAt 4 (codeOf direction) (opmodeOf s) ≡ group.MovemExt)
     × (toMemoryAt (5 - codeOf direction) ≡ direction) × (sizeAt (opmodeOf s - 1) ≡ s)
 
 codes : (direction : TargetDirection) (s : Size) → Sized s → Codes direction s
-unfolding shapeAt map
+unfolding groupAt map
 codes ToMemory Byte z = absurd (false≢true z)
 codes ToMemory Word z = (omega arith, omega arith, refl, refl, refl)
 codes ToMemory Long z = (omega arith, omega arith, refl, refl, refl)
@@ -86,7 +86,7 @@ codes FromMemory Word z = (omega arith, omega arith, refl, refl, refl)
 codes FromMemory Long z = (omega arith, omega arith, refl, refl, refl)
 
 -- EXT stands where MOVEM to memory has no mode
-not-ext : (direction : TargetDirection) (s : Size) (at : ℕ) (o : Operand) → Fitting s at (movemModes direction) o → isTyped o ≡ true → Typed o
+not-ext : (direction : TargetDirection) (s : Size) (at : ℕ) (o : Operand) → Fitting s at (movemModes direction) o → isTyped o ≡ true → InTypes o
     → eqb (codeOf direction) 4 && ltb (eaField o) 8 ≡ false
 not-ext ToMemory s at o g t n = apart movemToMemory (λ ea. ltb ea 8) refl s at o g t n
 not-ext FromMemory s at o g t n = refl
@@ -97,7 +97,7 @@ movem-reads a direction s mask o (n, e, l) =
     let c = codes direction s (b .0) in
     let m : mask % 65536 ≡ mask = omega (arith, n .0) in
     let q = not-ext direction s (placed a 2) o (b .2) (b .1) (n .1) in
-    one-reads a (MOVEM direction s mask o) shape.MOVEM 4 (codeOf direction) (opmodeOf s) specifier.Word s (movemModes direction) mask o
+    one-reads a (MOVEM direction s mask o) group.MovemExt 4 (codeOf direction) (opmodeOf s) specifier.Word s (movemModes direction) mask o
     (omega arith) (c .0) (c .1) (c .2) (rw (q, c .3, c .4)) (n .0, refl) (b .2) (b .1) (n .1) (rw (q, c .3, c .4, m)) (words a direction s mask o)
 
 -- ---- T2
@@ -106,12 +106,12 @@ fieldsIn l x o =
     eqb l 4 && (eqb (codeOf (toMemoryAt (5 - x))) x && (eqb (opmodeOf (sizeAt (o - 1))) o
     && (not (isByte (sizeAt (o - 1))) && (eqb (extOpmode (sizeAt (o - 2)) (sizeAt (o - 1))) o && not (eqb o 0)))))
 
-in-fields : (line x opmode : ℕ) → line < 16 → x < 8 → opmode < 8 → shapeAt line x opmode ≡ shape.MOVEM → fieldsIn line x opmode ≡ true
-unfolding shapeAt map
-in-fields = in-group shape.MOVEM fieldsIn refl
+in-fields : (line x opmode : ℕ) → line < 16 → x < 8 → opmode < 8 → groupAt line x opmode ≡ group.MovemExt → fieldsIn line x opmode ≡ true
+unfolding groupAt map
+in-fields = in-group group.MovemExt fieldsIn refl
 
-sound-as : (a ea : ℕ) (direction : TargetDirection) (s : Size) → Sized s → (f : Fields) → Following a (one specifier.Word s ea (movemModes direction)) f → plainFields f ≡ f
-    → Encodes a (MOVEM direction s (f .value % 65536) (f .source)) (wordOf 4 (codeOf direction) (opmodeOf s) ea ∷ followingWords a (one specifier.Word s ea (movemModes direction)) f)
+sound-as : (a ea : ℕ) (direction : TargetDirection) (s : Size) → Sized s → (f : Tail) → TailStands a (one specifier.Word s ea (movemModes direction)) f → plainTail f ≡ f
+    → Encodes a (MOVEM direction s (f .value % 65536) (f .source)) (wordOf 4 (codeOf direction) (opmodeOf s) ea ∷ tailWords a (one specifier.Word s ea (movemModes direction)) f)
 sound-as a ea direction s z f h p =
     let b = one-back a specifier.Word s ea (movemModes direction) f h in
     let m : f .value % 65536 ≡ f .value = omega (arith, b .0 .0) in
@@ -121,11 +121,11 @@ sound-as a ea direction s z f h p =
     (ap (λ o. MOVEM direction s (f .value) o) (source-plain f p))
     (words a direction s (f .value) (f .source)))
 
-pub movem-six : (line x opmode ea : ℕ) → x < 8 → opmode < 8 → ea < 64 → InSixBits (layoutOf shape.MOVEM line x opmode ea)
+pub movem-six : (line x opmode ea : ℕ) → x < 8 → opmode < 8 → ea < 64 → InSixBits (layoutOf group.MovemExt line x opmode ea)
 movem-six line x opmode ea hx ho he =
     pick-six (eqb x 4 && ltb ea 8) bare (one specifier.Word (sizeAt (opmode - 1)) ea (movemModes (toMemoryAt (5 - x)))) (omega arith) (he, omega arith)
 
-pub movem-sound : Sound shape.MOVEM
+pub movem-sound : Sound group.MovemExt
 movem-sound a line x opmode ea hl hx ho he e f h p i r =
     let s : Size = sizeAt (opmode - 1) in
     let direction : TargetDirection = toMemoryAt (5 - x) in

@@ -23,27 +23,27 @@ use Rattle.encode_spec.specs.Ea.{permits, isTyped, eaField, eaItems}
 use Rattle.encode_spec.specs.Movement.{movepItems, movepParts}
 use Rattle.encode_spec.specs.Instruction.{transferParts}
 use Rattle.encode_spec.specs.Encode.{wordsOf, refusalOf}
-use Rattle.read_spec.specs.declared.Shape.the-variants as shape
+use Rattle.read_spec.specs.declared.Group.the-variants as group
 use Rattle.read_spec.specs.declared.Specifier.the-variants as specifier
-use Rattle.read_spec.specs.declared.Fields.{Fields}
+use Rattle.read_spec.specs.declared.Tail.{Tail}
 use Rattle.read_spec.specs.Tree.{Tree, ret, fail, more}
 use Rattle.read_spec.specs.Layout.{one}
 use Rattle.read_spec.specs.Layouts.{dynamicLayout}
-use Rattle.read_spec.specs.Map.{shapeAt, map}
+use Rattle.read_spec.specs.Map.{groupAt, map}
 use Rattle.read_spec.specs.Operation.{sizeAt, toMemoryAt}
 use Rattle.base_signed.specs.Signed.{bitsOf}
-use Rattle.read_spec.specs.Formed.{movepFormed, wordOf}
-use Rattle.read_operand_laws.specs.Following.{Following, followingWords}
+use Rattle.read_spec.specs.Decoded.{movepDecoded, wordOf}
+use Rattle.read_operand_laws.specs.TailStands.{TailStands, tailWords}
 use Rattle.read_operand_laws.specs.Facts.{below, and-true, leb-true, eqb-eq, lt-number, fine-both, both-fine, failure-append, reason-not, unless-reason, true-not-false, eqb-is}
 use Rattle.read_laws.specs.Statements.{Accepted, Reads, reads, Encodes}
-use Rattle.read_laws.specs.MapLaws.{implies, shape-is}
+use Rattle.read_laws.specs.MapLaws.{implies, group-is}
 use Rattle.read_laws.specs.General.{data-bits}
-use Rattle.read_laws.specs.Forms.{fieldsOf, behind, address-is, one-back, one-there, one-laid, one-words, formed-encodes}
+use Rattle.read_laws.specs.Forms.{fieldsOf, behind, address-is, one-back, one-there, one-laid, one-words, decoded-encodes}
 
 -- an operand is d16(An), or it is refused both ways
 data Displaced (o : Operand) : Type 0 where
   displaced : (z : ℤ) (base : RegisterOperand) → o ≡ IndirectDisplacement z base → Displaced o
-  other : movepItems o ≡ check (noEncoding 5) ∷ [] → ((x opmode : ℕ) → movepFormed x opmode o ≡ fail) → Displaced o
+  other : movepItems o ≡ check (noEncoding 5) ∷ [] → ((x opmode : ℕ) → movepDecoded x opmode o ≡ fail) → Displaced o
 
 displaced? : (o : Operand) → Displaced o
 displaced? (Immediate v) = other refl (λ x opmode. refl)
@@ -73,13 +73,13 @@ movepMode direction s = 4 + 2 * toMemory direction + longBit s
 
 mode-of : (direction : TargetDirection) (s : Size) → not (isByte s) ≡ true
     → (movepMode direction s < 8) × (toMemoryAt (movepMode direction s / 2 % 2) ≡ direction) × (sizeAt (1 + movepMode direction s % 2) ≡ s)
-    × ((x : ℕ) → x < 8 → shapeAt 0 x (movepMode direction s) ≡ shape.DynamicBit)
-unfolding shapeAt map
+    × ((x : ℕ) → x < 8 → groupAt 0 x (movepMode direction s) ≡ group.DynamicBitMovep)
+unfolding groupAt map
 mode-of direction Byte e = true-not-false e refl
-mode-of ToMemory Word e = (omega arith, refl, refl, shape-is shape.DynamicBit 0 6 refl)
-mode-of ToMemory Long e = (omega arith, refl, refl, shape-is shape.DynamicBit 0 7 refl)
-mode-of FromMemory Word e = (omega arith, refl, refl, shape-is shape.DynamicBit 0 4 refl)
-mode-of FromMemory Long e = (omega arith, refl, refl, shape-is shape.DynamicBit 0 5 refl)
+mode-of ToMemory Word e = (omega arith, refl, refl, group-is group.DynamicBitMovep 0 6 refl)
+mode-of ToMemory Long e = (omega arith, refl, refl, group-is group.DynamicBitMovep 0 7 refl)
+mode-of FromMemory Word e = (omega arith, refl, refl, group-is group.DynamicBitMovep 0 4 refl)
+mode-of FromMemory Long e = (omega arith, refl, refl, group-is group.DynamicBitMovep 0 5 refl)
 
 movep-back : (a : ℕ) (direction : TargetDirection) (s : Size) (r : RegisterOperand) (o : Operand) → refusalOf true (Transfer MOVEP direction s r o) a ≡ fine
     → (dataVerdict r ≡ fine) × (failure true (movepItems o) ≡ fine) × (not (isByte s) ≡ true)
@@ -116,7 +116,7 @@ movep-as a direction s r z n d e b =
     let g : eqb (ea / 8) 1 ≡ true = eqb-is (ea / 8) 1 (omega arith) in
     let k : 40 + ea % 8 ≡ 40 + n % 8 = omega arith in
     let y : dynamicLayout (movepMode direction s) ea ≡ one specifier.Nothing Word (eaField o) 32 = rw (g, k) in
-    reads shape.DynamicBit 0 (registerBits r) (movepMode direction s) ea (fieldsOf 0 o) (omega arith) (omega arith) (m .0) (omega arith) (m .3 (registerBits r) (omega arith))
+    reads group.DynamicBitMovep 0 (registerBits r) (movepMode direction s) ea (fieldsOf 0 o) (omega arith) (omega arith) (m .0) (omega arith) (m .3 (registerBits r) (omega arith))
     (rw y (one-there a specifier.Nothing Word 32 0 o refl (refl, e) refl tt))
     (rw (g, m .1, m .2, data-bits r d))
     (rw (y, one-laid a specifier.Nothing Word 32 0 o) (movep-words a direction s r z (Address n)))
@@ -141,16 +141,16 @@ isRet (ret i) = Unit {0}
 isRet fail = ⊥
 isRet (more k) = ⊥
 
-formed-items : (x opmode at : ℕ) (o : Operand) (i : Instruction) → movepFormed x opmode o ≡ ret i → movepItems o ≡ eaItems o Word at
-formed-items x opmode at o i r = go (displaced? o)
+decoded-items : (x opmode at : ℕ) (o : Operand) (i : Instruction) → movepDecoded x opmode o ≡ ret i → movepItems o ≡ eaItems o Word at
+decoded-items x opmode at o i r = go (displaced? o)
   where
     go : Displaced o → movepItems o ≡ eaItems o Word at
     go (Displaced.displaced z base q) = rw q
     go (Displaced.other m n) = absurd (subst isRet (sym r ∙ n x opmode) tt)
 
-module _ (a x opmode ea : ℕ) (f : Fields) (i : Instruction) (hx : x < 8) (h4 : 4 ≤ opmode) (ho : opmode < 8) (he : ea / 8 ≡ 1)
-    (h : Following a (one specifier.Nothing Word (40 + ea % 8) 32) f) (r : movepFormed x opmode (f .source) ≡ ret i) where
-  encodes-at : (z : ℤ) (n : ℕ) → f .source ≡ IndirectDisplacement z (Address n) → Encodes a i (wordOf 0 x opmode ea ∷ followingWords a (one specifier.Nothing Word (40 + ea % 8) 32) f)
+module _ (a x opmode ea : ℕ) (f : Tail) (i : Instruction) (hx : x < 8) (h4 : 4 ≤ opmode) (ho : opmode < 8) (he : ea / 8 ≡ 1)
+    (h : TailStands a (one specifier.Nothing Word (40 + ea % 8) 32) f) (r : movepDecoded x opmode (f .source) ≡ ret i) where
+  encodes-at : (z : ℤ) (n : ℕ) → f .source ≡ IndirectDisplacement z (Address n) → Encodes a i (wordOf 0 x opmode ea ∷ tailWords a (one specifier.Nothing Word (40 + ea % 8) 32) f)
   encodes-at z n q =
       let direction = toMemoryAt (opmode / 2 % 2) in
       let s = sizeAt (1 + opmode % 2) in
@@ -162,11 +162,11 @@ module _ (a x opmode ea : ℕ) (f : Fields) (i : Instruction) (hx : x < 8) (h4 :
       let u : x % 8 ≡ x = omega arith in
       let l = one specifier.Nothing Word (40 + ea % 8) 32 in
       let w : wordsOf j a ≡ wordOf 0 x opmode ea ∷ bitsOf z % 65536 ∷ [] = movep-words a direction s (Data x) z (Address n) ∙ rw (m .0, y, u) in
-      formed-encodes a i j _ _ l l f (rw q at r) refl refl
+      decoded-encodes a i j _ _ l l f (rw q at r) refl refl
       ((tt, movep-there a direction s (Data x) z (Address n) (lt-number x hx) (rw q at (b .1 .1)) (m .1), refl), refl, w ∙ rw (one-words a specifier.Nothing Word (40 + ea % 8) 32 f h, q))
 
-  pub movep-encodes : Encodes a i (wordOf 0 x opmode ea ∷ followingWords a (one specifier.Nothing Word (40 + ea % 8) 32) f)
+  pub movep-encodes : Encodes a i (wordOf 0 x opmode ea ∷ tailWords a (one specifier.Nothing Word (40 + ea % 8) 32) f)
   movep-encodes =
       let b = one-back a specifier.Nothing Word (40 + ea % 8) 32 f h in
-      let (z, n, l, q) = displaced-at (f .source) (rw (formed-items x opmode (behind a specifier.Nothing (f .value)) (f .source) i r) (b .1 .1)) in
+      let (z, n, l, q) = displaced-at (f .source) (rw (decoded-items x opmode (behind a specifier.Nothing (f .value)) (f .source) i r) (b .1 .1)) in
       encodes-at z n q

@@ -10,22 +10,22 @@ use Rattle.isa.specs.declared.RegisterOperand.the-variants.{Address, Data}
 use Rattle.isa.specs.declared.Instruction.the-variants.{MOVEQ}
 use Rattle.encode_spec.specs.Item.{fine, numberVerdict}
 use Rattle.encode_spec.specs.Movement.{moveqParts}
-use Rattle.read_spec.specs.declared.Shape.the-variants as shape
+use Rattle.read_spec.specs.declared.Group.the-variants as group
 use Rattle.read_spec.specs.declared.Specifier.the-variants as specifier
 use Rattle.read_spec.specs.Layout.{bare}
 use Rattle.read_spec.specs.Layouts.{layoutOf}
-use Rattle.read_spec.specs.Map.{shapeAt, map}
-use Rattle.read_spec.specs.Formed.{wordOf}
+use Rattle.read_spec.specs.Map.{groupAt, map}
+use Rattle.read_spec.specs.Decoded.{wordOf}
 use Rattle.read_operand_laws.specs.Facts.{and-true, fine-both, both-fine, number-lt, lt-number, reason-not, ltb-is, ltb-true, eqb-eq}
 use Rattle.read_laws.specs.Statements.{Accepted, Reads, Encodes, Sound, InSixBits}
 use Rattle.read_laws.specs.MapLaws.{in-group}
-use Rattle.read_laws.specs.Forms.{alone-reads, alone-encodes, formed-encodes}
+use Rattle.read_laws.specs.Forms.{alone-reads, alone-encodes, decoded-encodes}
 use Rattle.read_laws.specs.Lines.{in-line}
 use Rattle.read_laws.specs.SixBits.{alone-six}
 
-shape-at : (x opmode : ℕ) → x < 8 → opmode < 4 → shapeAt 7 x opmode ≡ shape.MOVEQ
-unfolding shapeAt map
-shape-at x opmode hx ho = in-line shape.MOVEQ 7 (λ o. ltb o 4) refl x opmode hx (omega arith) (ltb-true opmode 4 ho)
+group-at : (x opmode : ℕ) → x < 8 → opmode < 4 → groupAt 7 x opmode ≡ group.MOVEQ
+unfolding groupAt map
+group-at x opmode hx ho = in-line group.MOVEQ 7 (λ o. ltb o 4) refl x opmode hx (omega arith) (ltb-true opmode 4 ho)
 
 pub moveq-reads : (a v : ℕ) (r : RegisterOperand) → Accepted a (MOVEQ v r) → Reads a (MOVEQ v r)
 unfolding moveqParts
@@ -34,7 +34,7 @@ moveq-reads a v (Data n) (l, e, m) =
     let h = number-lt n (fine-both (numberVerdict n) fine e .0) in
     let w : n % 8 ≡ n = omega arith in
     let b : v / 64 % 4 * 64 + v % 64 ≡ v = omega arith in
-    alone-reads a (MOVEQ v (Data n)) shape.MOVEQ 7 n (v / 64) (v % 64) specifier.Nothing 0 (omega arith) h (omega arith) (omega arith) (shape-at n (v / 64) h (omega arith))
+    alone-reads a (MOVEQ v (Data n)) group.MOVEQ 7 n (v / 64) (v % 64) specifier.Nothing 0 (omega arith) h (omega arith) (omega arith) (group-at n (v / 64) h (omega arith))
     refl refl (rw b) (rw w)
 
 moveq-encodes : (a v n : ℕ) → v < 256 → n < 8 → Encodes a (MOVEQ v (Data n)) (wordOf 7 n (v / 64) (v % 64) ∷ [])
@@ -46,11 +46,11 @@ moveq-encodes a v n l h =
 abbrev fieldsIn : ℕ → ℕ → ℕ → Bool
 fieldsIn l x o = eqb l 7 && ltb o 4
 
-in-fields : (line x opmode : ℕ) → line < 16 → x < 8 → opmode < 8 → shapeAt line x opmode ≡ shape.MOVEQ → fieldsIn line x opmode ≡ true
-unfolding shapeAt map
-in-fields = in-group shape.MOVEQ fieldsIn refl
+in-fields : (line x opmode : ℕ) → line < 16 → x < 8 → opmode < 8 → groupAt line x opmode ≡ group.MOVEQ → fieldsIn line x opmode ≡ true
+unfolding groupAt map
+in-fields = in-group group.MOVEQ fieldsIn refl
 
-pub moveq-sound : Sound shape.MOVEQ
+pub moveq-sound : Sound group.MOVEQ
 moveq-sound a line x opmode ea hl hx ho he e f h p i r =
     let t = and-true (eqb line 7) _ (in-fields line x opmode hl hx ho e) in
     let l = eqb-eq line 7 (t .0) in
@@ -60,7 +60,7 @@ moveq-sound a line x opmode ea hl hx ho he e f h p i r =
     let b : v % 64 ≡ ea = omega arith in
     let c = moveq-encodes a v x (omega arith) hx in
     let w : wordOf 7 x (v / 64) (v % 64) ≡ wordOf line x opmode ea = rw (o, b, l) in
-    formed-encodes a i (MOVEQ v (Data x)) _ _ bare bare f r w refl (alone-encodes a (MOVEQ v (Data x)) (wordOf 7 x (v / 64) (v % 64)) specifier.Nothing f h (c .0) (c .1) (c .2))
+    decoded-encodes a i (MOVEQ v (Data x)) _ _ bare bare f r w refl (alone-encodes a (MOVEQ v (Data x)) (wordOf 7 x (v / 64) (v % 64)) specifier.Nothing f h (c .0) (c .1) (c .2))
 
-pub moveq-six : (line x opmode ea : ℕ) → x < 8 → opmode < 8 → ea < 64 → InSixBits (layoutOf shape.MOVEQ line x opmode ea)
+pub moveq-six : (line x opmode ea : ℕ) → x < 8 → opmode < 8 → ea < 64 → InSixBits (layoutOf group.MOVEQ line x opmode ea)
 moveq-six line x opmode ea hx ho he = alone-six specifier.Nothing

@@ -1,7 +1,7 @@
 -- MULS.L MULU.L DIVS.L DIVU.L.
 use Prim.Native.Nat.{ℕ, _+_, _*_, _/_, _%_, _<_}
 use mathlib.Core.Path.{_≡_, refl, ap, sym, _∙_}
-use mathlib.Core.Bool.{Bool, true, false, _&&_, _||_}
+use mathlib.Core.Bool.{Bool, true, false, _&&_, _||_, cond}
 use mathlib.Core.List.{List, [], _∷_}
 use native.Mathlib.Omega.{arith}
 use lib.Dec.{eqb}
@@ -12,20 +12,19 @@ use Rattle.isa.specs.declared.RegisterChoice.{RegisterChoice}
 use Rattle.isa.specs.declared.RegisterChoice.the-variants.{None, Some}
 use Rattle.isa.specs.declared.Operand.{Operand}
 use Rattle.isa.specs.declared.Instruction.the-variants.{MULL, DIVL}
-use Rattle.isa.specs.ExtensionWord.{pick}
 use Rattle.encode_spec.specs.Item.{Item, fine, word, register, failure, placed}
 use Rattle.isa.specs.Code.{bit}
 use Rattle.encode_spec.specs.Ea.{dataModes, typed}
 use Rattle.encode_spec.specs.Arithmetic.{signedBit, highNumber, highBits, mullParts, divlParts}
 use Rattle.encode_spec.specs.Encode.{itemsOf}
-use Rattle.read_spec.specs.declared.Shape.the-variants as shape
+use Rattle.read_spec.specs.declared.Group.the-variants as group
 use Rattle.read_spec.specs.declared.Specifier.the-variants as specifier
 use Rattle.read_spec.specs.Operation.{signAt}
-use Rattle.read_spec.specs.Map.{shapeAt, map}
+use Rattle.read_spec.specs.Map.{groupAt, map}
 use Rattle.read_spec.specs.Layout.{one, valid}
 use Rattle.read_spec.specs.Layouts.{layoutOf}
-use Rattle.read_spec.specs.Formed.{highAt, mullFormed, divlFormed, wordOf}
-use Rattle.read_operand_laws.specs.Following.{SpecifierStands}
+use Rattle.read_spec.specs.Decoded.{highAt, mullDecoded, divlDecoded, wordOf}
+use Rattle.read_operand_laws.specs.TailStands.{SpecifierStands}
 use Rattle.read_operand_laws.specs.Facts.{below, Eq, eq?, and-true, true-and, eqb-eq}
 use Rattle.read_laws.specs.Statements.{Accepted, Reads, Sound, InSixBits}
 use Rattle.read_laws.specs.MapLaws.{in-group}
@@ -102,12 +101,12 @@ divl-is a o q r wide sign v e =
     (λ g. ap (λ (w : ℕ). w ∷ []) e)
 
 pub divl-reads : (a : ℕ) (o : Operand) (q r : ℕ) (wide : Bool) (sign : Sign) → Accepted a (DIVL o q r wide sign) → Reads a (DIVL o q r wide sign)
-unfolding shapeAt map
+unfolding groupAt map
 divl-reads a o q r wide sign acc =
     let s = sign-bit sign in
     let b = wide-bit wide in
     let w = word-fields (q % 8) (signedBit sign) (bit wide) (r % 8) (omega arith) (s .1) (b .1) (omega arith) in
-    specified-reads a (DIVL o q r wide sign) shape.DIVL (typed o ∷ []) 4 6 1 (items q r (divlWord q r wide sign)) specifier.Divide (divlWord q r wide sign) Long dataModes o
+    specified-reads a (DIVL o q r wide sign) group.DIVL (typed o ∷ []) 4 6 1 (items q r (divlWord q r wide sign)) specifier.Divide (divlWord q r wide sign) Long dataModes o
     (divl-is a o q r wide sign (divlWord q r wide sign) refl) acc (omega arith) (omega arith) (omega arith) refl (acc .0)
     (λ g.
     let n = items-back q r (divlWord q r wide sign) (g .1) in
@@ -116,9 +115,9 @@ divl-reads a o q r wide sign acc =
 abbrev fieldsIn : ℕ → ℕ → ℕ → ℕ → Bool
 fieldsIn opmode l x o = eqb l 4 && (eqb x 6 && eqb o opmode)
 
-in-divl : (line x opmode : ℕ) → line < 16 → x < 8 → opmode < 8 → shapeAt line x opmode ≡ shape.DIVL → fieldsIn 1 line x opmode ≡ true
-unfolding shapeAt map
-in-divl = in-group shape.DIVL (fieldsIn 1) refl
+in-divl : (line x opmode : ℕ) → line < 16 → x < 8 → opmode < 8 → groupAt line x opmode ≡ group.DIVL → fieldsIn 1 line x opmode ≡ true
+unfolding groupAt map
+in-divl = in-group group.DIVL (fieldsIn 1) refl
 
 fields-at : (k line x opmode ea : ℕ) → fieldsIn k line x opmode ≡ true → wordOf 4 6 k ea ≡ wordOf line x opmode ea
 fields-at k line x opmode ea e =
@@ -126,7 +125,7 @@ fields-at k line x opmode ea e =
     let u = and-true (eqb x 6) _ (t .1) in
     rw (eqb-eq line 4 (t .0), eqb-eq x 6 (u .0), eqb-eq opmode k (u .1))
 
-pub divl-sound : Sound shape.DIVL
+pub divl-sound : Sound group.DIVL
 divl-sound a line x opmode ea hl hx ho he e f h p i r =
     let v = f .value in
     let s = signAt (v / 2048 % 2) in
@@ -134,12 +133,12 @@ divl-sound a line x opmode ea hl hx ho he e f h p i r =
     let b = one-back a specifier.Divide Long ea dataModes f h in
     let c : divlWord (v / 4096 % 8) (v % 8) wide s ≡ v =
     rw (bit-sign (v / 2048 % 2) (omega arith), bit-wide (v / 1024 % 2) (omega arith), again (v / 4096 % 8) (omega arith), again (v % 8) (omega arith)) (fields-word v (b .0)) in
-    specified-sound a i (divlFormed v (f .source)) (wordOf line x opmode ea) (one specifier.Divide Long ea dataModes) (typed (f .source) ∷ []) 4 6 1 ea (items (v / 4096 % 8) (v % 8) (divlWord (v / 4096 % 8) (v % 8) wide s))
+    specified-sound a i (divlDecoded v (f .source)) (wordOf line x opmode ea) (one specifier.Divide Long ea dataModes) (typed (f .source) ∷ []) 4 6 1 ea (items (v / 4096 % 8) (v % 8) (divlWord (v / 4096 % 8) (v % 8) wide s))
     specifier.Divide Long dataModes f r (fields-at 1 line x opmode ea (in-divl line x opmode hl hx ho e)) refl (divl-is a (f .source) (v / 4096 % 8) (v % 8) wide s v c) h
     (typed-there (f .source) (b .2)) (items-there (v / 4096 % 8) (v % 8) (divlWord (v / 4096 % 8) (v % 8) wide s) (omega arith) (omega arith)) (b .3) refl
-    (ap (λ o. divlFormed v o) (source-plain f p))
+    (ap (λ o. divlDecoded v o) (source-plain f p))
 
-pub divl-six : (line x opmode ea : ℕ) → x < 8 → opmode < 8 → ea < 64 → InSixBits (layoutOf shape.DIVL line x opmode ea)
+pub divl-six : (line x opmode ea : ℕ) → x < 8 → opmode < 8 → ea < 64 → InSixBits (layoutOf group.DIVL line x opmode ea)
 divl-six line x opmode ea hx ho he = one-six specifier.Divide Long ea dataModes he
 
 -- ---- MULL
@@ -156,7 +155,7 @@ mull-as low (Some n) sign = omega arith
 
 -- the choice by its bit and its number, and back
 high-is : (high : RegisterChoice) → highNumber high < 8
-    → (highBit high < 2) × (pick (eqb (highBit high) 1) (Some (highNumber high % 8)) None ≡ high) × ((eqb (highBit high) 1 || eqb (highNumber high % 8) 0) ≡ true)
+    → (highBit high < 2) × (cond (eqb (highBit high) 1) (Some (highNumber high % 8)) None ≡ high) × ((eqb (highBit high) 1 || eqb (highNumber high % 8) 0) ≡ true)
 high-is None h = (omega arith, refl, refl)
 high-is (Some n) h = (omega arith, ap Some (omega arith), refl)
 
@@ -176,11 +175,11 @@ mull-is a o low high sign v e =
     (λ g. ap (λ (w : ℕ). w ∷ []) e)
 
 pub mull-reads : (a : ℕ) (o : Operand) (low : ℕ) (high : RegisterChoice) (sign : Sign) → Accepted a (MULL o low high sign) → Reads a (MULL o low high sign)
-unfolding shapeAt map
+unfolding groupAt map
 mull-reads a o low high sign acc =
     let s = sign-bit sign in
     let v = longWord (low % 8) (signedBit sign) (highBit high) (highNumber high % 8) in
-    specified-reads a (MULL o low high sign) shape.MULL (typed o ∷ []) 4 6 0 (items (highNumber high) low (mullWord low high sign)) specifier.Multiply v Long dataModes o
+    specified-reads a (MULL o low high sign) group.MULL (typed o ∷ []) 4 6 0 (items (highNumber high) low (mullWord low high sign)) specifier.Multiply v Long dataModes o
     (mull-is a o low high sign v (mull-as low high sign)) acc (omega arith) (omega arith) (omega arith) refl (acc .0)
     (λ g.
     let n = items-back (highNumber high) low (mullWord low high sign) (g .1) in
@@ -189,11 +188,11 @@ mull-reads a o low high sign acc =
     let m : valid specifier.Multiply v ≡ true = true-and (valid specifier.Divide v) (eqb (v / 1024 % 2) 1 || eqb (v % 8) 0) (w .4 .1) (rw (w .2, w .3) (b .2)) in
     (refl, (w .4 .0, m), typed-back o (g .0), rw (w .0, w .1, w .2, w .3, s .0, b .1, again low (n .1))))
 
-in-mull : (line x opmode : ℕ) → line < 16 → x < 8 → opmode < 8 → shapeAt line x opmode ≡ shape.MULL → fieldsIn 0 line x opmode ≡ true
-unfolding shapeAt map
-in-mull = in-group shape.MULL (fieldsIn 0) refl
+in-mull : (line x opmode : ℕ) → line < 16 → x < 8 → opmode < 8 → groupAt line x opmode ≡ group.MULL → fieldsIn 0 line x opmode ≡ true
+unfolding groupAt map
+in-mull = in-group group.MULL (fieldsIn 0) refl
 
-pub mull-sound : Sound shape.MULL
+pub mull-sound : Sound group.MULL
 mull-sound a line x opmode ea hl hx ho he e f h p i r =
     let v = f .value in
     let s = signAt (v / 2048 % 2) in
@@ -203,10 +202,10 @@ mull-sound a line x opmode ea hl hx ho he e f h p i r =
     let n = is-high v (t .1) in
     let c : mullWord l (highAt v) s ≡ v =
     mull-as l (highAt v) s ∙ rw (bit-sign (v / 2048 % 2) (omega arith), n .0, n .1, again l (omega arith)) (fields-word v (b .0 .0, t .0)) in
-    specified-sound a i (mullFormed v (f .source)) (wordOf line x opmode ea) (one specifier.Multiply Long ea dataModes) (typed (f .source) ∷ []) 4 6 0 ea (items (highNumber (highAt v)) l (mullWord l (highAt v) s))
+    specified-sound a i (mullDecoded v (f .source)) (wordOf line x opmode ea) (one specifier.Multiply Long ea dataModes) (typed (f .source) ∷ []) 4 6 0 ea (items (highNumber (highAt v)) l (mullWord l (highAt v) s))
     specifier.Multiply Long dataModes f r (fields-at 0 line x opmode ea (in-mull line x opmode hl hx ho e)) refl (mull-is a (f .source) l (highAt v) s v c) h
     (typed-there (f .source) (b .2)) (items-there (highNumber (highAt v)) l (mullWord l (highAt v) s) (n .2) (omega arith)) (b .3) refl
-    (ap (λ o. mullFormed v o) (source-plain f p))
+    (ap (λ o. mullDecoded v o) (source-plain f p))
 
-pub mull-six : (line x opmode ea : ℕ) → x < 8 → opmode < 8 → ea < 64 → InSixBits (layoutOf shape.MULL line x opmode ea)
+pub mull-six : (line x opmode ea : ℕ) → x < 8 → opmode < 8 → ea < 64 → InSixBits (layoutOf group.MULL line x opmode ea)
 mull-six line x opmode ea hx ho he = one-six specifier.Multiply Long ea dataModes he

@@ -15,12 +15,12 @@ use Rattle.isa.specs.Code.{registerBits}
 use Rattle.encode_spec.specs.Movement.{linklParts}
 use Rattle.encode_spec.specs.Instruction.{linksParts}
 use Rattle.encode_spec.specs.Encode.{wordsOf, refusalOf}
-use Rattle.read_spec.specs.declared.Shape.the-variants as shape
+use Rattle.read_spec.specs.declared.Group.the-variants as group
 use Rattle.read_spec.specs.declared.Specifier.the-variants as specifier
 use Rattle.read_spec.specs.Layout.{alone}
 use Rattle.read_spec.specs.Layouts.{unsizedLayout, layoutOf}
-use Rattle.read_spec.specs.Map.{shapeAt, map}
-use Rattle.read_spec.specs.Formed.{wordOf}
+use Rattle.read_spec.specs.Map.{groupAt, map}
+use Rattle.read_spec.specs.Decoded.{wordOf}
 use Rattle.read_operand_laws.specs.Facts.{eqb-eq, lt-number, fine-both, both-fine}
 use Rattle.read_laws.specs.Statements.{Accepted, Reads, Sound, InSixBits}
 use Rattle.read_laws.specs.MapLaws.{in-group}
@@ -42,11 +42,11 @@ linkl-words a r d = refl
 
 -- ---- T1
 register-reads : (a n d : ℕ) → n < 8 → d < 2 ^ 32 → Reads a (Link LINKL (Address n) d)
-unfolding shapeAt map
+unfolding groupAt map
 register-reads a n d h t =
     let e : (8 + n % 8) / 8 ≡ 1 = omega arith in
     let k : (8 + n % 8) % 8 ≡ n = omega arith in
-    alone-reads a (Link LINKL (Address n) d) shape.NBCD 4 4 0 (8 + n % 8) specifier.Long d (omega arith) (omega arith) (omega arith) (omega arith)
+    alone-reads a (Link LINKL (Address n) d) group.NbcdLink 4 4 0 (8 + n % 8) specifier.Long d (omega arith) (omega arith) (omega arith) (omega arith)
     refl (rw e) (t, refl, refl) (rw (e, k)) (linkl-words a (Address n) d)
 
 pub linkl-reads : (a : ℕ) (r : RegisterOperand) (d : ℕ) → Accepted a (Link LINKL r d) → Reads a (Link LINKL r d)
@@ -55,14 +55,14 @@ linkl-reads a r d (t, e, l) =
     rw (q .2) (register-reads a (q .0) d (q .1) t)
 
 -- ---- T2
-in-fields : (line x opmode : ℕ) → line < 16 → x < 8 → opmode < 8 → shapeAt line x opmode ≡ shape.NBCD → eqb (line * 64 + x * 8 + opmode) 288 ≡ true
-unfolding shapeAt map
-in-fields = in-group shape.NBCD (λ l x o. eqb (l * 64 + x * 8 + o) 288) refl
+in-fields : (line x opmode : ℕ) → line < 16 → x < 8 → opmode < 8 → groupAt line x opmode ≡ group.NbcdLink → eqb (line * 64 + x * 8 + opmode) 288 ≡ true
+unfolding groupAt map
+in-fields = in-group group.NbcdLink (λ l x o. eqb (l * 64 + x * 8 + o) 288) refl
 
-pub nbcd-six : (line x opmode ea : ℕ) → x < 8 → opmode < 8 → ea < 64 → InSixBits (layoutOf shape.NBCD line x opmode ea)
+pub nbcd-six : (line x opmode ea : ℕ) → x < 8 → opmode < 8 → ea < 64 → InSixBits (layoutOf group.NbcdLink line x opmode ea)
 nbcd-six line x opmode ea hx ho he = pick-six (eqb (ea / 8) 1) (alone specifier.Long) (unsizedLayout NBCD ea) (omega arith) (he, omega arith)
 
-pub nbcd-sound : Sound shape.NBCD
+pub nbcd-sound : Sound group.NbcdLink
 nbcd-sound a line x opmode ea hl hx ho he e f h p i r =
     let w = eqb-eq (line * 64 + x * 8 + opmode) 288 (in-fields line x opmode hl hx ho e) in
     either-encodes a i (Link LINKL (Address (ea % 8)) (f .value)) (UnsizedOne NBCD (f .source)) (wordOf line x opmode ea) (eqb (ea / 8) 1)

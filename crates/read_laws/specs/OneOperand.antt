@@ -16,22 +16,22 @@ use Rattle.encode_spec.specs.Ea.{everyMode, dataModes, dataAlterable, byteOfAdd
 use Rattle.encode_spec.specs.Arithmetic.{tstParts}
 use Rattle.encode_spec.specs.Instruction.{oneParts}
 use Rattle.encode_spec.specs.Encode.{wordsOf, refusalOf}
-use Rattle.read_spec.specs.declared.Shape.the-variants as shape
+use Rattle.read_spec.specs.declared.Group.the-variants as group
 use Rattle.read_spec.specs.declared.Specifier.the-variants as specifier
-use Rattle.read_spec.specs.declared.Fields.{Fields}
+use Rattle.read_spec.specs.declared.Tail.{Tail}
 use Rattle.read_spec.specs.declared.Layout.{Layout}
-use Rattle.read_spec.specs.Plain.{plainFields}
+use Rattle.read_spec.specs.Plain.{plainTail}
 use Rattle.read_spec.specs.Layout.{one}
 use Rattle.read_spec.specs.Layouts.{readableModes, oneLayout, layoutOf}
-use Rattle.read_spec.specs.Map.{shapeAt, map}
+use Rattle.read_spec.specs.Map.{groupAt, map}
 use Rattle.read_spec.specs.Operation.{sizeAt, oneAt}
-use Rattle.read_spec.specs.Formed.{wordOf}
-use Rattle.read_operand_laws.specs.Stands.{Typed}
-use Rattle.read_operand_laws.specs.Following.{Following, followingWords}
+use Rattle.read_spec.specs.Decoded.{wordOf}
+use Rattle.read_operand_laws.specs.Stands.{InTypes}
+use Rattle.read_operand_laws.specs.TailStands.{TailStands, tailWords}
 use Rattle.read_operand_laws.specs.Facts.{and-true, true-and, unless-reason, ltb-is, fine-both, both-fine, unless-malformed, true-unless, eqb-eq}
 use Rattle.read_laws.specs.Statements.{Accepted, Reads, Encodes, Sound, InSixBits}
 use Rattle.read_laws.specs.MapLaws.{in-group, size-code, code-size, code-lt, each-size}
-use Rattle.read_laws.specs.Forms.{Fitting, effective-back, effective-there, effective-words, one-back, one-reads, one-encodes, source-plain, formed-encodes, single-back, single-there, single-words, byte-modes}
+use Rattle.read_laws.specs.Forms.{Fitting, effective-back, effective-there, effective-words, one-back, one-reads, one-encodes, source-plain, decoded-encodes, single-back, single-there, single-words, byte-modes}
 
 -- bits 11 to 9
 abbrev oneCode : OneOperation → ℕ
@@ -41,23 +41,23 @@ oneCode NEGX = 0
 oneCode NOT = 3
 oneCode TST = 5
 
-shape-at : (op : OneOperation) (s : Size) → shapeAt 4 (oneCode op) (sizeCode s) ≡ shape.OneOperand
-unfolding shapeAt map
-shape-at CLR s = each-size (λ t. shapeAt 4 1 (sizeCode t) ≡ shape.OneOperand) refl refl refl s
-shape-at NEG s = each-size (λ t. shapeAt 4 2 (sizeCode t) ≡ shape.OneOperand) refl refl refl s
-shape-at NEGX s = each-size (λ t. shapeAt 4 0 (sizeCode t) ≡ shape.OneOperand) refl refl refl s
-shape-at NOT s = each-size (λ t. shapeAt 4 3 (sizeCode t) ≡ shape.OneOperand) refl refl refl s
-shape-at TST s = each-size (λ t. shapeAt 4 5 (sizeCode t) ≡ shape.OneOperand) refl refl refl s
+group-at : (op : OneOperation) (s : Size) → groupAt 4 (oneCode op) (sizeCode s) ≡ group.OneOperand
+unfolding groupAt map
+group-at CLR s = each-size (λ t. groupAt 4 1 (sizeCode t) ≡ group.OneOperand) refl refl refl s
+group-at NEG s = each-size (λ t. groupAt 4 2 (sizeCode t) ≡ group.OneOperand) refl refl refl s
+group-at NEGX s = each-size (λ t. groupAt 4 0 (sizeCode t) ≡ group.OneOperand) refl refl refl s
+group-at NOT s = each-size (λ t. groupAt 4 3 (sizeCode t) ≡ group.OneOperand) refl refl refl s
+group-at TST s = each-size (λ t. groupAt 4 5 (sizeCode t) ≡ group.OneOperand) refl refl refl s
 
 -- one operation of the five, whose parts are `single`
 module _ (a : ℕ) (op : OneOperation) (o : Operand) (s : Size) (modes : ℕ) where
   reads-as : oneCode op < 8 → oneAt (oneCode op) ≡ op → oneLayout s (oneCode op) (eaField o) ≡ one specifier.Nothing s (eaField o) modes
-      → isTyped o ≡ true → Typed o → Fitting s (placed a 1) modes o
+      → isTyped o ≡ true → InTypes o → Fitting s (placed a 1) modes o
       → wordsOf (OneOperand op o s) a ≡ wordOf 4 (oneCode op) (sizeCode s) (eaField o) ∷ wordsIn (eaItems o s (placed a 1))
       → Reads a (OneOperand op o s)
   reads-as hx e l t n g w =
-      one-reads a (OneOperand op o s) shape.OneOperand 4 (oneCode op) (sizeCode s) specifier.Nothing s modes 0 o (omega arith) hx (omega (arith, code-lt s))
-      (shape-at op s) (rw (size-code s) l) refl g t n (rw (e, size-code s) refl) w
+      one-reads a (OneOperand op o s) group.OneOperand 4 (oneCode op) (sizeCode s) specifier.Nothing s modes 0 o (omega arith) hx (omega (arith, code-lt s))
+      (group-at op s) (rw (size-code s) l) refl g t n (rw (e, size-code s) refl) w
 
 -- TST is refused a byte of an address register before all else
 tst-back : (a : ℕ) (o : Operand) (s : Size) → refusalOf true (OneOperand TST o s) a ≡ fine → (isTyped o ≡ true) × Fitting s (placed a 1) (readableModes s) o
@@ -145,12 +145,12 @@ one-operand-reads a op o s (n, e, l) =
 abbrev fieldsIn : ℕ → ℕ → ℕ → Bool
 fieldsIn l x o = eqb l 4 && (eqb (oneCode (oneAt x)) x && ltb o 3)
 
-in-fields : (line x opmode : ℕ) → line < 16 → x < 8 → opmode < 8 → shapeAt line x opmode ≡ shape.OneOperand → fieldsIn line x opmode ≡ true
-unfolding shapeAt map
-in-fields = in-group shape.OneOperand fieldsIn refl
+in-fields : (line x opmode : ℕ) → line < 16 → x < 8 → opmode < 8 → groupAt line x opmode ≡ group.OneOperand → fieldsIn line x opmode ≡ true
+unfolding groupAt map
+in-fields = in-group group.OneOperand fieldsIn refl
 
-sound-as : (a ea : ℕ) (op : OneOperation) (s : Size) (f : Fields) → Following a (one specifier.Nothing s ea (oneModes op s)) f → plainFields f ≡ f
-    → Encodes a (OneOperand op (f .source) s) (wordOf 4 (oneCode op) (sizeCode s) ea ∷ followingWords a (one specifier.Nothing s ea (oneModes op s)) f)
+sound-as : (a ea : ℕ) (op : OneOperation) (s : Size) (f : Tail) → TailStands a (one specifier.Nothing s ea (oneModes op s)) f → plainTail f ≡ f
+    → Encodes a (OneOperand op (f .source) s) (wordOf 4 (oneCode op) (sizeCode s) ea ∷ tailWords a (one specifier.Nothing s ea (oneModes op s)) f)
 sound-as a ea op s f h p =
     let b = one-back a specifier.Nothing s ea (oneModes op s) f h in
     one-encodes a (OneOperand op (f .source) s) 4 (oneCode op) (sizeCode s) ea specifier.Nothing s (oneModes op s) f h
@@ -158,7 +158,7 @@ sound-as a ea op s f h p =
     (ap (λ o. OneOperand op o s) (source-plain f p))
     (one-words-as a op (f .source) s)
 
-pub one-operand-sound : Sound shape.OneOperand
+pub one-operand-sound : Sound group.OneOperand
 one-operand-sound a line x opmode ea hl hx ho he e f h p i r =
     let t = and-true (eqb line 4) _ (in-fields line x opmode hl hx ho e) in
     let u = and-true (eqb (oneCode (oneAt x)) x) _ (t .1) in
@@ -167,8 +167,8 @@ one-operand-sound a line x opmode ea hl hx ho he e f h p i r =
     let k = code-size opmode (ltb-is opmode 3 (u .1)) in
     let y : oneLayout (sizeAt opmode) x ea ≡ one specifier.Nothing (sizeAt opmode) ea (oneModes (oneAt x) (sizeAt opmode)) = subst (λ (n : ℕ). oneLayout (sizeAt opmode) n ea ≡ one specifier.Nothing (sizeAt opmode) ea (oneModes (oneAt x) (sizeAt opmode))) c (layout-as (oneAt x) (sizeAt opmode) ea) in
     let w : wordOf 4 (oneCode (oneAt x)) (sizeCode (sizeAt opmode)) ea ≡ wordOf line x opmode ea = rw (c, k, l) in
-    formed-encodes a i (OneOperand (oneAt x) (f .source) (sizeAt opmode)) _ _ _ _ f r w (sym y)
-    (sound-as a ea (oneAt x) (sizeAt opmode) f (subst (λ (m : Layout). Following a m f) y h) p)
+    decoded-encodes a i (OneOperand (oneAt x) (f .source) (sizeAt opmode)) _ _ _ _ f r w (sym y)
+    (sound-as a ea (oneAt x) (sizeAt opmode) f (subst (λ (m : Layout). TailStands a m f) y h) p)
 
-pub one-operand-six : (line x opmode ea : ℕ) → x < 8 → opmode < 8 → ea < 64 → InSixBits (layoutOf shape.OneOperand line x opmode ea)
+pub one-operand-six : (line x opmode ea : ℕ) → x < 8 → opmode < 8 → ea < 64 → InSixBits (layoutOf group.OneOperand line x opmode ea)
 one-operand-six line x opmode ea hx ho he = (he, omega arith)

@@ -1,7 +1,7 @@
 -- Which operand a mode and a register number name.
 use Prim.Native.Nat.{ℕ, _<_}
 use mathlib.Core.Path.{_≡_, refl, ap}
-use mathlib.Core.Bool.{Bool, true, false}
+use mathlib.Core.Bool.{Bool, true, false, cond}
 use mathlib.Core.List.{[], _∷_}
 use native.Mathlib.Omega.{arith}
 use lib.Dec.{eqb}
@@ -11,7 +11,6 @@ use Rattle.isa.specs.declared.RegisterOperand.the-variants.{Address, Data}
 use Rattle.isa.specs.declared.Operand.{Operand}
 use Rattle.isa.specs.declared.Operand.the-variants.{Immediate, Register, Indirect, PostIndirect, PreIndirect, IndirectDisplacement, IndirectIndex, PcDisplacement, PcIndex, Extended, Absolute}
 use Rattle.isa.specs.declared.AddressWidth.the-variants as width
-use Rattle.isa.specs.ExtensionWord.{pick}
 use Rattle.encode_spec.specs.Item.{fine, dataVerdict}
 use Rattle.isa.specs.Code.{registerBits}
 use Rattle.encode_spec.specs.Ea.{isRegister, isImmediate, modeOf, registerNumber}
@@ -57,7 +56,7 @@ simple (PcDisplacement t) h = absurd (omega arith)
 simple (PcIndex t x) h = absurd (omega arith)
 simple (Extended base w z outer) h = absurd (go (eqb base 8) h)
   where
-    go : (b : Bool) → pick b 10 6 < 5 → ⊥
+    go : (b : Bool) → cond b 10 6 < 5 → ⊥
     go true l = omega arith
     go false l = omega arith
 simple (Absolute a width.Word) h = absurd (omega arith)

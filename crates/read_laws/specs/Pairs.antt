@@ -10,8 +10,8 @@ use Rattle.isa.specs.declared.Operand.{Operand}
 use Rattle.isa.specs.declared.Operand.the-variants.{Register}
 use Rattle.isa.specs.declared.Instruction.the-variants.{Pair}
 use Rattle.encode_spec.specs.Ea.{memoryAlterable}
-use Rattle.read_spec.specs.declared.Shape.{Shape}
-use Rattle.read_spec.specs.declared.Shape.the-variants as shape
+use Rattle.read_spec.specs.declared.Group.{Group}
+use Rattle.read_spec.specs.declared.Group.the-variants as group
 use Rattle.read_spec.specs.Operation.{pairAt}
 use Rattle.read_laws.specs.Statements.{Accepted, Reads}
 use Rattle.read_laws.specs.MapLaws.{each-size}
@@ -26,7 +26,7 @@ use Rattle.read_laws.specs.Exchange.{exchange-slot}
 
 -- a group for each size
 abbrev Slots : ℕ → Size → Type 0
-Slots line s = (sh : Shape) × Slot sh (pairAt line) line memoryAlterable s
+Slots line s = (sh : Group) × Slot sh (pairAt line) line memoryAlterable s
 
 pair-as : (line : ℕ) → among memoryLines line ≡ true → ((s : Size) → Slots line s)
     → ((a : ℕ) (o : Operand) (r : RegisterOperand) (s : Size) → Accepted a (Pair (pairAt line) o (Register r) s) → Reads a (Pair (pairAt line) o (Register r) s))
@@ -36,19 +36,19 @@ pair-as line t slots into a o d s =
     (λ d e. pair-reads a (slots s .0) line o d s (slots s .1) t e) d
 
 pub add-reads : (a : ℕ) (o d : Operand) (s : Size) → Accepted a (Pair ADD o d s) → Reads a (Pair ADD o d s)
-add-reads = pair-as 13 refl (λ s. (shape.Arithmetic, arithmetic-slot 13 refl s)) (into-reads 13 refl)
+add-reads = pair-as 13 refl (λ s. (group.ArithmeticExtended, arithmetic-slot 13 refl s)) (into-reads 13 refl)
 
 pub sub-reads : (a : ℕ) (o d : Operand) (s : Size) → Accepted a (Pair SUB o d s) → Reads a (Pair SUB o d s)
-sub-reads = pair-as 9 refl (λ s. (shape.Arithmetic, arithmetic-slot 9 refl s)) (into-reads 9 refl)
+sub-reads = pair-as 9 refl (λ s. (group.ArithmeticExtended, arithmetic-slot 9 refl s)) (into-reads 9 refl)
 
 pub or-reads : (a : ℕ) (o d : Operand) (s : Size) → Accepted a (Pair OR o d s) → Reads a (Pair OR o d s)
 or-reads =
     pair-as 8 refl
-    (each-size (Slots 8) (shape.Decimal, decimal-slot 8 refl) (shape.Pack, pack-slot Word refl) (shape.Pack, pack-slot Long refl))
+    (each-size (Slots 8) (group.LogicDecimal, decimal-slot 8 refl) (group.LogicPack, pack-slot Word refl) (group.LogicPack, pack-slot Long refl))
     (into-reads 8 refl)
 
 pub and-reads : (a : ℕ) (o d : Operand) (s : Size) → Accepted a (Pair AND o d s) → Reads a (Pair AND o d s)
 and-reads =
     pair-as 12 refl
-    (each-size (Slots 12) (shape.Decimal, decimal-slot 12 refl) (shape.Exchange, exchange-slot Word refl) (shape.Exchange, exchange-slot Long refl))
+    (each-size (Slots 12) (group.LogicDecimal, decimal-slot 12 refl) (group.LogicExchange, exchange-slot Word refl) (group.LogicExchange, exchange-slot Long refl))
     (into-reads 12 refl)

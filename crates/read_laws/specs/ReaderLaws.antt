@@ -7,27 +7,27 @@ use lib.ListN.{length, take, replicate, length-append}
 use lib.Seq.{take-at}
 use Rattle.isa.specs.declared.Instruction.{Instruction}
 use Rattle.encode_spec.specs.Encode.{wordsOf}
-use Rattle.read_spec.specs.declared.Shape.{Shape}
-use Rattle.read_spec.specs.declared.Fields.{Fields}
+use Rattle.read_spec.specs.declared.Group.{Group}
+use Rattle.read_spec.specs.declared.Tail.{Tail}
 use Rattle.read_spec.specs.declared.Reading.the-variants.{Read, Short, Nothing}
 use Rattle.read_spec.specs.Tree.{Tree, run, Out, got, short, none}
-use Rattle.read_spec.specs.Plain.{plain, plainFields}
-use Rattle.read_spec.specs.Map.{shapeAt}
-use Rattle.read_spec.specs.Layout.{fieldsTree}
+use Rattle.read_spec.specs.Plain.{plain, plainTail}
+use Rattle.read_spec.specs.Map.{groupAt}
+use Rattle.read_spec.specs.Layout.{tailTree}
 use Rattle.read_spec.specs.Layouts.{layoutOf}
-use Rattle.read_spec.specs.Formed.{formed, wordOf}
-use Rattle.read_spec.specs.Read.{shapeTree, wordTree, reader, readingOf, readOf}
+use Rattle.read_spec.specs.Decoded.{decoded, wordOf}
+use Rattle.read_spec.specs.Read.{groupTree, wordTree, reader, readingOf, readOf}
 use Rattle.read_operand_laws.specs.TreeLaws.{Words, words-append, short-no, none-no, none-short, longer-got, longer-none, completed, after, run-bind, bind-got, bind-then}
-use Rattle.read_operand_laws.specs.Following.{followingWords}
+use Rattle.read_operand_laws.specs.TailStands.{tailWords}
 use Rattle.read_laws.specs.Statements.{Accepted, Reads, reads}
-use Rattle.read_operand_laws.specs.FieldsLaws.{fields-complete, fields-sound, fields-clean}
-use Rattle.read_laws.specs.Every.{instruction-reads, shape-sound, shape-six}
+use Rattle.read_operand_laws.specs.TailLaws.{tail-complete, tail-sound, tail-clean}
+use Rattle.read_laws.specs.Every.{instruction-reads, group-sound, group-six}
 use Rattle.read_laws.specs.Forms.{append-nil}
-use Rattle.read_laws.specs.FormedLaws.{Flat, formed-flat, flat-got, flat-short, live-is, formed-live}
+use Rattle.read_laws.specs.DecodedLaws.{Flat, decoded-flat, flat-got, flat-short, live-is, decoded-live}
 use Rattle.read_laws.specs.WordLaws.{following-words, word-lt}
-use Rattle.isa.specs.declared.PlainOperation.the-variants.{NOP}
-use Rattle.isa.specs.declared.Instruction.the-variants.{Plain}
-use Rattle.encode_spec.specs.System.{plainParts}
+use Rattle.isa.specs.declared.NoOperandOperation.the-variants.{NOP}
+use Rattle.isa.specs.declared.Instruction.the-variants.{NoOperand}
+use Rattle.encode_spec.specs.System.{noOperandParts}
 
 -- ---- the whole, from the laws of the groups and of what follows
 -- an operation word's fields
@@ -46,10 +46,10 @@ reader-at a line x opmode ea ws hl hx ho he =
 reads-complete : (a : ℕ) (i : Instruction) → Reads a i → (r : List ℕ) → run (reader a) a 0 (wordsOf i a ++ r) ≡ got (plain i) (length (wordsOf i a)) r
 reads-complete a i (reads s line x opmode ea f hl hx ho he e h p w) r =
     ap (λ (ws : List ℕ). run (reader a) a 0 (ws ++ r)) w
-    ∙ reader-at a line x opmode ea (followingWords a (layoutOf s line x opmode ea) f ++ r) hl hx ho he
-    ∙ ap (λ (t : Shape). run (shapeTree a t line x opmode ea) a 1 (followingWords a (layoutOf s line x opmode ea) f ++ r)) e
-    ∙ bind-got (fieldsTree (layoutOf s line x opmode ea)) _ a 1 _ (plainFields f) _ r (fields-complete a (layoutOf s line x opmode ea) f h r)
-    ∙ ap (λ (t : Tree Instruction). run t a (1 + length (followingWords a (layoutOf s line x opmode ea) f)) r) p
+    ∙ reader-at a line x opmode ea (tailWords a (layoutOf s line x opmode ea) f ++ r) hl hx ho he
+    ∙ ap (λ (t : Group). run (groupTree a t line x opmode ea) a 1 (tailWords a (layoutOf s line x opmode ea) f ++ r)) e
+    ∙ bind-got (tailTree (layoutOf s line x opmode ea)) _ a 1 _ (plainTail f) _ r (tail-complete a (layoutOf s line x opmode ea) f h r)
+    ∙ ap (λ (t : Tree Instruction). run t a (1 + length (tailWords a (layoutOf s line x opmode ea) f)) r) p
     ∙ ap (λ (n : ℕ). got (plain i) n r) (omega (arith, ap (λ (ws : List ℕ). length ws) w))
 
 pub reader-complete : (a : ℕ) (i : Instruction) → Accepted a i → (r : List ℕ)
@@ -73,14 +73,14 @@ reader-sound a (w ∷ ws) h i n r e =
     let x = w / 512 % 8 in
     let opmode = w / 64 % 8 in
     let ea = w % 64 in
-    let s = shapeAt line x opmode in
+    let s = groupAt line x opmode in
     let l = layoutOf s line x opmode ea in
-    let six = shape-six s line x opmode ea (omega arith) (omega arith) (omega arith) in
-    bind-then (fieldsTree l) _ a 1 ws i n r e (λ f m t e1 e2.
-    let b = fields-sound a l (six .0) (six .1) ws (h .1) f m t e1 in
-    let g = flat-got (formed a s line x opmode ea (f .value) (f .source) (f .destination)) (formed-flat a s line x opmode ea (f .value) (f .source) (f .destination)) a m t i n r e2 in
-    let c = shape-sound s a line x opmode ea (omega (arith, h .0)) (omega arith) (omega arith) (omega arith) refl f (b .0) (b .1) i (g .0) in
-    let k : w ∷ ws ≡ wordsOf i a ++ r = ap (λ (v : ℕ). v ∷ ws) (word-is w) ∙ ap (λ (us : List ℕ). wordOf line x opmode ea ∷ us) (b .2 ∙ ap (λ (us : List ℕ). followingWords a l f ++ us) (g .2)) ∙ ap (λ (us : List ℕ). us ++ r) (sym (c .2)) in
+    let six = group-six s line x opmode ea (omega arith) (omega arith) (omega arith) in
+    bind-then (tailTree l) _ a 1 ws i n r e (λ f m t e1 e2.
+    let b = tail-sound a l (six .0) (six .1) ws (h .1) f m t e1 in
+    let g = flat-got (decoded a s line x opmode ea (f .value) (f .source) (f .destination)) (decoded-flat a s line x opmode ea (f .value) (f .source) (f .destination)) a m t i n r e2 in
+    let c = group-sound s a line x opmode ea (omega (arith, h .0)) (omega arith) (omega arith) (omega arith) refl f (b .0) (b .1) i (g .0) in
+    let k : w ∷ ws ≡ wordsOf i a ++ r = ap (λ (v : ℕ). v ∷ ws) (word-is w) ∙ ap (λ (us : List ℕ). wordOf line x opmode ea ∷ us) (b .2 ∙ ap (λ (us : List ℕ). tailWords a l f ++ us) (g .2)) ∙ ap (λ (us : List ℕ). us ++ r) (sym (c .2)) in
     (c .0, c .1, k, omega (arith, b .3, g .1, ap (λ (us : List ℕ). length us) (c .2))))
 
 -- ---- what an accepted instruction lays down are words
@@ -162,7 +162,7 @@ abbrev Longer : ℕ → List ℕ → Type 0
 Longer a ws = (v : ℕ) × (rest : List ℕ) × (i : Instruction) × Accepted a i × (wordsOf i a ≡ ws ++ (v ∷ rest))
 
 -- the fields are short, since nothing formed looks at a word more
-fields-short : (a : ℕ) (o : Out Fields) (k : Fields → Tree Instruction) → ((f : Fields) → Flat (k f)) → after o a k ≡ short → o ≡ short
+fields-short : (a : ℕ) (o : Out Tail) (k : Tail → Tree Instruction) → ((f : Tail) → Flat (k f)) → after o a k ≡ short → o ≡ short
 fields-short a (got f m r) k h e = absurd (flat-short (k f) (h f) a m r e)
 fields-short a short k h e = refl
 fields-short a none k h e = none-short e
@@ -173,22 +173,22 @@ word-longer a w ws h e =
     let x = w / 512 % 8 in
     let opmode = w / 64 % 8 in
     let ea = w % 64 in
-    let s = shapeAt line x opmode in
+    let s = groupAt line x opmode in
     let l = layoutOf s line x opmode ea in
-    let k : Fields → Tree Instruction = λ f. formed a s line x opmode ea (f .value) (f .source) (f .destination) in
-    let six = shape-six s line x opmode ea (omega arith) (omega arith) (omega arith) in
-    let q = fields-short a (run (fieldsTree l) a 1 ws) k (λ f. formed-flat a s line x opmode ea (f .value) (f .source) (f .destination)) (sym (run-bind (fieldsTree l) k a 1 ws) ∙ e) in
-    let c = completed (fieldsTree l) (fields-clean l) a 1 ws q in
+    let k : Tail → Tree Instruction = λ f. decoded a s line x opmode ea (f .value) (f .source) (f .destination) in
+    let six = group-six s line x opmode ea (omega arith) (omega arith) (omega arith) in
+    let q = fields-short a (run (tailTree l) a 1 ws) k (λ f. decoded-flat a s line x opmode ea (f .value) (f .source) (f .destination)) (sym (run-bind (tailTree l) k a 1 ws) ∙ e) in
+    let c = completed (tailTree l) (tail-clean l) a 1 ws q in
     let z = words-append ws (0 ∷ replicate (c .0) 0) (h .1) (omega arith, zero-words (c .0)) in
-    let b = fields-sound a l (six .0) (six .1) (ws ++ (0 ∷ replicate (c .0) 0)) z (c .1) (c .2) [] (c .3) in
-    let v = live-is (k (c .1)) (formed-live a s line x opmode ea (c .1) (omega arith) (b .0)) in
-    let g : run (reader a) a 0 ((w ∷ ws) ++ (0 ∷ replicate (c .0) 0)) ≡ got (v .0) (c .2) [] = bind-got (fieldsTree l) k a 1 (ws ++ (0 ∷ replicate (c .0) 0)) (c .1) (c .2) [] (c .3) ∙ ap (λ (t : Tree Instruction). run t a (c .2) []) (v .1) in
+    let b = tail-sound a l (six .0) (six .1) (ws ++ (0 ∷ replicate (c .0) 0)) z (c .1) (c .2) [] (c .3) in
+    let v = live-is (k (c .1)) (decoded-live a s line x opmode ea (c .1) (omega arith) (b .0)) in
+    let g : run (reader a) a 0 ((w ∷ ws) ++ (0 ∷ replicate (c .0) 0)) ≡ got (v .0) (c .2) [] = bind-got (tailTree l) k a 1 (ws ++ (0 ∷ replicate (c .0) 0)) (c .1) (c .2) [] (c .3) ∙ ap (λ (t : Tree Instruction). run t a (c .2) []) (v .1) in
     let r = reader-sound a ((w ∷ ws) ++ (0 ∷ replicate (c .0) 0)) (h .0, z) (v .0) (c .2) [] g in
     (0, replicate (c .0) 0, v .0, r .0, sym (r .2 ∙ append-nil (wordsOf (v .0) a)))
 
 pub short-longer : (a : ℕ) (ws : List ℕ) → Words ws → readOf ws a ≡ Short → Longer a ws
-unfolding readOf plainParts
-short-longer a [] h e = (20081, [], Plain NOP, (tt, refl, refl), refl)
+unfolding readOf noOperandParts
+short-longer a [] h e = (20081, [], NoOperand NOP, (tt, refl, refl), refl)
 short-longer a (w ∷ ws) h e = word-longer a w ws h (from-short (run (reader a) a 0 (w ∷ ws)) e)
 
 -- ---- the answer 5 exactly where some longer run encodes, 6 exactly where no such run does and no beginning does

@@ -1,7 +1,7 @@
 -- ASd LSd ROXd ROd, of a data register and in memory.
 use Prim.Native.Nat.{ℕ, _+_, _*_, _/_, _%_, _<_, _≤_}
 use mathlib.Core.Path.{_≡_, refl, ap, sym, _∙_}
-use mathlib.Core.Bool.{Bool, true, false, _&&_, false≢true}
+use mathlib.Core.Bool.{Bool, true, false, _&&_, false≢true, cond}
 use mathlib.Core.List.{List, [], _∷_}
 use native.Mathlib.Omega.{arith}
 use lib.Dec.{ltb, leb, eqb}
@@ -19,18 +19,17 @@ use Rattle.isa.specs.declared.Operand.{Operand}
 use Rattle.isa.specs.declared.Operand.the-variants.{Immediate, Register}
 use Rattle.isa.specs.declared.Instruction.{Instruction}
 use Rattle.isa.specs.declared.Instruction.the-variants.{Shift}
-use Rattle.isa.specs.ExtensionWord.{pick}
 use Rattle.encode_spec.specs.Item.{fine, malformed, unless, failure, numberVerdict, dataVerdict}
 use Rattle.isa.specs.Code.{sizeCode, isWord, registerBits, bit}
 use Rattle.encode_spec.specs.Ea.{memoryAlterable, isTyped, isRegister}
 use Rattle.encode_spec.specs.Logic.{shiftKind, leftBit, countBits, countItems, isOne, shiftRegisterParts, shiftMemoryParts, shiftParts}
-use Rattle.read_spec.specs.declared.Shape.the-variants as shape
+use Rattle.read_spec.specs.declared.Group.the-variants as group
 use Rattle.read_spec.specs.declared.Specifier.the-variants as specifier
 use Rattle.read_spec.specs.Tree.{ret}
-use Rattle.read_spec.specs.Map.{shapeAt, map}
+use Rattle.read_spec.specs.Map.{groupAt, map}
 use Rattle.read_spec.specs.Operation.{sizeAt, shiftAt, directionAt, shiftCount, countAt}
 use Rattle.read_spec.specs.Layouts.{layoutOf}
-use Rattle.read_spec.specs.Formed.{dataOperand, shiftFormed, wordOf}
+use Rattle.read_spec.specs.Decoded.{dataOperand, shiftDecoded, wordOf}
 use Rattle.read_operand_laws.specs.Facts.{below, and-true, true-and, Eq, eq?, ltb-true, ltb-is, leb-true, leb-is, eqb-eq, eqb-not, lt-number, fine-both, both-fine, range-holds, holds-range, count-holds, reason-not}
 use Rattle.read_laws.specs.Statements.{Accepted, Reads, Encodes, Sound, InSixBits}
 use Rattle.read_laws.specs.MapLaws.{in-group}
@@ -39,7 +38,7 @@ use Rattle.read_laws.specs.Groups.{of-group}
 use Rattle.read_laws.specs.Among.{among, each}
 use Rattle.read_laws.specs.Operands.{by-kind, by-register, data-bits}
 use Rattle.read_laws.specs.FromData.{memory-not}
-use Rattle.read_laws.specs.Lays.{LaysOne, lays-as, lays-allow, lays-typed-two, lays-single, lays-reads, lays-encodes, plain-reads, plain-encodes, word-as, formed-as}
+use Rattle.read_laws.specs.Lays.{LaysOne, lays-as, lays-allow, lays-typed-two, lays-single, lays-reads, lays-encodes, plain-reads, plain-encodes, word-as, decoded-as}
 
 -- ---- the fields
 kind-at : (op : ShiftOperation) → (shiftKind op < 4) × (shiftAt (shiftKind op) ≡ op)
@@ -85,7 +84,7 @@ Counted count x b = Count count × (countBits count ≡ x) × (isRegister count 
 count-at : (ea x : ℕ) → x < 8 → Counted (shiftCount ea x) x (eqb (ea / 32) 1)
 count-at ea x h = go (eqb (ea / 32) 1) (eq? x 0)
   where
-    go : (b : Bool) → Eq x 0 → Counted (pick b (Register (Data x)) (Immediate (countAt x))) x b
+    go : (b : Bool) → Eq x 0 → Counted (cond b (Register (Data x)) (Immediate (countAt x))) x b
     go true e = (inRegister x h, omega arith, refl)
     go false (Eq.same p g) = rw g (number 8 (omega arith) (omega arith), sym p, refl)
     go false (Eq.other p g) = rw g (number x (omega arith) (omega arith), omega arith, refl)
@@ -103,10 +102,10 @@ field-at ea h = eqb-eq _ ea (below (λ ea. eqb (32 * bit (eqb (ea / 32) 1) + 8 *
 same-word : {x y o p e f : ℕ} → x ≡ y → o ≡ p → e ≡ f → wordOf 14 x o e ≡ wordOf 14 y p f
 same-word p q r = rw (p, q, r)
 
-shifted-encodes : (a x opmode ea : ℕ) → among opmodes opmode ≡ true → x < 8 → ea < 64 → Encodes a (shiftFormed x opmode ea) (wordOf 14 x opmode ea ∷ [])
+shifted-encodes : (a x opmode ea : ℕ) → among opmodes opmode ≡ true → x < 8 → ea < 64 → Encodes a (shiftDecoded x opmode ea) (wordOf 14 x opmode ea ∷ [])
 shifted-encodes a x opmode ea t hx he =
     let c = count-at ea x hx in
-    word-as a (shiftFormed x opmode ea) _ _ []
+    word-as a (shiftDecoded x opmode ea) _ _ []
     (same-word (c .1) (opmode-at opmode t) (rw (c .2) (field-at ea he)))
     (register-encodes a (shiftAt (ea / 8 % 4)) (shiftCount ea x) (ea % 8) (directionAt (opmode / 4)) (sizeAt (opmode % 4)) (c .0) (omega arith))
 
@@ -138,7 +137,7 @@ bit-lt true = omega arith
 bit-lt false = omega arith
 
 register-is : (op : ShiftOperation) (count : Operand) (n : ℕ) (direction : ShiftDirection) (s : Size) → Count count → n < 8
-    → shiftFormed (countBits count) (opmodeOf direction s) (shiftField op count n) ≡ Shift op count (dataOperand n) direction s
+    → shiftDecoded (countBits count) (opmodeOf direction s) (shiftField op count n) ≡ Shift op count (dataOperand n) direction s
 register-is op count n direction s c h =
     let b = bit-lt (isRegister count) in
     let k = kind-at op in
@@ -151,13 +150,13 @@ register-is op count n direction s c h =
 abbrev fieldsIn : ℕ → ℕ → ℕ → Bool
 fieldsIn l x o = eqb l 14 && among opmodes o
 
-of-fields : (line x opmode : ℕ) → line < 16 → x < 8 → opmode < 8 → fieldsIn line x opmode ≡ true → shapeAt line x opmode ≡ shape.ShiftRegister
-unfolding shapeAt map
-of-fields = of-group shape.ShiftRegister fieldsIn refl
+of-fields : (line x opmode : ℕ) → line < 16 → x < 8 → opmode < 8 → fieldsIn line x opmode ≡ true → groupAt line x opmode ≡ group.ShiftRegister
+unfolding groupAt map
+of-fields = of-group group.ShiftRegister fieldsIn refl
 
-in-fields : (line x opmode : ℕ) → line < 16 → x < 8 → opmode < 8 → shapeAt line x opmode ≡ shape.ShiftRegister → fieldsIn line x opmode ≡ true
-unfolding shapeAt map
-in-fields = in-group shape.ShiftRegister fieldsIn refl
+in-fields : (line x opmode : ℕ) → line < 16 → x < 8 → opmode < 8 → groupAt line x opmode ≡ group.ShiftRegister → fieldsIn line x opmode ≡ true
+unfolding groupAt map
+in-fields = in-group group.ShiftRegister fieldsIn refl
 
 count-lt : (count : Operand) → Count count → countBits count < 8
 count-lt count (inRegister m h) = omega arith
@@ -170,7 +169,7 @@ data-reads a op count n direction s c h =
     let k = kind-at op in
     let x = count-lt count c in
     let o = opmode-is direction s in
-    plain-reads a (Shift op count (dataOperand n) direction s) shape.ShiftRegister 14 (countBits count) (opmodeOf direction s) (shiftField op count n) specifier.Nothing 0
+    plain-reads a (Shift op count (dataOperand n) direction s) group.ShiftRegister 14 (countBits count) (opmodeOf direction s) (shiftField op count n) specifier.Nothing 0
     (omega arith) x (o .1) (omega (arith, k .0)) (of-fields 14 (countBits count) (opmodeOf direction s) (omega arith) x (o .1) (o .0))
     refl refl (ap (λ (i : Instruction). ret i) (register-is op count n direction s c h)) (register-encodes a op count n direction s c h)
 
@@ -183,14 +182,14 @@ register-reads a op count r direction s (n, e, l) =
     let c = count-back count (rw (append-nil (countItems count)) at (u .1)) in
     rw (← data-bits r (u .0)) (data-reads a op count (registerBits r) direction s c (omega arith))
 
-pub shift-register-sound : Sound shape.ShiftRegister
+pub shift-register-sound : Sound group.ShiftRegister
 shift-register-sound a line x opmode ea hl hx ho he e f h p i r =
     let t = and-true (eqb line 14) _ (in-fields line x opmode hl hx ho e) in
     let w : wordOf 14 x opmode ea ≡ wordOf line x opmode ea = rw (eqb-eq line 14 (t .0)) in
-    formed-as a i (shiftFormed x opmode ea) _ _ _ r w
-    (plain-encodes a (shiftFormed x opmode ea) (wordOf 14 x opmode ea) specifier.Nothing f h (shifted-encodes a x opmode ea (t .1) hx he))
+    decoded-as a i (shiftDecoded x opmode ea) _ _ _ r w
+    (plain-encodes a (shiftDecoded x opmode ea) (wordOf 14 x opmode ea) specifier.Nothing f h (shifted-encodes a x opmode ea (t .1) hx he))
 
-pub shift-register-six : (line x opmode ea : ℕ) → x < 8 → opmode < 8 → ea < 64 → InSixBits (layoutOf shape.ShiftRegister line x opmode ea)
+pub shift-register-six : (line x opmode ea : ℕ) → x < 8 → opmode < 8 → ea < 64 → InSixBits (layoutOf group.ShiftRegister line x opmode ea)
 shift-register-six line x opmode ea hx ho he = (omega arith, omega arith)
 
 -- ---- in memory
@@ -223,13 +222,13 @@ memoryOpmodes = 3 ∷ 7 ∷ []
 abbrev memoryFields : ℕ → ℕ → ℕ → Bool
 memoryFields l x o = eqb l 14 && (ltb x 4 && among memoryOpmodes o)
 
-of-memory : (line x opmode : ℕ) → line < 16 → x < 8 → opmode < 8 → memoryFields line x opmode ≡ true → shapeAt line x opmode ≡ shape.ShiftMemory
-unfolding shapeAt map
-of-memory = of-group shape.ShiftMemory memoryFields refl
+of-memory : (line x opmode : ℕ) → line < 16 → x < 8 → opmode < 8 → memoryFields line x opmode ≡ true → groupAt line x opmode ≡ group.ShiftMemory
+unfolding groupAt map
+of-memory = of-group group.ShiftMemory memoryFields refl
 
-in-memory : (line x opmode : ℕ) → line < 16 → x < 8 → opmode < 8 → shapeAt line x opmode ≡ shape.ShiftMemory → memoryFields line x opmode ≡ true
-unfolding shapeAt map
-in-memory = in-group shape.ShiftMemory memoryFields refl
+in-memory : (line x opmode : ℕ) → line < 16 → x < 8 → opmode < 8 → groupAt line x opmode ≡ group.ShiftMemory → memoryFields line x opmode ≡ true
+unfolding groupAt map
+in-memory = in-group group.ShiftMemory memoryFields refl
 
 memory-opmode : (direction : ShiftDirection)
     → (4 * leftBit direction + 3 < 8) × (among memoryOpmodes (4 * leftBit direction + 3) ≡ true) × (directionAt ((4 * leftBit direction + 3) / 4) ≡ direction)
@@ -243,7 +242,7 @@ memory-reads a op count o direction s e (n, f, l) =
     let x : shiftKind op < 8 = omega (arith, k .0) in
     let d = memory-opmode direction in
     lays-reads a (Shift op count o direction s) 14 (shiftKind op) (4 * leftBit direction + 3) specifier.Nothing Word memoryAlterable (ByOne count s)
-    shape.ShiftMemory 0 o (lays-memory op count o direction s e) (omega arith) x (d .0)
+    group.ShiftMemory 0 o (lays-memory op count o direction s e) (omega arith) x (d .0)
     (of-memory 14 (shiftKind op) (4 * leftBit direction + 3) (omega arith) x (d .0) (true-and _ _ (ltb-true (shiftKind op) 4 (k .0)) (d .1)))
     refl refl (n .1) f
     (λ c. let t = and-true (isOne count) _ (c .1) in rw (one-is count (t .0), word-is s (t .1), k .1, d .2))
@@ -254,7 +253,7 @@ shift-reads a op count o direction s =
     by-register (λ o. Accepted a (Shift op count o direction s) → Reads a (Shift op count o direction s))
     (λ r. register-reads a op count r direction s) (λ o e. memory-reads a op count o direction s e) o
 
-pub shift-memory-sound : Sound shape.ShiftMemory
+pub shift-memory-sound : Sound group.ShiftMemory
 shift-memory-sound a line x opmode ea hl hx ho he e f h p i r =
     let t = and-true (eqb line 14) _ (in-memory line x opmode hl hx ho e) in
     let u = and-true (ltb x 4) _ (t .1) in
@@ -263,10 +262,10 @@ shift-memory-sound a line x opmode ea hl hx ho he e f h p i r =
     let k = at-kind x (ltb-is x 4 (u .0)) in
     let d : 4 * leftBit direction + 3 ≡ opmode = each (λ o. 4 * leftBit (directionAt (o / 4)) + 3 ≡ o) memoryOpmodes (refl, (refl, tt)) opmode (u .1) in
     let b = one-back a specifier.Nothing Word ea memoryAlterable f h in
-    formed-as a i (Shift op (Immediate 1) (f .source) direction Word) _ _ _ r (rw (k, d, eqb-eq line 14 (t .0)))
+    decoded-as a i (Shift op (Immediate 1) (f .source) direction Word) _ _ _ r (rw (k, d, eqb-eq line 14 (t .0)))
     (lays-encodes a (Shift op (Immediate 1) (f .source) direction Word) 14 (shiftKind op) (4 * leftBit direction + 3) specifier.Nothing Word memoryAlterable
     (ByOne (Immediate 1) Word) ea f (lays-memory op (Immediate 1) (f .source) direction Word (memory-not (f .source) (b .1 .0))) (refl, refl)
     (tt, b .3) refl (ap (λ o. Shift op (Immediate 1) o direction Word) (source-plain f p)) h)
 
-pub shift-memory-six : (line x opmode ea : ℕ) → x < 8 → opmode < 8 → ea < 64 → InSixBits (layoutOf shape.ShiftMemory line x opmode ea)
+pub shift-memory-six : (line x opmode ea : ℕ) → x < 8 → opmode < 8 → ea < 64 → InSixBits (layoutOf group.ShiftMemory line x opmode ea)
 shift-memory-six line x opmode ea hx ho he = (he, omega arith)

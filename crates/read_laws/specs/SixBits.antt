@@ -1,15 +1,14 @@
 -- Effective addresses of layouts in six bits.
 use Prim.Native.Nat.{ℕ, _<_}
-use mathlib.Core.Bool.{Bool, true, false}
+use mathlib.Core.Bool.{Bool, true, false, cond}
 use native.Mathlib.Omega.{arith}
 use Rattle.isa.specs.declared.Size.{Size}
-use Rattle.isa.specs.ExtensionWord.{pick}
 use Rattle.read_spec.specs.declared.Specifier.{Specifier}
 use Rattle.read_spec.specs.declared.Layout.{Layout}
 use Rattle.read_spec.specs.Layout.{one, alone}
 use Rattle.read_laws.specs.Statements.{InSixBits}
 
-pub pick-six : (b : Bool) (l m : Layout) → InSixBits l → InSixBits m → InSixBits (pick b l m)
+pub pick-six : (b : Bool) (l m : Layout) → InSixBits l → InSixBits m → InSixBits (cond b l m)
 pick-six true l m p q = p
 pick-six false l m p q = q
 

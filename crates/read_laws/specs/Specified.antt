@@ -10,21 +10,21 @@ use Rattle.encode_spec.specs.Item.{Item, Verdict, fine, malformed, unless, numb
 use Rattle.encode_spec.specs.Ea.{isTyped, typed, eaField, eaItems, effective}
 use Rattle.encode_spec.specs.Encode.{itemsOf}
 use Rattle.read_spec.specs.declared.Specifier.{Specifier}
-use Rattle.read_spec.specs.declared.Shape.{Shape}
+use Rattle.read_spec.specs.declared.Group.{Group}
 use Rattle.read_spec.specs.declared.Layout.{Layout}
-use Rattle.read_spec.specs.declared.Fields.{Fields}
+use Rattle.read_spec.specs.declared.Tail.{Tail}
 use Rattle.read_spec.specs.Tree.{Tree, ret}
 use Rattle.read_spec.specs.Plain.{plain, plainOperand}
 use Rattle.read_spec.specs.LeftOut.{leftOut}
 use Rattle.read_spec.specs.Layout.{one}
-use Rattle.read_spec.specs.Map.{shapeAt}
+use Rattle.read_spec.specs.Map.{groupAt}
 use Rattle.read_spec.specs.Layouts.{layoutOf}
-use Rattle.read_spec.specs.Formed.{formed, wordOf}
-use Rattle.read_operand_laws.specs.Stands.{Typed}
-use Rattle.read_operand_laws.specs.Following.{specifierWords, SpecifierStands, Following, followingWords}
+use Rattle.read_spec.specs.Decoded.{decoded, wordOf}
+use Rattle.read_operand_laws.specs.Stands.{InTypes}
+use Rattle.read_operand_laws.specs.TailStands.{specifierWords, SpecifierStands, TailStands, tailWords}
 use Rattle.read_operand_laws.specs.Facts.{fine-both, both-fine, unless-malformed, number-lt, lt-number, failure-append, words-in-append}
-use Rattle.read_laws.specs.Statements.{TypedInstruction, Accepted, Reads, Encodes}
-use Rattle.read_laws.specs.Forms.{Fitting, behind, missing, append-nil, effective-back, effective-there, one-back, one-reads, one-encodes, formed-encodes}
+use Rattle.read_laws.specs.Statements.{InstructionInTypes, Accepted, Reads, Encodes}
+use Rattle.read_laws.specs.Forms.{Fitting, behind, missing, append-nil, effective-back, effective-there, one-back, one-reads, one-encodes, decoded-encodes}
 
 -- the checks before the operation word, the specifier's items, and the operand
 abbrev pub specified : List Item → ℕ → ℕ → ℕ → List Item → Operand → Size → ℕ → ℕ → ℕ → List Item
@@ -67,24 +67,24 @@ specified-is a pre line x opmode xs k v s modes o reason at p e w =
     )
 
 -- T1, and T2
-pub specified-reads : (a : ℕ) (i : Instruction) (sh : Shape) (pre : List Item) (line x opmode : ℕ) (xs : List Item) (k : Specifier) (v : ℕ) (s : Size) (modes : ℕ) (o : Operand)
+pub specified-reads : (a : ℕ) (i : Instruction) (sh : Group) (pre : List Item) (line x opmode : ℕ) (xs : List Item) (k : Specifier) (v : ℕ) (s : Size) (modes : ℕ) (o : Operand)
     → Specified a (itemsOf i a) pre line x opmode xs k v s modes o → Accepted a i
-    → line < 16 → x < 8 → opmode < 8 → shapeAt line x opmode ≡ sh → Typed o
-    → (Fine a pre xs k v s modes o → (layoutOf sh line x opmode (eaField o) ≡ one k s (eaField o) modes) × SpecifierStands k v × (isTyped o ≡ true) × (formed a sh line x opmode (eaField o) v (plainOperand o) missing ≡ ret (plain i)))
+    → line < 16 → x < 8 → opmode < 8 → groupAt line x opmode ≡ sh → InTypes o
+    → (Fine a pre xs k v s modes o → (layoutOf sh line x opmode (eaField o) ≡ one k s (eaField o) modes) × SpecifierStands k v × (isTyped o ≡ true) × (decoded a sh line x opmode (eaField o) v (plainOperand o) missing ≡ ret (plain i)))
     → Reads a i
 specified-reads a i sh pre line x opmode xs k v s modes o is acc hl hx ho e n m =
     let g = is .0 (acc .1) in
     let q = m g in
     one-reads a i sh line x opmode k s modes v o hl hx ho e (q .0) (q .1) (g .2) (q .2) n (q .3) (is .2 g)
 
-pub specified-sound : (a : ℕ) (i j : Instruction) (op : ℕ) (l : Layout) (pre : List Item) (line x opmode ea : ℕ) (xs : List Item) (k : Specifier) (s : Size) (modes : ℕ) (f : Fields)
+pub specified-sound : (a : ℕ) (i j : Instruction) (op : ℕ) (l : Layout) (pre : List Item) (line x opmode ea : ℕ) (xs : List Item) (k : Specifier) (s : Size) (modes : ℕ) (f : Tail)
     → _≡_ {A = Tree Instruction} (ret j) (ret i) → wordOf line x opmode ea ≡ op → one k s ea modes ≡ l
-    → Specified a (itemsOf j a) pre line x opmode xs k (f .value) s modes (f .source) → Following a (one k s ea modes) f
-    → failure true pre ≡ fine → failure true xs ≡ fine → TypedInstruction j → leftOut j a ≡ false → plain j ≡ j
-    → Encodes a i (op ∷ followingWords a l f)
+    → Specified a (itemsOf j a) pre line x opmode xs k (f .value) s modes (f .source) → TailStands a (one k s ea modes) f
+    → failure true pre ≡ fine → failure true xs ≡ fine → InstructionInTypes j → leftOut j a ≡ false → plain j ≡ j
+    → Encodes a i (op ∷ tailWords a l f)
 specified-sound a i j op l pre line x opmode ea xs k s modes f r w y is h p q n o e =
     let g : Fine a pre xs k (f .value) s modes (f .source) = (p, q, one-back a k s ea modes f h .1) in
-    formed-encodes a i j op (wordOf line x opmode ea) l (one k s ea modes) f r w y
+    decoded-encodes a i j op (wordOf line x opmode ea) l (one k s ea modes) f r w y
     (one-encodes a j line x opmode ea k s modes f h (n, is .1 g, o) e (is .2 g))
 
 -- the check of the operand, and of a register's number

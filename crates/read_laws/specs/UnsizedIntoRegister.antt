@@ -1,7 +1,7 @@
 -- LEA and CHK; EXTB.L.
 use Prim.Native.Nat.{ℕ, _%_, _<_}
 use mathlib.Core.Path.{_≡_, refl, ap}
-use mathlib.Core.Bool.{Bool, true, false, _&&_}
+use mathlib.Core.Bool.{Bool, true, false, _&&_, cond}
 use mathlib.Core.List.{_∷_}
 use native.Mathlib.Omega.{arith}
 use lib.Dec.{ltb, eqb}
@@ -14,36 +14,35 @@ use Rattle.isa.specs.declared.UnsizedRegisterOperation.{UnsizedRegisterOperatio
 use Rattle.isa.specs.declared.UnsizedRegisterOperation.the-variants.{LEA, CHK, CHKL}
 use Rattle.isa.specs.declared.Instruction.{Instruction}
 use Rattle.isa.specs.declared.Instruction.the-variants.{EXT, UnsizedIntoRegister}
-use Rattle.isa.specs.ExtensionWord.{pick}
 use Rattle.encode_spec.specs.Item.{Verdict, fine, dataVerdict, addressVerdict, wordsIn, placed}
 use Rattle.encode_spec.specs.Ea.{dataModes, control, isTyped, eaField, eaItems}
 use Rattle.encode_spec.specs.Instruction.{unsizedRegisterParts}
 use Rattle.encode_spec.specs.Encode.{wordsOf, refusalOf}
-use Rattle.read_spec.specs.declared.Shape.{Shape}
-use Rattle.read_spec.specs.declared.Shape.the-variants as shape
+use Rattle.read_spec.specs.declared.Group.{Group}
+use Rattle.read_spec.specs.declared.Group.the-variants as group
 use Rattle.read_spec.specs.declared.Specifier.the-variants as specifier
 use Rattle.read_spec.specs.declared.Layout.{Layout}
-use Rattle.read_spec.specs.declared.Fields.{Fields}
+use Rattle.read_spec.specs.declared.Tail.{Tail}
 use Rattle.read_spec.specs.Tree.{Tree, ret}
-use Rattle.read_spec.specs.Plain.{plainOperand, plainFields}
+use Rattle.read_spec.specs.Plain.{plainOperand, plainTail}
 use Rattle.read_spec.specs.Layout.{one, bare}
 use Rattle.read_spec.specs.Layouts.{layoutOf}
-use Rattle.read_spec.specs.Map.{shapeAt, map}
-use Rattle.read_spec.specs.Formed.{formed, wordOf}
-use Rattle.read_operand_laws.specs.Stands.{Typed}
-use Rattle.read_operand_laws.specs.Following.{Following, followingWords}
+use Rattle.read_spec.specs.Map.{groupAt, map}
+use Rattle.read_spec.specs.Decoded.{decoded, wordOf}
+use Rattle.read_operand_laws.specs.Stands.{InTypes}
+use Rattle.read_operand_laws.specs.TailStands.{TailStands, tailWords}
 use Rattle.read_operand_laws.specs.Facts.{and-true, eqb-eq, ltb-is, lt-number}
 use Rattle.read_laws.specs.Statements.{Accepted, Reads, Encodes, Sound, InSixBits}
-use Rattle.read_laws.specs.MapLaws.{shape-is, in-group}
+use Rattle.read_laws.specs.MapLaws.{group-is, in-group}
 use Rattle.read_laws.specs.Forms.{Fitting, missing, data-back, data-there, data-words, data-is, address-back, address-there, address-words, address-is, one-back, one-reads, one-encodes, source-plain}
 use Rattle.read_laws.specs.Apart.{apart, same-encodes, either-encodes, pick-six}
 use Rattle.read_laws.specs.Ext.{ext-encodes}
 
 -- its group, bits 8 to 6, the operand's size and modes, and the register
-abbrev groupOf : UnsizedRegisterOperation → Shape
-groupOf LEA = shape.LEA
-groupOf CHK = shape.CHK
-groupOf CHKL = shape.CHK
+abbrev groupNumberOf : UnsizedRegisterOperation → Group
+groupNumberOf LEA = group.LeaExtb
+groupNumberOf CHK = group.CHK
+groupNumberOf CHKL = group.CHK
 
 abbrev opmodeOf : UnsizedRegisterOperation → ℕ
 opmodeOf LEA = 7
@@ -100,20 +99,20 @@ register-is LEA r e = address-is r e
 register-is CHK r e = data-is r e
 register-is CHKL r e = data-is r e
 
-shape-at : (op : UnsizedRegisterOperation) (n : ℕ) → n < 8 → shapeAt 4 n (opmodeOf op) ≡ groupOf op
-unfolding shapeAt map
-shape-at LEA n h = shape-is shape.LEA 4 7 refl n h
-shape-at CHK n h = shape-is shape.CHK 4 6 refl n h
-shape-at CHKL n h = shape-is shape.CHK 4 4 refl n h
+group-at : (op : UnsizedRegisterOperation) (n : ℕ) → n < 8 → groupAt 4 n (opmodeOf op) ≡ groupNumberOf op
+unfolding groupAt map
+group-at LEA n h = group-is group.LeaExtb 4 7 refl n h
+group-at CHK n h = group-is group.CHK 4 6 refl n h
+group-at CHKL n h = group-is group.CHK 4 4 refl n h
 
 and-no : (b : Bool) → b && false ≡ false
 and-no true = refl
 and-no false = refl
 
 -- EXTB.L stands where LEA has no mode
-alike : (a : ℕ) (op : UnsizedRegisterOperation) (o p : Operand) (n : ℕ) → Fitting (sizeOf op) (placed a 1) (modesOf op) o → isTyped o ≡ true → Typed o
-    → (opmodeOf op < 8) × (layoutOf (groupOf op) 4 n (opmodeOf op) (eaField o) ≡ layoutAs op (eaField o))
-    × (formed a (groupOf op) 4 n (opmodeOf op) (eaField o) 0 p missing ≡ ret (UnsizedIntoRegister op p (registerOf op n)))
+alike : (a : ℕ) (op : UnsizedRegisterOperation) (o p : Operand) (n : ℕ) → Fitting (sizeOf op) (placed a 1) (modesOf op) o → isTyped o ≡ true → InTypes o
+    → (opmodeOf op < 8) × (layoutOf (groupNumberOf op) 4 n (opmodeOf op) (eaField o) ≡ layoutAs op (eaField o))
+    × (decoded a (groupNumberOf op) 4 n (opmodeOf op) (eaField o) 0 p missing ≡ ret (UnsizedIntoRegister op p (registerOf op n)))
 alike a LEA o p n g t y = rw (apart control (λ ea. ltb ea 8) refl Long (placed a 1) o g t y, and-no (eqb n 4)) (omega arith, refl, refl)
 alike a CHK o p n g t y = (omega arith, refl, refl)
 alike a CHKL o p n g t y = (omega arith, refl, refl)
@@ -126,12 +125,12 @@ unsized-into-register-reads a op o r (t, e, l) =
     let n : ℕ = q .0 in
     let k = alike a op o (plainOperand o) n (b .2) (b .0) t in
     rw (q .2)
-    (one-reads a (UnsizedIntoRegister op o (registerOf op n)) (groupOf op) 4 n (opmodeOf op) specifier.Nothing (sizeOf op) (modesOf op) 0 o
-    (omega arith) (q .1) (k .0) (shape-at op n (q .1)) (k .1) refl (b .2) (b .0) t (k .2) (words a op o n (q .1)))
+    (one-reads a (UnsizedIntoRegister op o (registerOf op n)) (groupNumberOf op) 4 n (opmodeOf op) specifier.Nothing (sizeOf op) (modesOf op) 0 o
+    (omega arith) (q .1) (k .0) (group-at op n (q .1)) (k .1) refl (b .2) (b .0) t (k .2) (words a op o n (q .1)))
 
 -- ---- T2
-encodes-as : (a x ea : ℕ) (op : UnsizedRegisterOperation) (f : Fields) → x < 8 → Following a (layoutAs op ea) f → plainFields f ≡ f
-    → Encodes a (UnsizedIntoRegister op (f .source) (registerOf op x)) (wordOf 4 x (opmodeOf op) ea ∷ followingWords a (layoutAs op ea) f)
+encodes-as : (a x ea : ℕ) (op : UnsizedRegisterOperation) (f : Tail) → x < 8 → TailStands a (layoutAs op ea) f → plainTail f ≡ f
+    → Encodes a (UnsizedIntoRegister op (f .source) (registerOf op x)) (wordOf 4 x (opmodeOf op) ea ∷ tailWords a (layoutAs op ea) f)
 encodes-as a x ea op f hx h p =
     let b = one-back a specifier.Nothing (sizeOf op) ea (modesOf op) f h in
     one-encodes a (UnsizedIntoRegister op (f .source) (registerOf op x)) 4 x (opmodeOf op) ea specifier.Nothing (sizeOf op) (modesOf op) f h
@@ -139,14 +138,14 @@ encodes-as a x ea op f hx h p =
     (ap (λ o. UnsizedIntoRegister op o (registerOf op x)) (source-plain f p))
     (words a op (f .source) x hx)
 
-lea-fields : (line x opmode : ℕ) → line < 16 → x < 8 → opmode < 8 → shapeAt line x opmode ≡ shape.LEA → eqb line 4 && eqb opmode 7 ≡ true
-unfolding shapeAt map
-lea-fields = in-group shape.LEA (λ l x o. eqb l 4 && eqb o 7) refl
+lea-fields : (line x opmode : ℕ) → line < 16 → x < 8 → opmode < 8 → groupAt line x opmode ≡ group.LeaExtb → eqb line 4 && eqb opmode 7 ≡ true
+unfolding groupAt map
+lea-fields = in-group group.LeaExtb (λ l x o. eqb l 4 && eqb o 7) refl
 
-pub lea-six : (line x opmode ea : ℕ) → x < 8 → opmode < 8 → ea < 64 → InSixBits (layoutOf shape.LEA line x opmode ea)
+pub lea-six : (line x opmode ea : ℕ) → x < 8 → opmode < 8 → ea < 64 → InSixBits (layoutOf group.LeaExtb line x opmode ea)
 lea-six line x opmode ea hx ho he = pick-six (eqb x 4 && ltb ea 8) bare (layoutAs LEA ea) (omega arith) (he, omega arith)
 
-pub lea-sound : Sound shape.LEA
+pub lea-sound : Sound group.LeaExtb
 lea-sound a line x opmode ea hl hx ho he e f h p i r =
     let t = and-true (eqb line 4) _ (lea-fields line x opmode hl hx ho e) in
     let l = eqb-eq line 4 (t .0) in
@@ -159,22 +158,22 @@ lea-sound a line x opmode ea hl hx ho he e f h p i r =
     (λ q g. rw (l, k) (encodes-as a x ea LEA f hx g p))
 
 abbrev checkAt : Bool → UnsizedRegisterOperation
-checkAt b = pick b CHKL CHK
+checkAt b = cond b CHKL CHK
 
-chk-fields : (line x opmode : ℕ) → line < 16 → x < 8 → opmode < 8 → shapeAt line x opmode ≡ shape.CHK → eqb line 4 && eqb (opmodeOf (checkAt (eqb opmode 4))) opmode ≡ true
-unfolding shapeAt map
-chk-fields = in-group shape.CHK (λ l x o. eqb l 4 && eqb (opmodeOf (checkAt (eqb o 4))) o) refl
+chk-fields : (line x opmode : ℕ) → line < 16 → x < 8 → opmode < 8 → groupAt line x opmode ≡ group.CHK → eqb line 4 && eqb (opmodeOf (checkAt (eqb opmode 4))) opmode ≡ true
+unfolding groupAt map
+chk-fields = in-group group.CHK (λ l x o. eqb l 4 && eqb (opmodeOf (checkAt (eqb o 4))) o) refl
 
-pub chk-six : (line x opmode ea : ℕ) → x < 8 → opmode < 8 → ea < 64 → InSixBits (layoutOf shape.CHK line x opmode ea)
+pub chk-six : (line x opmode ea : ℕ) → x < 8 → opmode < 8 → ea < 64 → InSixBits (layoutOf group.CHK line x opmode ea)
 chk-six line x opmode ea hx ho he = (he, omega arith)
 
-pub chk-sound : Sound shape.CHK
+pub chk-sound : Sound group.CHK
 chk-sound a line x opmode ea hl hx ho he e f h p i r =
     let t = and-true (eqb line 4) _ (chk-fields line x opmode hl hx ho e) in
     go (eqb opmode 4) (eqb-eq line 4 (t .0)) (eqb-eq (opmodeOf (checkAt (eqb opmode 4))) opmode (t .1)) h r
   where
-    go : (b : Bool) → line ≡ 4 → opmodeOf (checkAt b) ≡ opmode → Following a (one specifier.Nothing (pick b Long Word) ea dataModes) f
+    go : (b : Bool) → line ≡ 4 → opmodeOf (checkAt b) ≡ opmode → TailStands a (one specifier.Nothing (cond b Long Word) ea dataModes) f
         → _≡_ {A = Tree Instruction} (ret (UnsizedIntoRegister (checkAt b) (f .source) (Data x))) (ret i)
-        → Encodes a i (wordOf line x opmode ea ∷ followingWords a (one specifier.Nothing (pick b Long Word) ea dataModes) f)
+        → Encodes a i (wordOf line x opmode ea ∷ tailWords a (one specifier.Nothing (cond b Long Word) ea dataModes) f)
     go true l k g r = same-encodes a i (UnsizedIntoRegister CHKL (f .source) (Data x)) _ _ _ r (rw (← k, l)) (encodes-as a x ea CHKL f hx g p)
     go false l k g r = same-encodes a i (UnsizedIntoRegister CHK (f .source) (Data x)) _ _ _ r (rw (← k, l)) (encodes-as a x ea CHK f hx g p)

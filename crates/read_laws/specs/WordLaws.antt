@@ -1,7 +1,7 @@
 -- What an accepted instruction lays down are words: below 65,536.
 use Prim.Native.Nat.{ℕ, _^_, _<_}
 use mathlib.Core.Path.{_≡_, _∙_, sym}
-use mathlib.Core.Bool.{Bool, true, false}
+use mathlib.Core.Bool.{Bool, true, false, cond}
 use mathlib.Core.List.{List}
 use native.Mathlib.Omega.{arith}
 use lib.IntN.{ℤ, pos}
@@ -16,19 +16,19 @@ use Rattle.isa.specs.declared.Field.{Field}
 use Rattle.isa.specs.declared.Field.the-variants as field
 use Rattle.isa.specs.declared.Operand.{Operand}
 use Rattle.isa.specs.declared.Operand.the-variants.{Immediate, Register, Indirect, PostIndirect, PreIndirect, IndirectDisplacement, IndirectIndex, PcDisplacement, PcIndex, Extended, Absolute}
-use Rattle.isa.specs.ExtensionWord.{pick, isFull, baseSize, outerSize}
+use Rattle.isa.specs.ExtensionWord.{isFull, baseSize, outerSize}
 use Rattle.isa.specs.Code.{general, longBit}
 use Rattle.encode_spec.specs.Item.{Item, fine, ranged, wordsIn}
 use Rattle.encode_spec.specs.Ea.{eaItems, displacementItems, baseDisplacement, fullItems, scaledItems, immediateWords}
 use Rattle.read_spec.specs.declared.Specifier.{Specifier}
 use Rattle.read_spec.specs.declared.Specifier.the-variants as specifier
 use Rattle.read_spec.specs.declared.Layout.{Layout}
-use Rattle.read_spec.specs.declared.Fields.{Fields}
-use Rattle.read_spec.specs.Formed.{wordOf}
+use Rattle.read_spec.specs.declared.Tail.{Tail}
+use Rattle.read_spec.specs.Decoded.{wordOf}
 use Rattle.read_operand_laws.specs.Facts.{fine-both, range-holds, immediate-holds, ltb-is, words-in-append}
 use Rattle.read_operand_laws.specs.TreeLaws.{Words, words-append}
 use Rattle.read_operand_laws.specs.Stands.{Stands}
-use Rattle.read_operand_laws.specs.Following.{specifierWords, SpecifierStands, sourceAt, destinationAt, Following, followingWords}
+use Rattle.read_operand_laws.specs.TailStands.{specifierWords, SpecifierStands, sourceAt, destinationAt, TailStands, tailWords}
 
 general-lt : (r : RegisterOperand) → general r < 16
 general-lt (Address n) = omega arith
@@ -54,7 +54,7 @@ immediate-lt Byte v e = omega (arith, ltb-is v 256 (sym (immediate-holds Byte v)
 immediate-lt Word v e = omega (arith, ltb-is v 65536 (sym (immediate-holds Word v) ∙ range-holds (field.Immediate Word) (pos v) e))
 immediate-lt Long v e = omega (arith, ltb-is v 4294967296 (sym (immediate-holds Long v) ∙ range-holds (field.Immediate Long) (pos v) e))
 
-pick-words : (b : Bool) (xs ys : List Item) → Words (wordsIn xs) → Words (wordsIn ys) → Words (wordsIn (pick b xs ys))
+pick-words : (b : Bool) (xs ys : List Item) → Words (wordsIn xs) → Words (wordsIn ys) → Words (wordsIn (cond b xs ys))
 pick-words true xs ys p q = p
 pick-words false xs ys p q = q
 
@@ -94,7 +94,7 @@ specifier-words specifier.BitField v h = (h .0, tt)
 specifier-words specifier.Long v h = (omega (arith, h .0), (omega arith, tt))
 specifier-words specifier.CompareTwo v h = (omega (arith, h .0), (omega arith, tt))
 
-pub following-words : (a : ℕ) (l : Layout) (f : Fields) → Following a l f → Words (followingWords a l f)
+pub following-words : (a : ℕ) (l : Layout) (f : Tail) → TailStands a l f → Words (tailWords a l f)
 following-words a l f h =
     words-append (specifierWords (l .specifier) (f .value)) _ (specifier-words (l .specifier) (f .value) (h .1))
     (words-append (wordsIn (eaItems (f .source) (l .size) (sourceAt a l f))) _

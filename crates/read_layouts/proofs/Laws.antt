@@ -10,11 +10,11 @@ use lib.ListN.{length, getD, List·getD-eq-default}
 use types.Run.{OneOf}
 use denote.Enum.Declared.{tagOf}
 use Rattle.isa_values.specs.Condition.{both}
-use Rattle.read_spec.proofs.Shape.{the-type}
-use Rattle.read_spec.specs.declared.Shape.{Shape}
-use Rattle.read_spec.specs.declared.Shape.the-variants as shape
+use Rattle.read_spec.proofs.Group.{the-type}
+use Rattle.read_spec.specs.declared.Group.{Group}
+use Rattle.read_spec.specs.declared.Group.the-variants as group
 use Rattle.read_spec.specs.declared.Layout.{Layout}
-use Rattle.read_spec.specs.Map.{shapes, groupNumber}
+use Rattle.read_spec.specs.Map.{groups, groupNumber}
 use Rattle.read_spec.specs.Layout.{bare}
 use Rattle.read_spec.specs.Layouts.{layoutOf}
 
@@ -42,42 +42,42 @@ pub by-rule : (f : ℕ → ℕ) (xs : List ℕ) (i : ℕ) → T (follows f 0 xs)
 by-rule f xs i t h = from f xs 0 t i h ∙ ap f (omega arith)
 
 -- the groups by their numbers, which are also the variants' tags
-pub numbered : (s : Shape) → (getD shapes (groupNumber s) shape.Unused ≡ s) × T (ltb (groupNumber s) 35) × (tagOf the-type s ≡ groupNumber s)
-numbered shape.Unused = (refl, tt, refl)
-numbered shape.ImmediateInto = (refl, tt, refl)
-numbered shape.StaticBit = (refl, tt, refl)
-numbered shape.DynamicBit = (refl, tt, refl)
-numbered shape.MOVES = (refl, tt, refl)
-numbered shape.Bounds = (refl, tt, refl)
-numbered shape.CAS = (refl, tt, refl)
-numbered shape.MOVE = (refl, tt, refl)
-numbered shape.OneOperand = (refl, tt, refl)
-numbered shape.UnsizedOne = (refl, tt, refl)
-numbered shape.NBCD = (refl, tt, refl)
-numbered shape.PEA = (refl, tt, refl)
-numbered shape.MOVEM = (refl, tt, refl)
-numbered shape.MULL = (refl, tt, refl)
-numbered shape.DIVL = (refl, tt, refl)
-numbered shape.System = (refl, tt, refl)
-numbered shape.LEA = (refl, tt, refl)
-numbered shape.CHK = (refl, tt, refl)
-numbered shape.Quick = (refl, tt, refl)
-numbered shape.Conditional = (refl, tt, refl)
-numbered shape.Branch = (refl, tt, refl)
-numbered shape.MOVEQ = (refl, tt, refl)
-numbered shape.IntoData = (refl, tt, refl)
-numbered shape.Arithmetic = (refl, tt, refl)
-numbered shape.Decimal = (refl, tt, refl)
-numbered shape.Pack = (refl, tt, refl)
-numbered shape.Exchange = (refl, tt, refl)
-numbered shape.Compare = (refl, tt, refl)
-numbered shape.WordIntoData = (refl, tt, refl)
-numbered shape.IntoAddress = (refl, tt, refl)
-numbered shape.ShiftRegister = (refl, tt, refl)
-numbered shape.ShiftMemory = (refl, tt, refl)
-numbered shape.BitField = (refl, tt, refl)
-numbered shape.LineA = (refl, tt, refl)
-numbered shape.LineF = (refl, tt, refl)
+pub numbered : (s : Group) → (getD groups (groupNumber s) group.Unused ≡ s) × T (ltb (groupNumber s) 35) × (tagOf the-type s ≡ groupNumber s)
+numbered group.Unused = (refl, tt, refl)
+numbered group.ImmediateInto = (refl, tt, refl)
+numbered group.StaticBit = (refl, tt, refl)
+numbered group.DynamicBitMovep = (refl, tt, refl)
+numbered group.MOVES = (refl, tt, refl)
+numbered group.Bounds = (refl, tt, refl)
+numbered group.CAS = (refl, tt, refl)
+numbered group.MOVE = (refl, tt, refl)
+numbered group.OneOperand = (refl, tt, refl)
+numbered group.UnsizedOne = (refl, tt, refl)
+numbered group.NbcdLink = (refl, tt, refl)
+numbered group.PeaSwapBkpt = (refl, tt, refl)
+numbered group.MovemExt = (refl, tt, refl)
+numbered group.MULL = (refl, tt, refl)
+numbered group.DIVL = (refl, tt, refl)
+numbered group.System = (refl, tt, refl)
+numbered group.LeaExtb = (refl, tt, refl)
+numbered group.CHK = (refl, tt, refl)
+numbered group.Quick = (refl, tt, refl)
+numbered group.Conditional = (refl, tt, refl)
+numbered group.Branch = (refl, tt, refl)
+numbered group.MOVEQ = (refl, tt, refl)
+numbered group.IntoData = (refl, tt, refl)
+numbered group.ArithmeticExtended = (refl, tt, refl)
+numbered group.LogicDecimal = (refl, tt, refl)
+numbered group.LogicPack = (refl, tt, refl)
+numbered group.LogicExchange = (refl, tt, refl)
+numbered group.LogicCompare = (refl, tt, refl)
+numbered group.WordIntoData = (refl, tt, refl)
+numbered group.IntoAddress = (refl, tt, refl)
+numbered group.ShiftRegister = (refl, tt, refl)
+numbered group.ShiftMemory = (refl, tt, refl)
+numbered group.BitField = (refl, tt, refl)
+numbered group.LineA = (refl, tt, refl)
+numbered group.LineF = (refl, tt, refl)
 
 -- MOVEQ, ShiftRegister, LineA and LineF
 abbrev pub bareTags : List ℕ
@@ -85,7 +85,7 @@ bareTags = 21 ∷ 30 ∷ 33 ∷ 34 ∷ []
 
 module _ (line x opmode ea : ℕ) where
   abbrev atNumber : ℕ → Layout
-  atNumber n = layoutOf (getD shapes n shape.Unused) line x opmode ea
+  atNumber n = layoutOf (getD groups n group.Unused) line x opmode ea
 
   bare-number : (n : ℕ) → OneOf bareTags n → atNumber n ≡ bare
   bare-number n (inl e) = ap atNumber e
@@ -93,6 +93,6 @@ module _ (line x opmode ea : ℕ) where
   bare-number n (inr (inr (inl e))) = ap atNumber e
   bare-number n (inr (inr (inr e))) = ap atNumber e
 
-  pub bare-shape : (s : Shape) → OneOf bareTags (tagOf the-type s) → bare ≡ layoutOf s line x opmode ea
-  bare-shape s k =
-      sym (bare-number (groupNumber s) (subst (OneOf bareTags) (numbered s .2) k)) ∙ ap (λ (t : Shape). layoutOf t line x opmode ea) (numbered s .0)
+  pub bare-group : (s : Group) → OneOf bareTags (tagOf the-type s) → bare ≡ layoutOf s line x opmode ea
+  bare-group s k =
+      sym (bare-number (groupNumber s) (subst (OneOf bareTags) (numbered s .2) k)) ∙ ap (λ (t : Group). layoutOf t line x opmode ea) (numbered s .0)

@@ -1,9 +1,9 @@
 // What an operation word is, and what follows it (the manual, section 4, each instruction's format; section 8).
 // line, x, opmode and ea are bits 15 to 12, 11 to 9, 8 to 6 and 5 to 0 of the operation word.
+ghost use mathlib.Core.Bool.{cond};
 ghost use mathlib.Core.Path.{_≡_};
 ghost use Prim.Native.Nat.{_<_};
 ghost use Rattle.isa.specs.declared.Size.the-variants.{Long, Word};
-ghost use Rattle.isa.specs.ExtensionWord.{pick};
 ghost use Rattle.encode_spec.specs.Bits.{staticModes};
 ghost use Rattle.encode_spec.specs.Movement.{movemModes};
 ghost use Rattle.read_spec.specs.Layout.{two, one, alone, bare, noLayout};
@@ -31,8 +31,8 @@ use isa_operands::MEMORY_ALTERABLE;
 use isa_operands::MOVEM_FROM_MEMORY;
 use isa_operands::MOVEM_TO_MEMORY;
 use isa_values::bit_field_operation;
+use read_spec::Group;
 use read_spec::Layout;
-use read_spec::Shape;
 use read_spec::Specifier;
 
 pub mod map; // the group of an operation word
@@ -98,14 +98,14 @@ fn no_layout() -> Layout
 
 // One of two sets of modes.
 fn pick(test: bool, yes: u16, no: u16) -> u16
-    ensures { λ r. ⌜ r ≡ pick test yes no ⌝ }
+    ensures { λ r. ⌜ r ≡ cond test yes no ⌝ }
 {
     if test { yes } else { no }
 }
 
 // A long, or else a word.
 fn long_if(test: bool) -> Size
-    ensures { λ r. ⌜ r ≡ pick test Long Word ⌝ }
+    ensures { λ r. ⌜ r ≡ cond test Long Word ⌝ }
 {
     if test { Size::Long } else { Size::Word }
 }
@@ -453,42 +453,46 @@ fn bit_field_layout(operation: BitFieldOperation, ea: u8) -> Layout
 }
 
 // What follows the operation words of a group.
-pub fn layout(shape: Shape, line: u8, x: u8, opmode: u8, ea: u8) -> Layout
+pub fn layout(group: Group, line: u8, x: u8, opmode: u8, ea: u8) -> Layout
     requires { ⌜ (x < 8) × (opmode < 8) × (ea < 64) ⌝ }
-    ensures { λ r. ⌜ r ≡ layoutOf shape line x opmode ea ⌝ }
+    ensures { λ r. ⌜ r ≡ layoutOf group line x opmode ea ⌝ }
 {
-    match shape {
-        Shape::Unused => no_layout(),
-        Shape::ImmediateInto => immediate_layout(x, opmode, ea),
-        Shape::StaticBit => one(Specifier::Byte, Size::Byte, ea, static_modes(opmode)),
-        Shape::DynamicBit => dynamic_layout(opmode, ea),
-        Shape::MOVES => one(Specifier::General, size_at(opmode), ea, MEMORY_ALTERABLE),
-        Shape::Bounds => one(Specifier::General, size_at(x), ea, CONTROL),
-        Shape::CAS => cas_layout(x, ea),
-        Shape::MOVE => move_layout(move_size(line), x, opmode, ea),
-        Shape::OneOperand => one_layout(size_at(opmode), x, ea),
-        Shape::UnsizedOne => unsized_one_layout(x, opmode, ea),
-        Shape::NBCD => nbcd_layout(ea),
-        Shape::PEA => pea_layout(ea),
-        Shape::MOVEM => movem_layout(x, opmode, ea),
-        Shape::MULL => one(Specifier::Multiply, Size::Long, ea, DATA),
-        Shape::DIVL => one(Specifier::Divide, Size::Long, ea, DATA),
-        Shape::System => system_layout(ea),
-        Shape::LEA => lea_layout(x, ea),
-        Shape::CHK => one(Specifier::Nothing, long_if(opmode == 4), ea, DATA),
-        Shape::Quick => quick_layout(size_at(opmode % 4), ea),
-        Shape::Conditional => conditional_layout(ea),
-        Shape::Branch => branch_layout(opmode % 4 * 64 + ea),
-        Shape::IntoData => into_data_layout(line, size_at(opmode), ea),
-        Shape::Arithmetic => from_data_layout(Specifier::Nothing, size_at(less(opmode, 4)), ea),
-        Shape::Decimal => from_data_layout(Specifier::Nothing, Size::Byte, ea),
-        Shape::Pack => from_data_layout(Specifier::Word, size_at(less(opmode, 4)), ea),
-        Shape::Exchange => exchange_layout(opmode, ea),
-        Shape::Compare => compare_layout(x, opmode, ea),
-        Shape::WordIntoData => one(Specifier::Nothing, Size::Word, ea, DATA),
-        Shape::IntoAddress => one(Specifier::Nothing, long_if(opmode == 7), ea, ALL),
-        Shape::ShiftMemory => one(Specifier::Nothing, Size::Word, ea, MEMORY_ALTERABLE),
-        Shape::BitField => bit_field_layout(bit_field_at(less(x, 4) * 2 + opmode / 4), ea),
-        Shape::MOVEQ | Shape::ShiftRegister | Shape::LineA | Shape::LineF => bare(),
+    match group {
+        Group::Unused => no_layout(),
+        Group::ImmediateInto => immediate_layout(x, opmode, ea),
+        Group::StaticBit => one(Specifier::Byte, Size::Byte, ea, static_modes(opmode)),
+        Group::DynamicBitMovep => dynamic_layout(opmode, ea),
+        Group::MOVES => one(Specifier::General, size_at(opmode), ea, MEMORY_ALTERABLE),
+        Group::Bounds => one(Specifier::General, size_at(x), ea, CONTROL),
+        Group::CAS => cas_layout(x, ea),
+        Group::MOVE => move_layout(move_size(line), x, opmode, ea),
+        Group::OneOperand => one_layout(size_at(opmode), x, ea),
+        Group::UnsizedOne => unsized_one_layout(x, opmode, ea),
+        Group::NbcdLink => nbcd_layout(ea),
+        Group::PeaSwapBkpt => pea_layout(ea),
+        Group::MovemExt => movem_layout(x, opmode, ea),
+        Group::MULL => one(Specifier::Multiply, Size::Long, ea, DATA),
+        Group::DIVL => one(Specifier::Divide, Size::Long, ea, DATA),
+        Group::System => system_layout(ea),
+        Group::LeaExtb => lea_layout(x, ea),
+        Group::CHK => one(Specifier::Nothing, long_if(opmode == 4), ea, DATA),
+        Group::Quick => quick_layout(size_at(opmode % 4), ea),
+        Group::Conditional => conditional_layout(ea),
+        Group::Branch => branch_layout(opmode % 4 * 64 + ea),
+        Group::IntoData => into_data_layout(line, size_at(opmode), ea),
+        Group::ArithmeticExtended => from_data_layout(
+            Specifier::Nothing,
+            size_at(less(opmode, 4)),
+            ea,
+        ),
+        Group::LogicDecimal => from_data_layout(Specifier::Nothing, Size::Byte, ea),
+        Group::LogicPack => from_data_layout(Specifier::Word, size_at(less(opmode, 4)), ea),
+        Group::LogicExchange => exchange_layout(opmode, ea),
+        Group::LogicCompare => compare_layout(x, opmode, ea),
+        Group::WordIntoData => one(Specifier::Nothing, Size::Word, ea, DATA),
+        Group::IntoAddress => one(Specifier::Nothing, long_if(opmode == 7), ea, ALL),
+        Group::ShiftMemory => one(Specifier::Nothing, Size::Word, ea, MEMORY_ALTERABLE),
+        Group::BitField => bit_field_layout(bit_field_at(less(x, 4) * 2 + opmode / 4), ea),
+        Group::MOVEQ | Group::ShiftRegister | Group::LineA | Group::LineF => bare(),
     }
 }

@@ -1,50 +1,50 @@
 // The operation code map (the manual, section 8): the group that the upper ten bits of an operation word name.
 ghost use mathlib.Core.Path.{_≡_};
 ghost use Prim.Native.Nat.{_<_};
-ghost use Rattle.read_spec.specs.Map.{groupOf, shapeOf};
-use read_spec::Shape;
+ghost use Rattle.read_spec.specs.Map.{groupNumberOf, groupOf};
+use read_spec::Group;
 
 // The groups by their numbers.
-const SHAPES: [Shape; 35] = [
-    Shape::Unused,
-    Shape::ImmediateInto,
-    Shape::StaticBit,
-    Shape::DynamicBit,
-    Shape::MOVES,
-    Shape::Bounds,
-    Shape::CAS,
-    Shape::MOVE,
-    Shape::OneOperand,
-    Shape::UnsizedOne,
-    Shape::NBCD,
-    Shape::PEA,
-    Shape::MOVEM,
-    Shape::MULL,
-    Shape::DIVL,
-    Shape::System,
-    Shape::LEA,
-    Shape::CHK,
-    Shape::Quick,
-    Shape::Conditional,
-    Shape::Branch,
-    Shape::MOVEQ,
-    Shape::IntoData,
-    Shape::Arithmetic,
-    Shape::Decimal,
-    Shape::Pack,
-    Shape::Exchange,
-    Shape::Compare,
-    Shape::WordIntoData,
-    Shape::IntoAddress,
-    Shape::ShiftRegister,
-    Shape::ShiftMemory,
-    Shape::BitField,
-    Shape::LineA,
-    Shape::LineF,
+const GROUPS: [Group; 35] = [
+    Group::Unused,
+    Group::ImmediateInto,
+    Group::StaticBit,
+    Group::DynamicBitMovep,
+    Group::MOVES,
+    Group::Bounds,
+    Group::CAS,
+    Group::MOVE,
+    Group::OneOperand,
+    Group::UnsizedOne,
+    Group::NbcdLink,
+    Group::PeaSwapBkpt,
+    Group::MovemExt,
+    Group::MULL,
+    Group::DIVL,
+    Group::System,
+    Group::LeaExtb,
+    Group::CHK,
+    Group::Quick,
+    Group::Conditional,
+    Group::Branch,
+    Group::MOVEQ,
+    Group::IntoData,
+    Group::ArithmeticExtended,
+    Group::LogicDecimal,
+    Group::LogicPack,
+    Group::LogicExchange,
+    Group::LogicCompare,
+    Group::WordIntoData,
+    Group::IntoAddress,
+    Group::ShiftRegister,
+    Group::ShiftMemory,
+    Group::BitField,
+    Group::LineA,
+    Group::LineF,
 ];
 
 // The number of the group of each value of the ten bits.
-const GROUPS: [u8; 1024] = [
+const GROUP_NUMBERS: [u8; 1024] = [
     1,
     1,
     1,
@@ -1072,19 +1072,19 @@ const GROUPS: [u8; 1024] = [
 ];
 
 // The number of the group.
-pub fn group(high: u16) -> u8
+pub fn group_number(high: u16) -> u8
     requires { ⌜ high < 1024 ⌝ }
-    ensures { λ r. ⌜ r ≡ groupOf high ⌝ }
+    ensures { λ r. ⌜ r ≡ groupNumberOf high ⌝ }
 {
     let i = high as usize;
-    GROUPS[i]
+    GROUP_NUMBERS[i]
 }
 
 // The group.
-pub fn shape(high: u16) -> Shape
+pub fn group(high: u16) -> Group
     requires { ⌜ high < 1024 ⌝ }
-    ensures { λ r. ⌜ r ≡ shapeOf high ⌝ }
+    ensures { λ r. ⌜ r ≡ groupOf high ⌝ }
 {
-    let i = group(high) as usize;
-    SHAPES[i]
+    let i = group_number(high) as usize;
+    GROUPS[i]
 }

@@ -4,7 +4,7 @@ ghost use Prim.Native.Nat.{_+_, _*_, _%_, _<_};
 ghost use Rattle.read_opcodes_0_7.specs.Parts.{quickAt};
 ghost use Rattle.isa.specs.declared.Instruction.the-variants.{MOVEQ};
 ghost use Rattle.isa.specs.declared.RegisterOperand.the-variants.{Data};
-ghost use Rattle.read_spec.specs.Formed.{quickFormed, conditionalFormed, branchTo, branchFormed};
+ghost use Rattle.read_spec.specs.Decoded.{quickDecoded, conditionalDecoded, branchTo, branchDecoded};
 use crate::part::byte_target;
 use crate::part::long_target;
 use crate::part::word_target;
@@ -31,7 +31,7 @@ pub fn quick_at(opmode: u8) -> QuickOperation
 }
 
 pub fn quick(x: u8, opmode: u8, source: Operand) -> Instruction
-    ensures { λ r. ⌜ r ≡ quickFormed x opmode source ⌝ }
+    ensures { λ r. ⌜ r ≡ quickDecoded x opmode source ⌝ }
 {
     let operation = quick_at(opmode);
     let count = count_at(x);
@@ -41,7 +41,7 @@ pub fn quick(x: u8, opmode: u8, source: Operand) -> Instruction
 
 // DBcc, TRAPcc and Scc, by the condition's code.
 pub fn conditional(address: u32, code: u8, ea: u8, value: u32, source: Operand) -> Instruction
-    ensures { λ r. ⌜ r ≡ conditionalFormed address code ea value source ⌝ }
+    ensures { λ r. ⌜ r ≡ conditionalDecoded address code ea value source ⌝ }
 {
     let condition = from_code(code as u16);
     if ea / 8 == 1 {
@@ -71,7 +71,7 @@ pub fn branch_to(code: u8, target: u32, size: BranchSize) -> Instruction
 
 // A branch by a word, a long or the byte of its operation word.
 pub fn branch(address: u32, code: u8, byte: u8, value: u32) -> Instruction
-    ensures { λ r. ⌜ r ≡ branchFormed address code byte value ⌝ }
+    ensures { λ r. ⌜ r ≡ branchDecoded address code byte value ⌝ }
 {
     if byte == 0 {
         return branch_to(code, word_target(address, value), BranchSize::Word);

@@ -4,9 +4,9 @@ ghost use Prim.Native.Nat.{_-_};
 ghost use Rattle.read_opcodes_0_7.specs.ReadAs.{readAs};
 ghost use Rattle.isa.specs.declared.Instruction.the-variants.{UnsizedPair};
 ghost use Rattle.isa.specs.declared.Operand.the-variants.{Immediate};
-ghost use Rattle.read_spec.specs.Formed.{dataOperand, immediateFormed, movepFormed, dynamicFormed, boundsFormed, movesFormed, cas2Formed, casFormed};
+ghost use Rattle.read_spec.specs.Decoded.{dataOperand, immediateDecoded, movepDecoded, dynamicDecoded, boundsDecoded, movesDecoded, cas2Decoded, casDecoded};
 ghost use Rattle.read_spec.specs.Operation.{bitAt};
-ghost use Rattle.read_opcodes_0_7.specs.Parts.{statusFormed, displacedFormed, boundsAt};
+ghost use Rattle.read_opcodes_0_7.specs.Parts.{statusDecoded, displacedDecoded, boundsAt};
 use crate::part::data_operand;
 use crate::part::general_in;
 use crate::read;
@@ -27,7 +27,7 @@ use read_spec::Reading;
 
 // ORI, ANDI and EORI to CCR, and to SR.
 pub fn status(x: u8, opmode: u8, value: u32) -> Instruction
-    ensures { λ r. ⌜ r ≡ statusFormed x opmode value ⌝ }
+    ensures { λ r. ⌜ r ≡ statusDecoded x opmode value ⌝ }
 {
     if opmode == 0 {
         let operation = condition_code_at(x);
@@ -39,7 +39,7 @@ pub fn status(x: u8, opmode: u8, value: u32) -> Instruction
 
 // ORI, ANDI, SUBI, ADDI, EORI and CMPI, and those.
 pub fn immediate_into(x: u8, opmode: u8, ea: u8, value: u32, source: Operand) -> Instruction
-    ensures { λ r. ⌜ r ≡ immediateFormed x opmode ea value source ⌝ }
+    ensures { λ r. ⌜ r ≡ immediateDecoded x opmode ea value source ⌝ }
 {
     if to_status(x, opmode, ea) {
         return status(x, opmode, value);
@@ -69,7 +69,7 @@ pub fn bit_by_register(x: u8, opmode: u8, source: Operand) -> Instruction
 
 // MOVEP of d16(An).
 pub fn displaced(x: u8, opmode: u8, offset: i32, base: RegisterOperand) -> Instruction
-    ensures { λ r. ⌜ r ≡ displacedFormed x opmode offset base ⌝ }
+    ensures { λ r. ⌜ r ≡ displacedDecoded x opmode offset base ⌝ }
 {
     let direction = to_memory_at(opmode / 2 % 2);
     let size = size_at(1 + opmode % 2);
@@ -86,7 +86,7 @@ pub fn displaced(x: u8, opmode: u8, offset: i32, base: RegisterOperand) -> Instr
 
 // MOVEP takes d16(An) only.
 pub fn movep(x: u8, opmode: u8, source: Operand, length: u32) -> Reading
-    ensures { λ r. ⌜ r ≡ readAs (movepFormed x opmode source) length ⌝ }
+    ensures { λ r. ⌜ r ≡ readAs (movepDecoded x opmode source) length ⌝ }
 {
     let Operand::IndirectDisplacement { offset, base } = source else {
         return Reading::Nothing;
@@ -96,7 +96,7 @@ pub fn movep(x: u8, opmode: u8, source: Operand, length: u32) -> Reading
 
 // A bit by a data register, and MOVEP.
 pub fn dynamic_bit(x: u8, opmode: u8, ea: u8, source: Operand, length: u32) -> Reading
-    ensures { λ r. ⌜ r ≡ readAs (dynamicFormed x opmode ea source) length ⌝ }
+    ensures { λ r. ⌜ r ≡ readAs (dynamicDecoded x opmode ea source) length ⌝ }
 {
     if ea / 8 == 1 {
         return movep(x, opmode, source, length);
@@ -106,7 +106,7 @@ pub fn dynamic_bit(x: u8, opmode: u8, ea: u8, source: Operand, length: u32) -> R
 
 // MOVES.
 pub fn moves(opmode: u8, value: u32, source: Operand) -> Instruction
-    ensures { λ r. ⌜ r ≡ movesFormed opmode value source ⌝ }
+    ensures { λ r. ⌜ r ≡ movesDecoded opmode value source ⌝ }
 {
     let direction = to_memory_at((value / 2048 % 2) as u8);
     let size = size_at(opmode);
@@ -132,7 +132,7 @@ pub fn bounds_at(value: u32) -> RegisterOperation
 }
 
 pub fn bounds(x: u8, value: u32, source: Operand) -> Instruction
-    ensures { λ r. ⌜ r ≡ boundsFormed x value source ⌝ }
+    ensures { λ r. ⌜ r ≡ boundsDecoded x value source ⌝ }
 {
     let operation = bounds_at(value);
     let register = general_in(value);
@@ -142,7 +142,7 @@ pub fn bounds(x: u8, value: u32, source: Operand) -> Instruction
 
 // CAS2, by the words of its two comparisons.
 pub fn cas2(x: u8, first: u32, second: u32) -> Instruction
-    ensures { λ r. ⌜ r ≡ cas2Formed x first second ⌝ }
+    ensures { λ r. ⌜ r ≡ cas2Decoded x first second ⌝ }
 {
     let pointer1 = general_in(first);
     let pointer2 = general_in(second);
@@ -160,7 +160,7 @@ pub fn cas2(x: u8, first: u32, second: u32) -> Instruction
 
 // CAS and CAS2.
 pub fn cas(x: u8, ea: u8, value: u32, source: Operand) -> Instruction
-    ensures { λ r. ⌜ r ≡ casFormed x ea value source ⌝ }
+    ensures { λ r. ⌜ r ≡ casDecoded x ea value source ⌝ }
 {
     if (ea == 60) & (6 <= x) {
         return cas2(x, value / 65536, value % 65536);

@@ -2,15 +2,15 @@
 ghost use mathlib.Core.Path.{_≡_};
 ghost use Rattle.isa.specs.declared.Instruction.the-variants.{OneOperand, UnsizedIntoRegister};
 ghost use Rattle.isa.specs.declared.RegisterOperand.the-variants.{Data};
-ghost use Rattle.read_spec.specs.Formed.{moveFormed, unsizedOneFormed, nbcdFormed, peaFormed, movemFormed, mullFormed, divlFormed, leaFormed};
+ghost use Rattle.read_spec.specs.Decoded.{moveDecoded, unsizedOneDecoded, nbcdDecoded, peaDecoded, movemDecoded, mullDecoded, divlDecoded, leaDecoded};
 ghost use Rattle.read_spec.specs.Operation.{oneAt, sizeAt};
 ghost use Rattle.read_opcodes_0_7.specs.Parts.{chkAt};
 use crate::part::high_at;
 use isa::Instruction;
 use isa::LinkOperation;
+use isa::NoOperandOperation;
 use isa::Operand;
 use isa::PairOperation;
-use isa::PlainOperation;
 use isa::RegisterOperand;
 use isa::RegisterOperation;
 use isa::Size;
@@ -27,7 +27,7 @@ use read_layouts::operation::unsized_at;
 
 // MOVE and MOVEA.
 pub fn move_data(line: u8, x: u8, opmode: u8, source: Operand, destination: Operand) -> Instruction
-    ensures { λ r. ⌜ r ≡ moveFormed line x opmode source destination ⌝ }
+    ensures { λ r. ⌜ r ≡ moveDecoded line x opmode source destination ⌝ }
 {
     let size = move_size(line);
     if opmode == 1 {
@@ -48,10 +48,10 @@ pub fn one_operand(x: u8, opmode: u8, source: Operand) -> Instruction
 
 // MOVE from and to SR and CCR, JSR, JMP, TAS and ILLEGAL.
 pub fn unsized_one(x: u8, opmode: u8, ea: u8, source: Operand) -> Instruction
-    ensures { λ r. ⌜ r ≡ unsizedOneFormed x opmode ea source ⌝ }
+    ensures { λ r. ⌜ r ≡ unsizedOneDecoded x opmode ea source ⌝ }
 {
     if (x == 5) & (ea == 60) {
-        return Instruction::Plain(PlainOperation::ILLEGAL);
+        return Instruction::NoOperand(NoOperandOperation::ILLEGAL);
     }
     let operation = unsized_at(x, opmode);
     Instruction::UnsizedOne(operation, source)
@@ -59,7 +59,7 @@ pub fn unsized_one(x: u8, opmode: u8, ea: u8, source: Operand) -> Instruction
 
 // NBCD, and LINK by a long.
 pub fn nbcd(ea: u8, value: u32, source: Operand) -> Instruction
-    ensures { λ r. ⌜ r ≡ nbcdFormed ea value source ⌝ }
+    ensures { λ r. ⌜ r ≡ nbcdDecoded ea value source ⌝ }
 {
     if ea / 8 == 1 {
         let register = RegisterOperand::Address(ea % 8);
@@ -70,7 +70,7 @@ pub fn nbcd(ea: u8, value: u32, source: Operand) -> Instruction
 
 // PEA, SWAP and BKPT.
 pub fn pea(ea: u8, source: Operand) -> Instruction
-    ensures { λ r. ⌜ r ≡ peaFormed ea source ⌝ }
+    ensures { λ r. ⌜ r ≡ peaDecoded ea source ⌝ }
 {
     if ea < 8 {
         let register = RegisterOperand::Data(ea);
@@ -84,7 +84,7 @@ pub fn pea(ea: u8, source: Operand) -> Instruction
 
 // MOVEM and EXT.
 pub fn movem(x: u8, opmode: u8, ea: u8, value: u32, source: Operand) -> Instruction
-    ensures { λ r. ⌜ r ≡ movemFormed x opmode ea value source ⌝ }
+    ensures { λ r. ⌜ r ≡ movemDecoded x opmode ea value source ⌝ }
 {
     let size = size_at(less(opmode, 1));
     if (x == 4) & (ea < 8) {
@@ -103,7 +103,7 @@ pub fn movem(x: u8, opmode: u8, ea: u8, value: u32, source: Operand) -> Instruct
 
 // MULU and MULS of longs.
 pub fn mull(value: u32, source: Operand) -> Instruction
-    ensures { λ r. ⌜ r ≡ mullFormed value source ⌝ }
+    ensures { λ r. ⌜ r ≡ mullDecoded value source ⌝ }
 {
     let high = high_at(value);
     let sign = sign_at((value / 2048 % 2) as u8);
@@ -117,7 +117,7 @@ pub fn mull(value: u32, source: Operand) -> Instruction
 
 // DIVU, DIVS, DIVUL and DIVSL of longs.
 pub fn divl(value: u32, source: Operand) -> Instruction
-    ensures { λ r. ⌜ r ≡ divlFormed value source ⌝ }
+    ensures { λ r. ⌜ r ≡ divlDecoded value source ⌝ }
 {
     let sign = sign_at((value / 2048 % 2) as u8);
     Instruction::DIVL {
@@ -131,7 +131,7 @@ pub fn divl(value: u32, source: Operand) -> Instruction
 
 // LEA, and EXTB.
 pub fn lea(x: u8, ea: u8, source: Operand) -> Instruction
-    ensures { λ r. ⌜ r ≡ leaFormed x ea source ⌝ }
+    ensures { λ r. ⌜ r ≡ leaDecoded x ea source ⌝ }
 {
     if (x == 4) & (ea < 8) {
         let register = RegisterOperand::Data(ea);

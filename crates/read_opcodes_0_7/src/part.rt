@@ -2,7 +2,7 @@
 ghost use mathlib.Core.Path.{_≡_};
 ghost use Prim.Native.Nat.{_%_, _/_, _^_};
 ghost use Rattle.encode_spec.specs.Item.{placed};
-ghost use Rattle.read_spec.specs.Formed.{dataOperand, extended, highAt};
+ghost use Rattle.read_spec.specs.Decoded.{dataOperand, extended, highAt};
 ghost use Rattle.read_spec.specs.Number.{signed8, signed16, reach};
 ghost use Rattle.read_spec.specs.Operand.{generalOf};
 ghost use Rattle.base_signed.specs.Signed.{signed32, bitsOf};

@@ -1,35 +1,35 @@
 // $4E40 to $4E7F.
 ghost use mathlib.Core.Path.{_≡_};
-ghost use Rattle.read_spec.specs.Formed.{returnFormed, movecFormed, systemFormed};
+ghost use Rattle.read_spec.specs.Decoded.{returnDecoded, movecDecoded, systemDecoded};
 use crate::part::extend_word;
 use crate::part::general_in;
 use isa::Instruction;
 use isa::LinkOperation;
-use isa::PlainOperation;
+use isa::NoOperandOperation;
 use isa::RegisterOperand;
 use isa::StatusOperation;
 use isa::VectorOperation;
 
 // $4E70 to $4E77.
 pub fn return_at(k: u8, value: u32) -> Instruction
-    ensures { λ r. ⌜ r ≡ returnFormed k value ⌝ }
+    ensures { λ r. ⌜ r ≡ returnDecoded k value ⌝ }
 {
     match k {
-        0 => return Instruction::Plain(PlainOperation::RESET),
-        1 => return Instruction::Plain(PlainOperation::NOP),
+        0 => return Instruction::NoOperand(NoOperandOperation::RESET),
+        1 => return Instruction::NoOperand(NoOperandOperation::NOP),
         2 => return Instruction::Status(StatusOperation::STOP, (value % 65536) as u16),
-        3 => return Instruction::Plain(PlainOperation::RTE),
+        3 => return Instruction::NoOperand(NoOperandOperation::RTE),
         4 => return Instruction::RTD(extend_word(value)),
-        5 => return Instruction::Plain(PlainOperation::RTS),
-        6 => return Instruction::Plain(PlainOperation::TRAPV),
-        7 => return Instruction::Plain(PlainOperation::RTR),
-        _ => return Instruction::Plain(PlainOperation::NOP),
+        5 => return Instruction::NoOperand(NoOperandOperation::RTS),
+        6 => return Instruction::NoOperand(NoOperandOperation::TRAPV),
+        7 => return Instruction::NoOperand(NoOperandOperation::RTR),
+        _ => return Instruction::NoOperand(NoOperandOperation::NOP),
     }
 }
 
 // MOVEC.
 pub fn movec(ea: u8, value: u32) -> Instruction
-    ensures { λ r. ⌜ r ≡ movecFormed ea value ⌝ }
+    ensures { λ r. ⌜ r ≡ movecDecoded ea value ⌝ }
 {
     let register = general_in(value);
     Instruction::MOVEC {
@@ -41,7 +41,7 @@ pub fn movec(ea: u8, value: u32) -> Instruction
 
 // TRAP, LINK, UNLK, MOVE USP, the instructions without operands, and MOVEC.
 pub fn system(ea: u8, value: u32) -> Instruction
-    ensures { λ r. ⌜ r ≡ systemFormed ea value ⌝ }
+    ensures { λ r. ⌜ r ≡ systemDecoded ea value ⌝ }
 {
     let register = RegisterOperand::Address(ea % 8);
     match ea / 8 {

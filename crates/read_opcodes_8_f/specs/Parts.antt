@@ -1,4 +1,5 @@
 -- Parts of the instructions.
+use mathlib.Core.Bool.{cond}
 use Prim.Native.Nat.{ℕ, _/_, _%_}
 use lib.Dec.{eqb}
 use Rattle.isa.specs.declared.Size.{Size}
@@ -12,23 +13,22 @@ use Rattle.isa.specs.declared.PackOperation.{PackOperation}
 use Rattle.isa.specs.declared.PackOperation.the-variants.{PACK, UNPK}
 use Rattle.isa.specs.declared.WordOperation.{WordOperation}
 use Rattle.isa.specs.declared.WordOperation.the-variants.{DIVx, MULx}
-use Rattle.isa.specs.ExtensionWord.{pick}
 use Rattle.read_spec.specs.Operation.{valueAt}
 
 abbrev pub decimalAt : ℕ → UnsizedPairOperation
-decimalAt line = pick (eqb line 8) SBCD ABCD
+decimalAt line = cond (eqb line 8) SBCD ABCD
 
 abbrev pub packAt : ℕ → PackOperation
-packAt opmode = pick (eqb opmode 5) PACK UNPK
+packAt opmode = cond (eqb opmode 5) PACK UNPK
 
 abbrev pub wordAt : ℕ → WordOperation
-wordAt line = pick (eqb line 8) DIVx MULx
+wordAt line = cond (eqb line 8) DIVx MULx
 
 abbrev pub exchangedAt : ℕ → ℕ → RegisterOperand
-exchangedAt x opmode = pick (eqb opmode 5) (Address x) (Data x)
+exchangedAt x opmode = cond (eqb opmode 5) (Address x) (Data x)
 
 abbrev pub longAt : ℕ → Size
-longAt opmode = pick (eqb opmode 7) Long Word
+longAt opmode = cond (eqb opmode 7) Long Word
 
 abbrev pub fieldIn : ℕ → BitField
 fieldIn v = record { offset = valueAt (v / 64 % 64); width = valueAt (v % 64) }

@@ -6,7 +6,7 @@ ghost use Rattle.isa.specs.declared.Instruction.the-variants.{IntoRegister, Pai
 ghost use Rattle.isa.specs.declared.Operand.the-variants.{PostIndirect};
 ghost use Rattle.isa.specs.declared.PairOperation.the-variants.{CMPM};
 ghost use Rattle.isa.specs.declared.RegisterOperand.the-variants.{Address};
-ghost use Rattle.read_spec.specs.Formed.{dataOperand, intoDataFormed, arithmeticFormed, decimalFormed, packFormed, exchanged, exchangeFormed, cmpmTo, cmpmFormed, compareFormed, wordFormed};
+ghost use Rattle.read_spec.specs.Decoded.{dataOperand, intoDataDecoded, arithmeticDecoded, decimalDecoded, packDecoded, exchanged, exchangeDecoded, cmpmTo, cmpmDecoded, compareDecoded, wordDecoded};
 ghost use Rattle.read_spec.specs.Operation.{addressAt};
 use crate::part::decimal_at;
 use crate::part::exchanged_at;
@@ -41,7 +41,7 @@ pub fn from_data(operation: PairOperation, x: u8, target: Operand, size: Size) -
 
 // OR, SUB, AND and ADD into a data register, and CMP.
 pub fn into_data(line: u8, x: u8, opmode: u8, source: Operand) -> Instruction
-    ensures { λ r. ⌜ r ≡ intoDataFormed line x opmode source ⌝ }
+    ensures { λ r. ⌜ r ≡ intoDataDecoded line x opmode source ⌝ }
 {
     let size = size_at(opmode);
     if line == 11 {
@@ -55,7 +55,7 @@ pub fn into_data(line: u8, x: u8, opmode: u8, source: Operand) -> Instruction
 
 // SUB and ADD of a data register, SUBX and ADDX.
 pub fn arithmetic(line: u8, x: u8, opmode: u8, ea: u8, source: Operand) -> Instruction
-    ensures { λ r. ⌜ r ≡ arithmeticFormed line x opmode ea source ⌝ }
+    ensures { λ r. ⌜ r ≡ arithmeticDecoded line x opmode ea source ⌝ }
 {
     let size = size_at(less(opmode, 4));
     if ea < 16 {
@@ -69,7 +69,7 @@ pub fn arithmetic(line: u8, x: u8, opmode: u8, ea: u8, source: Operand) -> Instr
 
 // OR and AND of a byte in a data register, SBCD and ABCD.
 pub fn decimal(line: u8, x: u8, ea: u8, source: Operand) -> Instruction
-    ensures { λ r. ⌜ r ≡ decimalFormed line x ea source ⌝ }
+    ensures { λ r. ⌜ r ≡ decimalDecoded line x ea source ⌝ }
 {
     if ea < 16 {
         let operation = decimal_at(line);
@@ -82,7 +82,7 @@ pub fn decimal(line: u8, x: u8, ea: u8, source: Operand) -> Instruction
 
 // OR of a word or a long in a data register, PACK and UNPK.
 pub fn pack(x: u8, opmode: u8, ea: u8, value: u32, source: Operand) -> Instruction
-    ensures { λ r. ⌜ r ≡ packFormed x opmode ea value source ⌝ }
+    ensures { λ r. ⌜ r ≡ packDecoded x opmode ea value source ⌝ }
 {
     if ea < 16 {
         let operation = pack_at(opmode);
@@ -109,7 +109,7 @@ pub fn exchanged_of(x: u8, opmode: u8, ea: u8) -> Instruction
 
 // AND of a word or a long in a data register, and EXG.
 pub fn exchange(x: u8, opmode: u8, ea: u8, source: Operand) -> Instruction
-    ensures { λ r. ⌜ r ≡ exchangeFormed x opmode ea source ⌝ }
+    ensures { λ r. ⌜ r ≡ exchangeDecoded x opmode ea source ⌝ }
 {
     if is_exchange(opmode, ea) {
         return exchanged_of(x, opmode, ea);
@@ -137,7 +137,7 @@ pub fn cmpm_to(size: Size, y: u8, destination: Operand, length: u32) -> Reading
 }
 
 pub fn cmpm(size: Size, source: Operand, destination: Operand, length: u32) -> Reading
-    ensures { λ r. ⌜ r ≡ readAs (cmpmFormed size source destination) length ⌝ }
+    ensures { λ r. ⌜ r ≡ readAs (cmpmDecoded size source destination) length ⌝ }
 {
     let Operand::PostIndirect(y) = source else {
         return Reading::Nothing;
@@ -154,7 +154,7 @@ pub fn compare(
     destination: Operand,
     length: u32,
 ) -> Reading
-    ensures { λ r. ⌜ r ≡ readAs (compareFormed x opmode ea source destination) length ⌝ }
+    ensures { λ r. ⌜ r ≡ readAs (compareDecoded x opmode ea source destination) length ⌝ }
 {
     let size = size_at(less(opmode, 4));
     if ea / 8 == 1 {
@@ -165,7 +165,7 @@ pub fn compare(
 
 // DIVU, DIVS, MULU and MULS of words.
 pub fn word_into_data(line: u8, x: u8, opmode: u8, source: Operand) -> Instruction
-    ensures { λ r. ⌜ r ≡ wordFormed line x opmode source ⌝ }
+    ensures { λ r. ⌜ r ≡ wordDecoded line x opmode source ⌝ }
 {
     let operation = word_at(line);
     let register = RegisterOperand::Data(x);

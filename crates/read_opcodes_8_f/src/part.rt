@@ -2,7 +2,7 @@
 ghost use mathlib.Core.Path.{_≡_};
 ghost use Prim.Native.Nat.{_<_};
 ghost use Rattle.read_opcodes_8_f.specs.Parts.{decimalAt, packAt, exchangedAt, wordAt, longAt, fieldIn};
-ghost use Rattle.read_spec.specs.Formed.{wordOf};
+ghost use Rattle.read_spec.specs.Decoded.{wordOf};
 ghost use Rattle.read_spec.specs.Layouts.{isExchange};
 use isa::BitField;
 use isa::PackOperation;

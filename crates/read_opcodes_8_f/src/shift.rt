@@ -4,7 +4,7 @@ ghost use Prim.Native.Nat.{_/_, _<_};
 ghost use Rattle.isa.specs.declared.Instruction.the-variants.{Shift, Raw};
 ghost use Rattle.isa.specs.declared.Operand.the-variants.{Immediate};
 ghost use Rattle.isa.specs.declared.Size.the-variants.{Word};
-ghost use Rattle.read_spec.specs.Formed.{shiftFormed, bitFieldFormed};
+ghost use Rattle.read_spec.specs.Decoded.{shiftDecoded, bitFieldDecoded};
 ghost use Rattle.read_spec.specs.Operation.{shiftAt, directionAt};
 use crate::part::field_in;
 use isa::Instruction;
@@ -21,7 +21,7 @@ use read_opcodes_0_7::part::data_operand;
 
 // A shift of a data register.
 pub fn shift_register(x: u8, opmode: u8, ea: u8) -> Instruction
-    ensures { λ r. ⌜ r ≡ shiftFormed x opmode ea ⌝ }
+    ensures { λ r. ⌜ r ≡ shiftDecoded x opmode ea ⌝ }
 {
     let operation = shift_at(ea / 8 % 4);
     let count = shift_count(ea, x);
@@ -44,7 +44,7 @@ pub fn shift_memory(x: u8, opmode: u8, source: Operand) -> Instruction
 // The bit-field instructions.
 pub fn bit_field(x: u8, opmode: u8, value: u32, source: Operand) -> Instruction
     requires { ⌜ x < 8 ⌝ }
-    ensures { λ r. ⌜ r ≡ bitFieldFormed x opmode value source ⌝ }
+    ensures { λ r. ⌜ r ≡ bitFieldDecoded x opmode value source ⌝ }
 {
     let operation = bit_field_at(less(x, 4) * 2 + opmode / 4);
     let field = field_in(value);

@@ -1,7 +1,7 @@
 -- Displacements of a full extension word, and the base displacement from the program counter.
 use Prim.Native.Nat.{ℕ, _+_, _*_, _/_, _%_, _^_, _<_}
 use mathlib.Core.Path.{_≡_, refl, ap, sym, _∙_}
-use mathlib.Core.Bool.{Bool, true, false}
+use mathlib.Core.Bool.{Bool, true, false, cond}
 use mathlib.Core.List.{List, [], _∷_, _++_}
 use native.Mathlib.Omega.{arith}
 use lib.IntN.{ℤ, pos}
@@ -11,7 +11,6 @@ use Rattle.isa.specs.declared.Field.{Field}
 use Rattle.isa.specs.declared.Field.the-variants as field
 use Rattle.isa.specs.Field.{holds}
 use Rattle.encode_spec.specs.Item.{fine, failure, ranged, wordsIn, countOf}
-use Rattle.isa.specs.ExtensionWord.{pick}
 use Rattle.encode_spec.specs.Ea.{distance, displacementItems}
 use Rattle.base_signed.specs.Signed.{signed32, bitsOf}
 use Rattle.read_spec.specs.Number.{signed16, reach}
@@ -79,7 +78,7 @@ displacement-clean Long = (λ at next. tt, (λ at next. tt, λ at w. (λ next. t
 
 -- what an Extended operand holds, and the displacement that is written for it
 abbrev pub based : Bool → ℕ → ℤ → ℤ
-based pc at z = pick pc (distance (bitsOf z % 4294967296) at) z
+based pc at z = cond pc (distance (bitsOf z % 4294967296) at) z
 
 pub landed-based : (pc : Bool) (at : ℕ) (z : ℤ) → at < 2 ^ 32 → Fits32 z → landed pc at (based pc at z) ≡ z
 landed-based true at z h t = ap signed32 (reach-distance (bitsOf z % 4294967296) at (omega arith) h) ∙ signed32-low z t

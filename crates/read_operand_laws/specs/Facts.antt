@@ -1,7 +1,7 @@
 -- Laws of tests, verdicts, items and signed numbers.
 use Prim.Native.Nat.{ℕ, zero, suc, _+_, _*_, _-_, _/_, _%_, _^_, _<_, _≤_}
 use mathlib.Core.Path.{_≡_, refl, ap, sym, _∙_, subst}
-use mathlib.Core.Bool.{Bool, true, false, not, _&&_, true≢false, false≢true}
+use mathlib.Core.Bool.{Bool, true, false, not, _&&_, true≢false, false≢true, cond}
 use mathlib.Core.List.{List, [], _∷_, _++_}
 use native.Mathlib.Omega.{arith}
 use lib.Dec.{T, ltb, leb, eqb, leb·zero, leb·suc-suc}
@@ -14,7 +14,6 @@ use Rattle.isa.specs.declared.Field.{Field}
 use Rattle.isa.specs.declared.Field.the-variants as field
 use Rattle.isa.specs.Field.{holds, ranges, topOf, isZero}
 use Rattle.encode_spec.specs.Item.{Item, Verdict, fine, malformed, outOfRange, noEncoding, word, check, range, unless, ranged, orElse, failure, verdict, numberVerdict, wordsIn, countOf, placed}
-use Rattle.isa.specs.ExtensionWord.{pick}
 use Rattle.encode_spec.specs.Ea.{distance}
 use Rattle.base_signed.specs.Signed.{signed32, signed64, bitsOf, difference}
 use Rattle.read_spec.specs.Number.{signed, signed8, signed16, reach}
@@ -42,10 +41,10 @@ pub and-yes : (b : Bool) → b && true ≡ b
 and-yes true = refl
 and-yes false = refl
 
-pub pick-true : {A : Type 0} (b : Bool) (x y : A) → b ≡ true → pick b x y ≡ x
+pub pick-true : {A : Type 0} (b : Bool) (x y : A) → b ≡ true → cond b x y ≡ x
 pick-true b x y e = rw e
 
-pub pick-false : {A : Type 0} (b : Bool) (x y : A) → b ≡ false → pick b x y ≡ y
+pub pick-false : {A : Type 0} (b : Bool) (x y : A) → b ≡ false → cond b x y ≡ y
 pick-false b x y e = rw e
 
 -- a test, with what it says

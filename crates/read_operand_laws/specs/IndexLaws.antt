@@ -1,7 +1,7 @@
 -- Extension words: the index of a brief word, and both formats read.
 use Prim.Native.Nat.{ℕ, _+_, _*_, _-_, _/_, _%_, _^_, _<_, _≤_}
 use mathlib.Core.Path.{_≡_, refl, ap, sym, _∙_, subst}
-use mathlib.Core.Bool.{Bool, true, false}
+use mathlib.Core.Bool.{Bool, true, false, cond}
 use mathlib.Core.List.{List, [], _∷_, _++_, append-assoc}
 use native.Mathlib.Omega.{arith}
 use native.Mathlib.Nat.{div-div-eq-div-mul}
@@ -17,16 +17,16 @@ use Rattle.isa.specs.declared.Operand.the-variants.{IndirectIndex, PcIndex, Ext
 use Rattle.isa.specs.declared.Field.{Field}
 use Rattle.isa.specs.declared.Field.the-variants as field
 use Rattle.isa.specs.Field.{holds}
-use Rattle.isa.specs.Code.{numberIn, general, longBit}
+use Rattle.isa.specs.Code.{numberOfRegister, general, longBit}
 use Rattle.encode_spec.specs.Item.{Item, fine, failure, ranged, numberVerdict, wordsIn, countOf, placed}
-use Rattle.isa.specs.ExtensionWord.{pick, isFull, baseSize, outerSize, isCanonical}
+use Rattle.isa.specs.ExtensionWord.{isFull, baseSize, outerSize, isCanonical}
 use Rattle.encode_spec.specs.Ea.{indexSizeVerdict, briefItems, displacementItems, fromPc, fullItems, briefField, scaledItems, extendedItems, extendedModeField, extendedRegisterField, eaField, eaItems, isTyped}
 use Rattle.base_signed.specs.Signed.{bitsOf}
 use Rattle.read_spec.specs.Number.{signed8, reach}
 use Rattle.read_spec.specs.Operand.{generalOf, indexOf, displacementTree, landed, fullTree, indexOperand, scaledOperand, briefOperand, indexedTree}
 use Rattle.read_spec.specs.Plain.{plainIndex, plainBrief, plainOperand}
 use Rattle.read_spec.specs.Tree.{Tree, ret, got, run, bind}
-use Rattle.read_operand_laws.specs.Stands.{Fits32, Typed, Stands}
+use Rattle.read_operand_laws.specs.Stands.{Fits32, InTypes, Stands}
 use Rattle.read_operand_laws.specs.Facts.{Lt, less, notLess, lt?, Eq, same, other, eq?, ltb-true, ltb-not, leb-true, eqb-is, eqb-not, and-yes, pick-true, pick-false, true-and, true-not-false, fits, fits-wider, as-fits32, fine-both, both-fine, reason-not, range-holds, holds-range, number-lt, lt-number, failure-append, words-in-append, count-append, placed-lt, low-signed8, signed8-low, signed8-fits, reach-distance, distance-reach, reach-lt, pc-index-holds, index-displacement-holds, base-displacement-holds, outer-displacement-holds}
 use Rattle.read_operand_laws.specs.TreeLaws.{Words, rest-words, Alive, Clean, got-subst, short-no, guard-true, guard-then, guard-clean, bind-got, bind-then, bind-alive, bind-clean}
 use Rattle.read_operand_laws.specs.DisplacementLaws.{got-is, displacement-complete, displacement-sound, displacement-clean, based, landed-based, based-fits, based-landed, landed-fits}
@@ -48,7 +48,7 @@ long-lt Byte = omega arith
 long-lt Word = omega arith
 long-lt Long = omega arith
 
-general-of : (r : RegisterOperand) → numberVerdict (numberIn r) ≡ fine → generalOf (general r) ≡ r
+general-of : (r : RegisterOperand) → numberVerdict (numberOfRegister r) ≡ fine → generalOf (general r) ≡ r
 general-of (Address n) e =
     let l = number-lt n e in
     rw (ltb-not (8 + n % 8) 8 (omega arith)) (ap Address (omega arith))
@@ -56,7 +56,7 @@ general-of (Data n) e =
     let l = number-lt n e in
     rw (ltb-true (n % 8) 8 (omega arith)) (ap Data (omega arith))
 
-size-of : (s : Size) → indexSizeVerdict s ≡ fine → pick (eqb (longBit s) 1) Long Word ≡ s
+size-of : (s : Size) → indexSizeVerdict s ≡ fine → cond (eqb (longBit s) 1) Long Word ≡ s
 size-of Byte e = reason-not 4 e
 size-of Word e = refl
 size-of Long e = refl
@@ -64,7 +64,7 @@ size-of Long e = refl
 index-is : {r q : RegisterOperand} {s t : Size} → r ≡ q → s ≡ t → _≡_ {A = IndexRegister} (record { register = r; size = s }) (record { register = q; size = t })
 index-is p q = rw (p, q)
 
-pub index-complete : (x : IndexRegister) (l : ℕ) → numberVerdict (numberIn (x .register)) ≡ fine → indexSizeVerdict (x .size) ≡ fine → l < 256
+pub index-complete : (x : IndexRegister) (l : ℕ) → numberVerdict (numberOfRegister (x .register)) ≡ fine → indexSizeVerdict (x .size) ≡ fine → l < 256
     → Brief (briefWord x l) l x
 index-complete x l e f h = go (general-lt (x .register)) (long-lt (x .size))
   where
@@ -75,27 +75,27 @@ index-complete x l e f h = go (general-lt (x .register)) (long-lt (x .size))
           eqb-not (briefWord x l / 256 % 2) 1 (omega arith),
           eqb-is (briefWord x l / 512 % 4) 0 (omega arith),
           omega arith,
-          index-is (ap generalOf p ∙ general-of (x .register) e) (ap (λ (k : ℕ). pick (eqb k 1) Long Word) q ∙ size-of (x .size) f),
+          index-is (ap generalOf p ∙ general-of (x .register) e) (ap (λ (k : ℕ). cond (eqb k 1) Long Word) q ∙ size-of (x .size) f),
         )
 
 -- what a brief word of scale 1 names is accepted, and makes its upper byte
 abbrev IndexSound : ℕ → IndexRegister → Type 0
 IndexSound w x =
-    (numberVerdict (numberIn (x .register)) ≡ fine)
+    (numberVerdict (numberOfRegister (x .register)) ≡ fine)
     × (indexSizeVerdict (x .size) ≡ fine)
     × (general (x .register) * 4096 + longBit (x .size) * 2048 ≡ w / 256 * 256)
 
-general-sound : (k : ℕ) → k < 16 → (numberVerdict (numberIn (generalOf k)) ≡ fine) × (general (generalOf k) ≡ k)
+general-sound : (k : ℕ) → k < 16 → (numberVerdict (numberOfRegister (generalOf k)) ≡ fine) × (general (generalOf k) ≡ k)
 general-sound k h = go (lt? k 8)
   where
-    go : Lt k 8 → (numberVerdict (numberIn (generalOf k)) ≡ fine) × (general (generalOf k) ≡ k)
+    go : Lt k 8 → (numberVerdict (numberOfRegister (generalOf k)) ≡ fine) × (general (generalOf k) ≡ k)
     go (less l e) = rw e (lt-number k l, omega arith)
     go (notLess l e) = rw e (lt-number (k - 8) (omega arith), omega arith)
 
-size-sound : (b : ℕ) → b < 2 → (indexSizeVerdict (pick (eqb b 1) Long Word) ≡ fine) × (longBit (pick (eqb b 1) Long Word) ≡ b)
+size-sound : (b : ℕ) → b < 2 → (indexSizeVerdict (cond (eqb b 1) Long Word) ≡ fine) × (longBit (cond (eqb b 1) Long Word) ≡ b)
 size-sound b h = go (eq? b 1)
   where
-    go : Eq b 1 → (indexSizeVerdict (pick (eqb b 1) Long Word) ≡ fine) × (longBit (pick (eqb b 1) Long Word) ≡ b)
+    go : Eq b 1 → (indexSizeVerdict (cond (eqb b 1) Long Word) ≡ fine) × (longBit (cond (eqb b 1) Long Word) ≡ b)
     go (same p e) = rw e (refl, sym p)
     go (other p e) = rw e (refl, omega arith)
 
@@ -155,13 +155,13 @@ brief-pc base w f = rw f (and-yes (eqb base 8))
 brief-holds : (base : ℕ) (z : ℤ) → holds (briefField base) z ≡ fits (2 ^ 7) z
 brief-holds base z = go (eqb base 8)
   where
-    go : (b : Bool) → holds (pick b field.PcIndex field.IndexDisplacement) z ≡ fits (2 ^ 7) z
+    go : (b : Bool) → holds (cond b field.PcIndex field.IndexDisplacement) z ≡ fits (2 ^ 7) z
     go true = pc-index-holds z
     go false = index-displacement-holds z
 
 pick-plain : (pc : Bool) (base at : ℕ) (x : IndexRegister) (z : ℤ) → at < 2 ^ 32
-    → pick pc (PcIndex (reach at (based pc at z)) x) (IndirectIndex (Address base) (based pc at z) x)
-    ≡ pick pc (PcIndex (bitsOf z % 2 ^ 32) x) (IndirectIndex (Address base) z x)
+    → cond pc (PcIndex (reach at (based pc at z)) x) (IndirectIndex (Address base) (based pc at z) x)
+    ≡ cond pc (PcIndex (bitsOf z % 2 ^ 32) x) (IndirectIndex (Address base) z x)
 pick-plain true base at x z h = ap (λ (t : ℕ). PcIndex t x) (reach-distance (bitsOf z % 2 ^ 32) at (omega arith) h)
 pick-plain false base at x z h = refl
 
@@ -234,7 +234,7 @@ pub sound-by : (s : Size) (a n ea : ℕ) (ws : List ℕ) (o : Operand) (m : ℕ)
     → eaItems o s (placed a n) ≡ xs
     → failure true xs ≡ fine
     → isTyped o ≡ true
-    → Typed o
+    → InTypes o
     → eaField o ≡ ea
     → plainOperand o ≡ o
     → ws ≡ wordsIn xs ++ r
@@ -282,7 +282,7 @@ full-sound s base a n w ws hb hw h f o m r e =
     ∙ ap (λ (l : List ℕ). l ++ s2) (sym (words-in-append (baseItems w z) (outerItems w outer)))))
     (omega (arith, counted, d .3, d2 .3)))))
 
-brief-fine : (x : IndexRegister) (z : ℤ) (f : Field) → holds f z ≡ true → numberVerdict (numberIn (x .register)) ≡ fine → indexSizeVerdict (x .size) ≡ fine
+brief-fine : (x : IndexRegister) (z : ℤ) (f : Field) → holds f z ≡ true → numberVerdict (numberOfRegister (x .register)) ≡ fine → indexSizeVerdict (x .size) ≡ fine
     → failure true (briefItems x z f) ≡ fine
 brief-fine x z f h p q = rw (holds-range f z h, p, q)
 
@@ -397,10 +397,10 @@ indexed-sound s base a n hb (w ∷ ws) h o m r e = go (isFull w) refl
     at : ℕ
     at = placed a n
 
-    read : run (pick (isFull w) (fullTree base at w) (ret (briefOperand base at w))) a (n + 1) ws ≡ got o m r
+    read : run (cond (isFull w) (fullTree base at w) (ret (briefOperand base at w))) a (n + 1) ws ≡ got o m r
     read = e
 
-    by : (t : Tree Operand) → pick (isFull w) (fullTree base at w) (ret (briefOperand base at w)) ≡ t → run t a (n + 1) ws ≡ got o m r
+    by : (t : Tree Operand) → cond (isFull w) (fullTree base at w) (ret (briefOperand base at w)) ≡ t → run t a (n + 1) ws ≡ got o m r
     by t p = subst (λ (t : Tree Operand). run t a (n + 1) ws ≡ got o m r) p read
 
     go : (b : Bool) → isFull w ≡ b → OperandSound s a n (extendedField base) (w ∷ ws) o m r
@@ -418,7 +418,7 @@ full-clean base at w =
     (λ z. bind-clean (displacementTree (outerSize w)) (λ outer. ret (Extended base w (landed (fromPc base w) at z) outer)) (displacement-clean (outerSize w) .1)
     (λ outer. tt) (λ outer. tt)))
 
-pick-clean : (b : Bool) (t : Tree Operand) (o : Operand) → Clean t → Clean (pick b t (ret o))
+pick-clean : (b : Bool) (t : Tree Operand) (o : Operand) → Clean t → Clean (cond b t (ret o))
 pick-clean true t o c = c
 pick-clean false t o c = tt
 

@@ -1,8 +1,8 @@
 pub mod Stands
-pub mod Following
+pub mod TailStands
 pub mod Facts
 pub mod TreeLaws
 pub mod DisplacementLaws
 pub mod IndexLaws
 pub mod OperandLaws
-pub mod FieldsLaws
+pub mod TailLaws

@@ -1,7 +1,7 @@
 -- The effective address: what stands is read in its plain form, and what is read stands and is plain.
 use Prim.Native.Nat.{ℕ, zero, suc, _+_, _*_, _-_, _/_, _%_, _^_, _<_, _≤_}
 use mathlib.Core.Path.{_≡_, refl, ap, sym, _∙_, subst}
-use mathlib.Core.Bool.{Bool, true, false}
+use mathlib.Core.Bool.{Bool, true, false, cond}
 use mathlib.Core.List.{List, [], _∷_, _++_}
 use native.Mathlib.Omega.{arith}
 use lib.Dec.{ltb, leb, eqb}
@@ -16,16 +16,16 @@ use Rattle.isa.specs.declared.Operand.the-variants.{Immediate, Register, Indire
 use Rattle.isa.specs.declared.Field.{Field}
 use Rattle.isa.specs.declared.Field.the-variants as field
 use Rattle.isa.specs.Field.{holds, topOf}
-use Rattle.isa.specs.Code.{numberIn}
+use Rattle.isa.specs.Code.{numberOfRegister}
 use Rattle.encode_spec.specs.Item.{fine, register, failure, orElse, ranged, numberVerdict, wordsIn, countOf, placed}
-use Rattle.isa.specs.ExtensionWord.{pick, isCanonical}
+use Rattle.isa.specs.ExtensionWord.{isCanonical}
 use Rattle.encode_spec.specs.Ea.{distance, indexSizeVerdict, briefItems, wordItems, immediateWords, immediateItems, extendedMode, extendedItems, absoluteItems, modeOf, permits, eaField, eaItems, isTyped}
 use Rattle.base_signed.specs.Signed.{signed32, signed64, bitsOf}
 use Rattle.read_spec.specs.Number.{signed8, signed16, reach}
 use Rattle.read_spec.specs.Operand.{modeAt, permitted, indexOf, immediateTree, indexedTree, indexOperand, scaledOperand, briefOperand, specialTree, modeTree, operandTree}
 use Rattle.read_spec.specs.Plain.{plainOperand}
 use Rattle.read_spec.specs.Tree.{Tree, ret, got, run}
-use Rattle.read_operand_laws.specs.Stands.{Typed, Stands}
+use Rattle.read_operand_laws.specs.Stands.{InTypes, Stands}
 use Rattle.read_operand_laws.specs.Facts.{Lt, less, notLess, lt?, ltb-true, ltb-is, leb-is, eqb-not, and-true, pick-true, pick-false, fits, fits-wider, as-fits32, fine-both, both-fine, reason-not, range-holds, holds-range, number-lt, lt-number, placed-lt, signed8-low, signed16-low, low-signed16, signed16-fits, signed32-low, low-signed32, reach-distance, distance-reach, reach-lt, immediate-holds, displacement-holds, index-displacement-holds, pc-displacement-holds, pc-index-holds, short-address-holds, long-address-holds}
 use Rattle.read_operand_laws.specs.TreeLaws.{Words, Alive, Clean, got-subst, short-no, none-no, guard-true, guard-then, guard-clean, bind-got, bind-then, bind-alive, bind-clean}
 use Rattle.read_operand_laws.specs.DisplacementLaws.{got-is}
@@ -130,7 +130,7 @@ alone s a n r m k o e t =
 
 -- an index of a brief word
 abbrev indexed : ℕ → ℕ → ℤ → IndexRegister → Operand
-indexed base at z x = pick (eqb base 8) (PcIndex (reach at z) x) (IndirectIndex (Address base) z x)
+indexed base at z x = cond (eqb base 8) (PcIndex (reach at z) x) (IndirectIndex (Address base) z x)
 
 brief-at : (base at w l : ℕ) (x : IndexRegister) (z : ℤ) → Brief w l x → signed8 l ≡ z → briefOperand base at w ≡ indexed base at z x
 brief-at base at w l x z b e =
@@ -139,7 +139,7 @@ brief-at base at w l x z b e =
     ∙ ap (λ (i : IndexRegister). indexed base at z i) (b .3)
 
 brief-complete : (base a n : ℕ) (r : List ℕ) (x : IndexRegister) (z : ℤ) → fits (2 ^ 7) z ≡ true
-    → numberVerdict (numberIn (x .register)) ≡ fine
+    → numberVerdict (numberOfRegister (x .register)) ≡ fine
     → indexSizeVerdict (x .size) ≡ fine
     → run (indexedTree base) a n (briefWord x (bitsOf z % 256) ∷ r) ≡ got (indexed base (placed a n) z x) (n + 1) r
 brief-complete base a n r x z h e f =
@@ -149,12 +149,12 @@ brief-complete base a n r x z h e f =
 
 -- a brief word's checks
 abbrev Kept : Field → ℤ → IndexRegister → Type 0
-Kept f z x = (holds f z ≡ true) × (numberVerdict (numberIn (x .register)) ≡ fine) × (indexSizeVerdict (x .size) ≡ fine)
+Kept f z x = (holds f z ≡ true) × (numberVerdict (numberOfRegister (x .register)) ≡ fine) × (indexSizeVerdict (x .size) ≡ fine)
 
 brief-kept : (f : Field) (z : ℤ) (x : IndexRegister) → failure true (briefItems x z f) ≡ fine → Kept f z x
 brief-kept f z x e =
     let p = fine-both (ranged true f z) _ e in
-    let q = fine-both (numberVerdict (numberIn (x .register))) _ (p .1) in
+    let q = fine-both (numberVerdict (numberOfRegister (x .register))) _ (p .1) in
     let r = fine-both (indexSizeVerdict (x .size)) fine (q .1) in
     (range-holds f z (p .0), q .0, r .0)
 
@@ -167,7 +167,7 @@ short-address v h f =
     let e : v % 65536 ≡ bitsOf y % 65536 = omega arith in
     ap (λ (z : ℤ). bitsOf z % 2 ^ 32) (ap signed16 e ∙ signed16-low y f) ∙ q ∙ p
 
-at-field : (s : Size) (a n : ℕ) (o : Operand) → failure true (eaItems o s (placed a n)) ≡ fine → isTyped o ≡ true → Typed o
+at-field : (s : Size) (a n : ℕ) (o : Operand) → failure true (eaItems o s (placed a n)) ≡ fine → isTyped o ≡ true → InTypes o
     → (r : List ℕ)
     → Complete s a n r o
 at-field s a n (Immediate v) e i t r =
@@ -233,7 +233,7 @@ word-fine : (f : Field) (z : ℤ) → holds f z ≡ true → orElse (ranged true
 word-fine f z h = both-fine (ranged true f z) fine (holds-range f z h) refl
 
 -- a register number alone
-alone-sound : (s : Size) (a n m k : ℕ) (ws : List ℕ) (o : Operand) → k < 8 → eaItems o s (placed a n) ≡ register k ∷ [] → isTyped o ≡ true → Typed o
+alone-sound : (s : Size) (a n m k : ℕ) (ws : List ℕ) (o : Operand) → k < 8 → eaItems o s (placed a n) ≡ register k ∷ [] → isTyped o ≡ true → InTypes o
     → eaField o ≡ m * 8 + k
     → plainOperand o ≡ o
     → OperandSound s a n (m * 8 + k) ws o n ws
@@ -412,8 +412,8 @@ mode-field (Register (Data k)) i = low-mode 0 (k % 8) (omega arith) (omega arith
 mode-field (Indirect k) i = low-mode 2 (k % 8) (omega arith) (omega arith)
 mode-field (PostIndirect k) i = low-mode 3 (k % 8) (omega arith) (omega arith)
 mode-field (PreIndirect k) i = low-mode 4 (k % 8) (omega arith) (omega arith)
-mode-field (IndirectDisplacement z base) i = low-mode 5 (numberIn base % 8) (omega arith) (omega arith)
-mode-field (IndirectIndex base z x) i = low-mode 6 (numberIn base % 8) (omega arith) (omega arith)
+mode-field (IndirectDisplacement z base) i = low-mode 5 (numberOfRegister base % 8) (omega arith) (omega arith)
+mode-field (IndirectIndex base z x) i = low-mode 6 (numberOfRegister base % 8) (omega arith) (omega arith)
 mode-field (PcDisplacement t) i = refl
 mode-field (PcIndex t x) i = refl
 mode-field (Extended base w z outer) i = go (lt? base 8)
@@ -429,7 +429,7 @@ mode-field (Extended base w z outer) i = go (lt? base 8)
 mode-field (Absolute v width.Word) i = refl
 mode-field (Absolute v width.Long) i = refl
 
-pick-lt : (b : Bool) (m n k : ℕ) → m < k → n < k → pick b m n < k
+pick-lt : (b : Bool) (m n k : ℕ) → m < k → n < k → cond b m n < k
 pick-lt true m n k h g = h
 pick-lt false m n k h g = g
 

@@ -15,18 +15,18 @@ abbrev pub Fits32 : ℤ → Type 0
 Fits32 z = leZ (negsuc 2147483647) z && leZ z (pos 2147483647) ≡ true
 
 -- the numbers are of their declared types, where no check says so
-abbrev pub Typed : Operand → Type 0
-Typed (Immediate v) = Unit {0}
-Typed (Register r) = Unit {0}
-Typed (Indirect n) = Unit {0}
-Typed (PostIndirect n) = Unit {0}
-Typed (PreIndirect n) = Unit {0}
-Typed (IndirectDisplacement z base) = Unit {0}
-Typed (IndirectIndex base z x) = Unit {0}
-Typed (PcDisplacement t) = t < 2 ^ 32
-Typed (PcIndex t x) = t < 2 ^ 32
-Typed (Extended base w z outer) = (w < 65536) × Fits32 z × Fits32 outer
-Typed (Absolute a width) = a < 2 ^ 64
+abbrev pub InTypes : Operand → Type 0
+InTypes (Immediate v) = Unit {0}
+InTypes (Register r) = Unit {0}
+InTypes (Indirect n) = Unit {0}
+InTypes (PostIndirect n) = Unit {0}
+InTypes (PreIndirect n) = Unit {0}
+InTypes (IndirectDisplacement z base) = Unit {0}
+InTypes (IndirectIndex base z x) = Unit {0}
+InTypes (PcDisplacement t) = t < 2 ^ 32
+InTypes (PcIndex t x) = t < 2 ^ 32
+InTypes (Extended base w z outer) = (w < 65536) × Fits32 z × Fits32 outer
+InTypes (Absolute a width) = a < 2 ^ 64
 
 abbrev pub Stands : Size → ℕ → ℕ → Operand → Type 0
-Stands s at ea o = (failure true (eaItems o s at) ≡ fine) × (isTyped o ≡ true) × Typed o × (eaField o ≡ ea)
+Stands s at ea o = (failure true (eaItems o s at) ≡ fine) × (isTyped o ≡ true) × InTypes o × (eaField o ≡ ea)

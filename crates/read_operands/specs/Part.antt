@@ -11,7 +11,7 @@ use Rattle.encode_spec.specs.Ea.{fromPc}
 use Rattle.base_signed.specs.Signed.{bitsOf}
 use Rattle.read_spec.specs.declared.Specifier.{Specifier}
 use Rattle.read_spec.specs.declared.Layout.{Layout}
-use Rattle.read_spec.specs.declared.Fields.{Fields}
+use Rattle.read_spec.specs.declared.Tail.{Tail}
 use Rattle.read_spec.specs.Tree.{Tree, ret, more, bind, guard}
 use Rattle.read_spec.specs.Number.{signed16, reach}
 use Rattle.read_spec.specs.Operand.{displacementTree, landed, immediateTree, operandTree}
@@ -46,12 +46,12 @@ abbrev pub immediateOperandTree : Size → Tree Operand
 immediateOperandTree s = bind (immediateTree s) (λ v. ret (Immediate v))
 
 -- the fields from the destination on, from the source on, and from the specifier on
-abbrev pub destinationTree : Layout → ℕ → Operand → Tree Fields
+abbrev pub destinationTree : Layout → ℕ → Operand → Tree Tail
 destinationTree l v o =
     bind (operandTree (l .size) (l .destination)) (λ d. ret (record { value = v; source = o; destination = d }))
 
-abbrev pub sourceTree : Layout → ℕ → Tree Fields
+abbrev pub sourceTree : Layout → ℕ → Tree Tail
 sourceTree l v = bind (operandTree (l .size) (l .source)) (destinationTree l v)
 
-abbrev pub specifiedTree : Layout → Tree Fields
+abbrev pub specifiedTree : Layout → Tree Tail
 specifiedTree l = bind (specifierTree (l .specifier)) (sourceTree l)

@@ -2,7 +2,7 @@
 use Prim.Native.Nat.{ℕ}
 use lib.IntN.{ℤ}
 use Rattle.isa.specs.declared.Operand.{Operand}
-use Rattle.read_spec.specs.declared.Fields.{Fields}
+use Rattle.read_spec.specs.declared.Tail.{Tail}
 use Rattle.read_spec.specs.Tree.{At, found, ended, refused}
 use Rattle.read_operands.specs.declared.NumberRead.{NumberRead}
 use Rattle.read_operands.specs.declared.NumberRead.the-variants as number
@@ -28,7 +28,7 @@ operandRead (found o n) = operand.Got o n
 operandRead ended = operand.Short
 operandRead refused = operand.Nothing
 
-abbrev pub followed : At Fields → Followed
+abbrev pub followed : At Tail → Followed
 followed (found f n) = fields.Got f n
 followed ended = fields.Short
 followed refused = fields.Nothing

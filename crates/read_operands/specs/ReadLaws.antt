@@ -3,7 +3,7 @@ use Prim.Native.Nat.{ℕ}
 use mathlib.Core.Path.{_≡_, refl}
 use lib.IntN.{ℤ}
 use Rattle.isa.specs.declared.Operand.{Operand}
-use Rattle.read_spec.specs.declared.Fields.{Fields}
+use Rattle.read_spec.specs.declared.Tail.{Tail}
 use Rattle.read_spec.specs.Tree.{At, found, ended, refused}
 use Rattle.read_operands.specs.declared.NumberRead.{NumberRead}
 use Rattle.read_operands.specs.declared.NumberRead.the-variants as number
@@ -60,17 +60,17 @@ operand-refused (found y k) e h = cc
 operand-refused ended e h = cc
 operand-refused refused e h = refl
 
-pub fields-found : (x : At Fields) {r : Followed} {f : Fields} {n : ℕ} → r ≡ followed x → r ≡ fields.Got f n → x ≡ found f n
+pub fields-found : (x : At Tail) {r : Followed} {f : Tail} {n : ℕ} → r ≡ followed x → r ≡ fields.Got f n → x ≡ found f n
 fields-found (found y k) e h = cc
 fields-found ended e h = cc
 fields-found refused e h = cc
 
-pub fields-ended : (x : At Fields) {r : Followed} → r ≡ followed x → r ≡ fields.Short → x ≡ ended
+pub fields-ended : (x : At Tail) {r : Followed} → r ≡ followed x → r ≡ fields.Short → x ≡ ended
 fields-ended (found y k) e h = cc
 fields-ended ended e h = refl
 fields-ended refused e h = cc
 
-pub fields-refused : (x : At Fields) {r : Followed} → r ≡ followed x → r ≡ fields.Nothing → x ≡ refused
+pub fields-refused : (x : At Tail) {r : Followed} → r ≡ followed x → r ≡ fields.Nothing → x ≡ refused
 fields-refused (found y k) e h = cc
 fields-refused ended e h = cc
 fields-refused refused e h = refl

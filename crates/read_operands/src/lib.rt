@@ -2,12 +2,12 @@
 // address a.
 ghost use mathlib.Core.Path.{_≡_};
 ghost use Rattle.read_spec.specs.Tree.{runAt};
-ghost use Rattle.read_spec.specs.Layout.{accepts, fieldsTree};
+ghost use Rattle.read_spec.specs.Layout.{accepts, tailTree};
 ghost use Rattle.read_operands.specs.Read.{followed};
 ghost use Rattle.read_operands.specs.Part.{sourceTree, destinationTree, specifiedTree};
 use isa::Operand;
-use read_spec::Fields;
 use read_spec::Layout;
+use read_spec::Tail;
 
 pub mod number; // signed numbers and addresses
 pub mod register; // registers
@@ -37,7 +37,7 @@ pub enum OperandRead {
 }
 
 pub enum Followed {
-    Got(Fields, usize),
+    Got(Tail, usize),
     Short,
     Nothing,
 }
@@ -66,7 +66,7 @@ fn with_destination(
     let read = operand::operand(words, address, at, size, layout.destination);
     match read {
         OperandRead::Got(destination, next) => Followed::Got(
-            Fields {
+            Tail {
                 value,
                 source,
                 destination,
@@ -108,7 +108,7 @@ fn specified(words: &[u16], address: u32, layout: Layout) -> Followed
 
 // What follows the operation word at an address, in this layout.
 pub fn follow(words: &[u16], address: u32, layout: Layout) -> Followed
-    ensures { λ r. ⌜ r ≡ followed (runAt (fieldsTree layout) address (now (words .entry)) 1) ⌝ }
+    ensures { λ r. ⌜ r ≡ followed (runAt (tailTree layout) address (now (words .entry)) 1) ⌝ }
 {
     if accepts(layout) {
         specified(words, address, layout)

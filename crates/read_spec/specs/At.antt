@@ -1,12 +1,11 @@
 -- One tree after another, run by place.
 use Prim.Native.Nat.{ℕ, _+_}
 use mathlib.Core.Path.{_≡_, refl}
-use mathlib.Core.Bool.{Bool, true, false}
+use mathlib.Core.Bool.{Bool, true, false, cond}
 use mathlib.Core.List.{List}
 use lib.Dec.{ltb}
 use lib.ListN.{getD, length}
 use Rattle.encode_spec.specs.Item.{placed}
-use Rattle.isa.specs.ExtensionWord.{pick}
 use Rattle.read_spec.specs.Tree.{Tree, ret, fail, more, bind, At, found, ended, refused, runAt}
 
 module _ {A B : Type 0} where
@@ -16,7 +15,7 @@ module _ {A B : Type 0} where
   afterAt a ws f ended = ended
   afterAt a ws f refused = refused
 
-  pick-after : (b : Bool) (a : ℕ) (ws : List ℕ) (f : A → Tree B) (x : At A) (y : At B) → y ≡ afterAt a ws f x → pick b y ended ≡ afterAt a ws f (pick b x ended)
+  pick-after : (b : Bool) (a : ℕ) (ws : List ℕ) (f : A → Tree B) (x : At A) (y : At B) → y ≡ afterAt a ws f x → cond b y ended ≡ afterAt a ws f (cond b x ended)
   pick-after true a ws f x y e = e
   pick-after false a ws f x y e = refl
 

@@ -1,7 +1,7 @@
 -- How many words a reading looks at, at most 13: what stands behind them does not matter.
 use Prim.Native.Nat.{ℕ, zero, suc, _+_, _/_, _%_, _≤_}
 use mathlib.Core.Path.{_≡_, refl}
-use mathlib.Core.Bool.{Bool, true, false}
+use mathlib.Core.Bool.{Bool, true, false, cond}
 use mathlib.Core.List.{List, [], _∷_}
 use native.Mathlib.Omega.{arith}
 use lib.Dec.{ltb}
@@ -11,13 +11,13 @@ use Rattle.isa.specs.declared.Size.the-variants.{Byte, Word, Long}
 use Rattle.isa.specs.declared.DisplacementSize.{DisplacementSize}
 use Rattle.isa.specs.declared.DisplacementSize.the-variants as displacement
 use Rattle.encode_spec.specs.Item.{placed}
-use Rattle.isa.specs.ExtensionWord.{pick, isFull, isCanonical, baseSize, outerSize}
+use Rattle.isa.specs.ExtensionWord.{isFull, isCanonical, baseSize, outerSize}
 use Rattle.read_spec.specs.declared.Specifier.{Specifier}
 use Rattle.read_spec.specs.declared.Specifier.the-variants as specifier
 use Rattle.read_spec.specs.declared.Layout.{Layout}
 use Rattle.read_spec.specs.Tree.{Tree, ret, fail, more, bind, run, Out, got, short, none, At, found, ended, refused, runAt}
 use Rattle.read_spec.specs.Operand.{displacementTree, fullTree, briefOperand, indexedTree, immediateTree, specialTree, modeTree, operandTree}
-use Rattle.read_spec.specs.Layout.{valid, oneWord, twoWords, specifierTree, accepts, fieldsTree}
+use Rattle.read_spec.specs.Layout.{valid, oneWord, twoWords, specifierTree, accepts, tailTree}
 
 abbrev plus : ℕ → ℕ → ℕ
 plus zero d = d
@@ -40,7 +40,7 @@ module _ {A : Type 0} where
   depth-deeper t zero d h = h
   depth-deeper t (suc c) d h = depth-more t (plus c d) (depth-deeper t c d h)
 
-  depth-pick : (b : Bool) (t u : Tree A) (d : ℕ) → Depth t d → Depth u d → Depth (pick b t u) d
+  depth-pick : (b : Bool) (t u : Tree A) (d : ℕ) → Depth t d → Depth u d → Depth (cond b t u) d
   depth-pick true t u d p q = p
   depth-pick false t u d p q = q
 
@@ -112,8 +112,8 @@ specifier-depth specifier.BitField = one-depth specifier.BitField
 specifier-depth specifier.Long = two-depth specifier.Long
 specifier-depth specifier.CompareTwo = two-depth specifier.CompareTwo
 
-pub fields-depth : (l : Layout) → Depth (fieldsTree l) 12
-fields-depth l =
+pub tail-depth : (l : Layout) → Depth (tailTree l) 12
+tail-depth l =
     depth-pick (accepts l) _ fail 12
     (depth-bind (specifierTree (l .specifier)) _ 2 10 (specifier-depth (l .specifier)) (λ v.
     depth-bind (operandTree (l .size) (l .source)) _ 5 5 (operand-depth (l .size) (l .source)) (λ o.
@@ -126,7 +126,7 @@ Within (found x m) n = m ≤ n
 Within ended n = Unit {0}
 Within refused n = Unit {0}
 
-within-pick : {A : Type 0} (b : Bool) (r : At A) (n : ℕ) → Within r n → Within (pick b r ended) n
+within-pick : {A : Type 0} (b : Bool) (r : At A) (n : ℕ) → Within r n → Within (cond b r ended) n
 within-pick true r n h = h
 within-pick false r n h = tt
 

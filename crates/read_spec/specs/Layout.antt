@@ -8,7 +8,7 @@ use Rattle.isa.specs.declared.Size.the-variants.{Byte}
 use Rattle.read_spec.specs.declared.Specifier.{Specifier}
 use Rattle.read_spec.specs.declared.Specifier.the-variants as specifier
 use Rattle.read_spec.specs.declared.Layout.{Layout}
-use Rattle.read_spec.specs.declared.Fields.{Fields}
+use Rattle.read_spec.specs.declared.Tail.{Tail}
 use Rattle.read_spec.specs.Tree.{Tree, ret, more, bind, guard}
 use Rattle.read_spec.specs.Operand.{permitted, operandTree}
 
@@ -52,8 +52,8 @@ specifierTree specifier.CompareTwo = twoWords specifier.CompareTwo
 abbrev pub accepts : Layout → Bool
 accepts l = l .accepted && permitted (l .readable) (l .source) && permitted (l .writable) (l .destination)
 
-abbrev pub fieldsTree : Layout → Tree Fields
-fieldsTree l =
+abbrev pub tailTree : Layout → Tree Tail
+tailTree l =
     guard (accepts l)
     (bind (specifierTree (l .specifier)) (λ v.
     bind (operandTree (l .size) (l .source)) (λ o.

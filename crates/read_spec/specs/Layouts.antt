@@ -1,14 +1,13 @@
 -- What follows the operation words of each group (the manual, section 4, each instruction's format; section 8).
 -- line, x, opmode and ea are bits 15 to 12, 11 to 9, 8 to 6 and 5 to 0 of the operation word.
 use Prim.Native.Nat.{ℕ, _+_, _*_, _-_, _/_, _%_}
-use mathlib.Core.Bool.{Bool, _&&_, _||_}
+use mathlib.Core.Bool.{Bool, _&&_, _||_, cond}
 use lib.Dec.{eqb, ltb, leb}
 use Rattle.isa.specs.declared.Size.{Size}
 use Rattle.isa.specs.declared.Size.the-variants.{Byte, Word, Long}
 use Rattle.isa.specs.declared.BitFieldOperation.{BitFieldOperation}
 use Rattle.isa.specs.declared.UnsizedOneOperation.{UnsizedOneOperation}
 use Rattle.isa.specs.declared.UnsizedOneOperation.the-variants.{PEA, NBCD, JSR, JMP, TAS, MOVEtoCCR, MOVEfromCCR, MOVEtoSR, MOVEfromSR}
-use Rattle.isa.specs.ExtensionWord.{pick}
 use Rattle.isa.specs.Code.{isByte}
 use Rattle.encode_spec.specs.Ea.{everyMode, dataModes, alterable, dataAlterable, memoryAlterable, control, dataNotImmediate, bitFieldRead, bitFieldWritten}
 use Rattle.encode_spec.specs.Movement.{movemModes}
@@ -16,14 +15,14 @@ use Rattle.encode_spec.specs.Bits.{dynamicModes, staticModes, writes}
 use Rattle.read_spec.specs.declared.Specifier.{Specifier}
 use Rattle.read_spec.specs.declared.Specifier.the-variants as specifier
 use Rattle.read_spec.specs.declared.Layout.{Layout}
-use Rattle.read_spec.specs.declared.Shape.{Shape}
-use Rattle.read_spec.specs.declared.Shape.the-variants as shape
+use Rattle.read_spec.specs.declared.Group.{Group}
+use Rattle.read_spec.specs.declared.Group.the-variants as group
 use Rattle.read_spec.specs.Layout.{two, one, alone, bare, noLayout}
 use Rattle.read_spec.specs.Operation.{sizeAt, moveSize, toStatus, toMemoryAt, unsizedAt, bitFieldAt}
 
 -- any mode, but not a byte of an address register
 abbrev pub readableModes : Size → ℕ
-readableModes s = pick (isByte s) dataModes everyMode
+readableModes s = cond (isByte s) dataModes everyMode
 
 -- an immediate before the destination
 abbrev pub immediateSpecifier : Size → Specifier
@@ -34,28 +33,28 @@ immediateSpecifier Long = specifier.Long
 -- ORI ANDI SUBI ADDI EORI CMPI, and to CCR and SR
 abbrev pub immediateLayout : ℕ → ℕ → ℕ → Layout
 immediateLayout x opmode ea =
-    pick (toStatus x opmode ea) (alone (immediateSpecifier (sizeAt opmode)))
-    (one (immediateSpecifier (sizeAt opmode)) (sizeAt opmode) ea (pick (eqb x 6) dataNotImmediate dataAlterable))
+    cond (toStatus x opmode ea) (alone (immediateSpecifier (sizeAt opmode)))
+    (one (immediateSpecifier (sizeAt opmode)) (sizeAt opmode) ea (cond (eqb x 6) dataNotImmediate dataAlterable))
 
 -- BTST BCHG BCLR BSET with a data register, and MOVEP, which reaches memory through d16(An) only
 abbrev pub dynamicLayout : ℕ → ℕ → Layout
 dynamicLayout opmode ea =
-    pick (eqb (ea / 8) 1) (one specifier.Nothing Word (40 + ea % 8) 32) (one specifier.Nothing Byte ea (dynamicModes (opmode - 4)))
+    cond (eqb (ea / 8) 1) (one specifier.Nothing Word (40 + ea % 8) 32) (one specifier.Nothing Byte ea (dynamicModes (opmode - 4)))
 
 -- CAS and CAS2
 abbrev pub casLayout : ℕ → ℕ → Layout
-casLayout x ea = pick (eqb ea 60 && leb 6 x) (alone specifier.CompareTwo) (one specifier.Compare (sizeAt (x - 5)) ea memoryAlterable)
+casLayout x ea = cond (eqb ea 60 && leb 6 x) (alone specifier.CompareTwo) (one specifier.Compare (sizeAt (x - 5)) ea memoryAlterable)
 
 -- MOVEA has no byte
 abbrev pub moveaLayout : Size → ℕ → Layout
-moveaLayout s ea = pick (isByte s) noLayout (one specifier.Nothing s ea everyMode)
+moveaLayout s ea = cond (isByte s) noLayout (one specifier.Nothing s ea everyMode)
 
 -- MOVE: the destination's register before its mode
 abbrev pub moveLayout : Size → ℕ → ℕ → ℕ → Layout
-moveLayout s x opmode ea = pick (eqb opmode 1) (moveaLayout s ea) (two specifier.Nothing s ea (readableModes s) (opmode * 8 + x) dataAlterable)
+moveLayout s x opmode ea = cond (eqb opmode 1) (moveaLayout s ea) (two specifier.Nothing s ea (readableModes s) (opmode * 8 + x) dataAlterable)
 
 abbrev pub oneLayout : Size → ℕ → ℕ → Layout
-oneLayout s x ea = one specifier.Nothing s ea (pick (eqb x 5) (readableModes s) dataAlterable)
+oneLayout s x ea = one specifier.Nothing s ea (cond (eqb x 5) (readableModes s) dataAlterable)
 
 abbrev pub unsizedModes : UnsizedOneOperation → ℕ
 unsizedModes PEA = control
@@ -84,105 +83,105 @@ unsizedLayout op ea = one specifier.Nothing (unsizedSize op) ea (unsizedModes op
 
 -- ILLEGAL stands where TAS would have an immediate operand
 abbrev pub unsizedOneLayout : ℕ → ℕ → ℕ → Layout
-unsizedOneLayout x opmode ea = pick (eqb x 5 && eqb ea 60) bare (unsizedLayout (unsizedAt x opmode) ea)
+unsizedOneLayout x opmode ea = cond (eqb x 5 && eqb ea 60) bare (unsizedLayout (unsizedAt x opmode) ea)
 
 -- NBCD, and LINK with a long
 abbrev pub nbcdLayout : ℕ → Layout
-nbcdLayout ea = pick (eqb (ea / 8) 1) (alone specifier.Long) (unsizedLayout NBCD ea)
+nbcdLayout ea = cond (eqb (ea / 8) 1) (alone specifier.Long) (unsizedLayout NBCD ea)
 
 -- PEA, SWAP and BKPT
 abbrev pub peaLayout : ℕ → Layout
-peaLayout ea = pick (ltb ea 16) bare (unsizedLayout PEA ea)
+peaLayout ea = cond (ltb ea 16) bare (unsizedLayout PEA ea)
 
 -- MOVEM, and EXT
 abbrev pub movemLayout : ℕ → ℕ → ℕ → Layout
 movemLayout x opmode ea =
-    pick (eqb x 4 && ltb ea 8) bare (one specifier.Word (sizeAt (opmode - 1)) ea (movemModes (toMemoryAt (5 - x))))
+    cond (eqb x 4 && ltb ea 8) bare (one specifier.Word (sizeAt (opmode - 1)) ea (movemModes (toMemoryAt (5 - x))))
 
 -- TRAP LINK UNLK MOVE USP RESET NOP STOP RTE RTD RTS TRAPV RTR MOVEC
 abbrev pub systemSpecifier : ℕ → Specifier
-systemSpecifier ea = pick (eqb (ea / 8) 2 || eqb ea 50 || eqb ea 52 || leb 56 ea) specifier.Word specifier.Nothing
+systemSpecifier ea = cond (eqb (ea / 8) 2 || eqb ea 50 || eqb ea 52 || leb 56 ea) specifier.Word specifier.Nothing
 
 abbrev pub systemLayout : ℕ → Layout
-systemLayout ea = pick (ltb ea 56 || eqb (ea / 2) 29) (alone (systemSpecifier ea)) noLayout
+systemLayout ea = cond (ltb ea 56 || eqb (ea / 2) 29) (alone (systemSpecifier ea)) noLayout
 
 -- LEA, and EXTB.L
 abbrev pub leaLayout : ℕ → ℕ → Layout
-leaLayout x ea = pick (eqb x 4 && ltb ea 8) bare (one specifier.Nothing Long ea control)
+leaLayout x ea = cond (eqb x 4 && ltb ea 8) bare (one specifier.Nothing Long ea control)
 
 abbrev pub quickLayout : Size → ℕ → Layout
-quickLayout s ea = one specifier.Nothing s ea (pick (isByte s) dataAlterable alterable)
+quickLayout s ea = one specifier.Nothing s ea (cond (isByte s) dataAlterable alterable)
 
 -- Scc, DBcc and TRAPcc
 abbrev pub trapSpecifier : ℕ → Specifier
-trapSpecifier ea = pick (eqb ea 58) specifier.Word (pick (eqb ea 59) specifier.Long specifier.Nothing)
+trapSpecifier ea = cond (eqb ea 58) specifier.Word (cond (eqb ea 59) specifier.Long specifier.Nothing)
 
 abbrev pub conditionalLayout : ℕ → Layout
 conditionalLayout ea =
-    pick (eqb (ea / 8) 1) (alone specifier.Word)
-    (pick (leb 58 ea && leb ea 60) (alone (trapSpecifier ea)) (one specifier.Nothing Byte ea dataAlterable))
+    cond (eqb (ea / 8) 1) (alone specifier.Word)
+    (cond (leb 58 ea && leb ea 60) (alone (trapSpecifier ea)) (one specifier.Nothing Byte ea dataAlterable))
 
 -- the displacement's byte: $00 before a word, $FF before a long
 abbrev pub branchLayout : ℕ → Layout
-branchLayout byte = pick (eqb byte 0) (alone specifier.Word) (pick (eqb byte 255) (alone specifier.Long) bare)
+branchLayout byte = cond (eqb byte 0) (alone specifier.Word) (cond (eqb byte 255) (alone specifier.Long) bare)
 
 -- <ea>,Dn of OR, AND, SUB, CMP and ADD
 abbrev pub intoDataLayout : ℕ → Size → ℕ → Layout
-intoDataLayout line s ea = one specifier.Nothing s ea (pick (eqb line 8 || eqb line 12) dataModes (readableModes s))
+intoDataLayout line s ea = one specifier.Nothing s ea (cond (eqb line 8 || eqb line 12) dataModes (readableModes s))
 
 -- Dn,<ea> of OR, AND, SUB and ADD; below 16 stand the forms Dy,Dx and -(Ay),-(Ax) of others
 abbrev pub fromDataLayout : Specifier → Size → ℕ → Layout
-fromDataLayout k s ea = pick (ltb ea 16) (alone k) (one specifier.Nothing s ea memoryAlterable)
+fromDataLayout k s ea = cond (ltb ea 16) (alone k) (one specifier.Nothing s ea memoryAlterable)
 
 -- EXG of two data registers, two address registers, or a data and an address register
 abbrev pub isExchange : ℕ → ℕ → Bool
 isExchange opmode ea = ltb ea 16 && (eqb opmode 5 || leb 8 ea)
 
 abbrev pub exchangeLayout : ℕ → ℕ → Layout
-exchangeLayout opmode ea = pick (isExchange opmode ea) bare (one specifier.Nothing (sizeAt (opmode - 4)) ea memoryAlterable)
+exchangeLayout opmode ea = cond (isExchange opmode ea) bare (one specifier.Nothing (sizeAt (opmode - 4)) ea memoryAlterable)
 
 -- CMPM takes two (An)+ only; EOR
 abbrev pub compareLayout : ℕ → ℕ → ℕ → Layout
 compareLayout x opmode ea =
-    pick (eqb (ea / 8) 1) (two specifier.Nothing Byte (24 + ea % 8) 8 (24 + x) 8)
+    cond (eqb (ea / 8) 1) (two specifier.Nothing Byte (24 + ea % 8) 8 (24 + x) 8)
     (one specifier.Nothing (sizeAt (opmode - 4)) ea dataAlterable)
 
 abbrev pub bitFieldLayout : BitFieldOperation → ℕ → Layout
-bitFieldLayout op ea = one specifier.BitField Byte ea (pick (writes op) bitFieldWritten bitFieldRead)
+bitFieldLayout op ea = one specifier.BitField Byte ea (cond (writes op) bitFieldWritten bitFieldRead)
 
-abbrev pub layoutOf : Shape → ℕ → ℕ → ℕ → ℕ → Layout
-layoutOf shape.Unused line x opmode ea = noLayout
-layoutOf shape.ImmediateInto line x opmode ea = immediateLayout x opmode ea
-layoutOf shape.StaticBit line x opmode ea = one specifier.Byte Byte ea (staticModes opmode)
-layoutOf shape.DynamicBit line x opmode ea = dynamicLayout opmode ea
-layoutOf shape.MOVES line x opmode ea = one specifier.General (sizeAt opmode) ea memoryAlterable
-layoutOf shape.Bounds line x opmode ea = one specifier.General (sizeAt x) ea control
-layoutOf shape.CAS line x opmode ea = casLayout x ea
-layoutOf shape.MOVE line x opmode ea = moveLayout (moveSize line) x opmode ea
-layoutOf shape.OneOperand line x opmode ea = oneLayout (sizeAt opmode) x ea
-layoutOf shape.UnsizedOne line x opmode ea = unsizedOneLayout x opmode ea
-layoutOf shape.NBCD line x opmode ea = nbcdLayout ea
-layoutOf shape.PEA line x opmode ea = peaLayout ea
-layoutOf shape.MOVEM line x opmode ea = movemLayout x opmode ea
-layoutOf shape.MULL line x opmode ea = one specifier.Multiply Long ea dataModes
-layoutOf shape.DIVL line x opmode ea = one specifier.Divide Long ea dataModes
-layoutOf shape.System line x opmode ea = systemLayout ea
-layoutOf shape.LEA line x opmode ea = leaLayout x ea
-layoutOf shape.CHK line x opmode ea = one specifier.Nothing (pick (eqb opmode 4) Long Word) ea dataModes
-layoutOf shape.Quick line x opmode ea = quickLayout (sizeAt (opmode % 4)) ea
-layoutOf shape.Conditional line x opmode ea = conditionalLayout ea
-layoutOf shape.Branch line x opmode ea = branchLayout (opmode % 4 * 64 + ea)
-layoutOf shape.MOVEQ line x opmode ea = bare
-layoutOf shape.IntoData line x opmode ea = intoDataLayout line (sizeAt opmode) ea
-layoutOf shape.Arithmetic line x opmode ea = fromDataLayout specifier.Nothing (sizeAt (opmode - 4)) ea
-layoutOf shape.Decimal line x opmode ea = fromDataLayout specifier.Nothing Byte ea
-layoutOf shape.Pack line x opmode ea = fromDataLayout specifier.Word (sizeAt (opmode - 4)) ea
-layoutOf shape.Exchange line x opmode ea = exchangeLayout opmode ea
-layoutOf shape.Compare line x opmode ea = compareLayout x opmode ea
-layoutOf shape.WordIntoData line x opmode ea = one specifier.Nothing Word ea dataModes
-layoutOf shape.IntoAddress line x opmode ea = one specifier.Nothing (pick (eqb opmode 7) Long Word) ea everyMode
-layoutOf shape.ShiftRegister line x opmode ea = bare
-layoutOf shape.ShiftMemory line x opmode ea = one specifier.Nothing Word ea memoryAlterable
-layoutOf shape.BitField line x opmode ea = bitFieldLayout (bitFieldAt ((x - 4) * 2 + opmode / 4)) ea
-layoutOf shape.LineA line x opmode ea = bare
-layoutOf shape.LineF line x opmode ea = bare
+abbrev pub layoutOf : Group → ℕ → ℕ → ℕ → ℕ → Layout
+layoutOf group.Unused line x opmode ea = noLayout
+layoutOf group.ImmediateInto line x opmode ea = immediateLayout x opmode ea
+layoutOf group.StaticBit line x opmode ea = one specifier.Byte Byte ea (staticModes opmode)
+layoutOf group.DynamicBitMovep line x opmode ea = dynamicLayout opmode ea
+layoutOf group.MOVES line x opmode ea = one specifier.General (sizeAt opmode) ea memoryAlterable
+layoutOf group.Bounds line x opmode ea = one specifier.General (sizeAt x) ea control
+layoutOf group.CAS line x opmode ea = casLayout x ea
+layoutOf group.MOVE line x opmode ea = moveLayout (moveSize line) x opmode ea
+layoutOf group.OneOperand line x opmode ea = oneLayout (sizeAt opmode) x ea
+layoutOf group.UnsizedOne line x opmode ea = unsizedOneLayout x opmode ea
+layoutOf group.NbcdLink line x opmode ea = nbcdLayout ea
+layoutOf group.PeaSwapBkpt line x opmode ea = peaLayout ea
+layoutOf group.MovemExt line x opmode ea = movemLayout x opmode ea
+layoutOf group.MULL line x opmode ea = one specifier.Multiply Long ea dataModes
+layoutOf group.DIVL line x opmode ea = one specifier.Divide Long ea dataModes
+layoutOf group.System line x opmode ea = systemLayout ea
+layoutOf group.LeaExtb line x opmode ea = leaLayout x ea
+layoutOf group.CHK line x opmode ea = one specifier.Nothing (cond (eqb opmode 4) Long Word) ea dataModes
+layoutOf group.Quick line x opmode ea = quickLayout (sizeAt (opmode % 4)) ea
+layoutOf group.Conditional line x opmode ea = conditionalLayout ea
+layoutOf group.Branch line x opmode ea = branchLayout (opmode % 4 * 64 + ea)
+layoutOf group.MOVEQ line x opmode ea = bare
+layoutOf group.IntoData line x opmode ea = intoDataLayout line (sizeAt opmode) ea
+layoutOf group.ArithmeticExtended line x opmode ea = fromDataLayout specifier.Nothing (sizeAt (opmode - 4)) ea
+layoutOf group.LogicDecimal line x opmode ea = fromDataLayout specifier.Nothing Byte ea
+layoutOf group.LogicPack line x opmode ea = fromDataLayout specifier.Word (sizeAt (opmode - 4)) ea
+layoutOf group.LogicExchange line x opmode ea = exchangeLayout opmode ea
+layoutOf group.LogicCompare line x opmode ea = compareLayout x opmode ea
+layoutOf group.WordIntoData line x opmode ea = one specifier.Nothing Word ea dataModes
+layoutOf group.IntoAddress line x opmode ea = one specifier.Nothing (cond (eqb opmode 7) Long Word) ea everyMode
+layoutOf group.ShiftRegister line x opmode ea = bare
+layoutOf group.ShiftMemory line x opmode ea = one specifier.Nothing Word ea memoryAlterable
+layoutOf group.BitField line x opmode ea = bitFieldLayout (bitFieldAt ((x - 4) * 2 + opmode / 4)) ea
+layoutOf group.LineA line x opmode ea = bare
+layoutOf group.LineF line x opmode ea = bare

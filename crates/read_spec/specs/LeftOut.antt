@@ -7,10 +7,10 @@ use Rattle.isa.specs.declared.BranchSize.{BranchSize}
 use Rattle.isa.specs.declared.BranchSize.the-variants as branch
 use Rattle.isa.specs.declared.RawOperation.{RawOperation}
 use Rattle.isa.specs.declared.RawOperation.the-variants.{LINEA, LINEF, IllegalWord}
-use Rattle.isa.specs.declared.PlainOperation.{PlainOperation}
-use Rattle.isa.specs.declared.PlainOperation.the-variants.{RTE, RESET, RTR, TRAPV, ILLEGAL, RTS, NOP, SIMHALT}
+use Rattle.isa.specs.declared.NoOperandOperation.{NoOperandOperation}
+use Rattle.isa.specs.declared.NoOperandOperation.the-variants.{RTE, RESET, RTR, TRAPV, ILLEGAL, RTS, NOP, SIMHALT}
 use Rattle.isa.specs.declared.Instruction.{Instruction}
-use Rattle.isa.specs.declared.Instruction.the-variants.{IntoRegister, MOVEM, Transfer, Pair, Quick, MOVEQ, ImmediateInto, WordIntoData, SWAP, EXG, UnsizedIntoRegister, UnsizedOne, UnsizedPair, EXT, OneOperand, Bcc, Scc, DBcc, Branch, Link, UNLK, Shift, Vector, Status, ConditionCode, MOVEUSP, Raw, Plain, RTD, MOVEC, TRAPcc, MULL, Pack, CAS, CAS2, BF, DIVL}
+use Rattle.isa.specs.declared.Instruction.the-variants.{IntoRegister, MOVEM, Transfer, Pair, Quick, MOVEQ, ImmediateInto, WordIntoData, SWAP, EXG, UnsizedIntoRegister, UnsizedOne, UnsizedPair, EXT, OneOperand, Bcc, Scc, DBcc, Branch, Link, UNLK, Shift, Vector, Status, ConditionCode, MOVEUSP, Raw, NoOperand, RTD, MOVEC, TRAPcc, MULL, Pack, CAS, CAS2, BF, DIVL}
 use Rattle.encode_spec.specs.Item.{placed}
 use Rattle.encode_spec.specs.Ea.{distance}
 
@@ -28,7 +28,7 @@ rawLeftOut LINEA = false
 rawLeftOut LINEF = false
 rawLeftOut IllegalWord = true
 
-abbrev pub haltLeftOut : PlainOperation → Bool
+abbrev pub haltLeftOut : NoOperandOperation → Bool
 haltLeftOut RTE = false
 haltLeftOut RESET = false
 haltLeftOut RTR = false
@@ -67,7 +67,7 @@ leftOut (Status op v) a = false
 leftOut (ConditionCode op v) a = false
 leftOut (MOVEUSP to r) a = false
 leftOut (Raw op w) a = rawLeftOut op
-leftOut (Plain op) a = haltLeftOut op
+leftOut (NoOperand op) a = haltLeftOut op
 leftOut (RTD d) a = false
 leftOut (MOVEC to control r) a = false
 leftOut (TRAPcc condition x) a = false

@@ -8,6 +8,6 @@ pub mod LeftOut
 pub mod Map
 pub mod Operation
 pub mod Layouts
-pub mod Formed
+pub mod Decoded
 pub mod Read
 pub mod Depth

@@ -1,12 +1,13 @@
 -- Signed numbers in words, and the address that a displacement reaches.
+use mathlib.Core.Bool.{cond}
 use Prim.Native.Nat.{ℕ, _+_, _-_, _%_, _^_}
 use lib.Dec.{ltb}
 use lib.IntN.{ℤ, pos, negsuc}
-use Rattle.base_signed.specs.Signed.{pickℤ, bitsOf}
+use Rattle.base_signed.specs.Signed.{bitsOf}
 
 -- x below twice h, read as signed
 abbrev pub signed : ℕ → ℕ → ℤ
-signed h x = pickℤ (ltb x h) (pos x) (negsuc (h + h - 1 - x))
+signed h x = cond (ltb x h) (pos x) (negsuc (h + h - 1 - x))
 
 abbrev pub signed8 : ℕ → ℤ
 signed8 = signed (2 ^ 7)

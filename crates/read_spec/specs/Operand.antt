@@ -1,6 +1,6 @@
 -- The effective address, read (the manual, section 2.2, "Effective Addressing Modes"; table 2-4 and figure 2-2).
 use Prim.Native.Nat.{ℕ, _+_, _*_, _-_, _/_, _%_, _^_}
-use mathlib.Core.Bool.{Bool, _&&_}
+use mathlib.Core.Bool.{Bool, _&&_, cond}
 use mathlib.Core.List.{[], _∷_}
 use lib.Dec.{ltb, eqb}
 use lib.IntN.{ℤ, pos}
@@ -15,26 +15,26 @@ use Rattle.isa.specs.declared.RegisterOperand.the-variants.{Address, Data}
 use Rattle.isa.specs.declared.IndexRegister.{IndexRegister}
 use Rattle.isa.specs.declared.Operand.{Operand}
 use Rattle.isa.specs.declared.Operand.the-variants.{Immediate, Register, Indirect, PostIndirect, PreIndirect, IndirectDisplacement, IndirectIndex, PcDisplacement, PcIndex, Extended, Absolute}
-use Rattle.base_signed.specs.Signed.{signed32, bitsOf, pickℤ}
-use Rattle.isa.specs.ExtensionWord.{pick, isFull, baseSize, outerSize, isCanonical}
+use Rattle.base_signed.specs.Signed.{signed32, bitsOf}
+use Rattle.isa.specs.ExtensionWord.{isFull, baseSize, outerSize, isCanonical}
 use Rattle.encode_spec.specs.Ea.{fromPc}
 use Rattle.read_spec.specs.Number.{signed8, signed16, reach}
 use Rattle.read_spec.specs.Tree.{Tree, ret, fail, more, bind, guard}
 
 -- which mode six bits name, 0 to 11; 12 to 14 are none
 abbrev pub modeAt : ℕ → ℕ
-modeAt ea = pick (ltb ea 56) (ea / 8) (ea - 49)
+modeAt ea = cond (ltb ea 56) (ea / 8) (ea - 49)
 
 abbrev pub permitted : ℕ → ℕ → Bool
 permitted modes ea = ltb (modeAt ea) 12 && eqb (modes / 2 ^ modeAt ea % 2) 1
 
 -- D/A and a register number, in four bits
 abbrev pub generalOf : ℕ → RegisterOperand
-generalOf k = pick (ltb k 8) (Data k) (Address (k - 8))
+generalOf k = cond (ltb k 8) (Data k) (Address (k - 8))
 
 -- the index register of an extension word, and its width
 abbrev pub indexOf : ℕ → IndexRegister
-indexOf w = record { register = generalOf (w / 4096); size = pick (eqb (w / 2048 % 2) 1) Long Word }
+indexOf w = record { register = generalOf (w / 4096); size = cond (eqb (w / 2048 % 2) 1) Long Word }
 
 -- a displacement of a full word
 abbrev pub displacementTree : DisplacementSize → Tree ℤ
@@ -44,7 +44,7 @@ displacementTree displacement.Long = more (λ at h. more (λ next l. ret (signed
 
 -- what an Extended operand holds: from an unsuppressed program counter, the target
 abbrev pub landed : Bool → ℕ → ℤ → ℤ
-landed pc at z = pickℤ pc (signed32 (reach at z)) z
+landed pc at z = cond pc (signed32 (reach at z)) z
 
 -- the full format, without a reserved combination
 abbrev pub fullTree : ℕ → ℕ → ℕ → Tree Operand
@@ -54,17 +54,17 @@ fullTree base at w =
 
 -- the brief format: of scale 1 the MC68000's index, else an Extended operand without the low bits
 abbrev pub indexOperand : ℕ → ℕ → ℕ → ℤ → Operand
-indexOperand base at w z = pick (eqb base 8) (PcIndex (reach at z) (indexOf w)) (IndirectIndex (Address base) z (indexOf w))
+indexOperand base at w z = cond (eqb base 8) (PcIndex (reach at z) (indexOf w)) (IndirectIndex (Address base) z (indexOf w))
 
 abbrev pub scaledOperand : ℕ → ℕ → ℕ → ℤ → Operand
 scaledOperand base at w z = Extended base (w / 512 * 512) (landed (eqb base 8) at z) (pos 0)
 
 abbrev pub briefOperand : ℕ → ℕ → ℕ → Operand
-briefOperand base at w = pick (eqb (w / 512 % 4) 0) (indexOperand base at w (signed8 (w % 256))) (scaledOperand base at w (signed8 (w % 256)))
+briefOperand base at w = cond (eqb (w / 512 % 4) 0) (indexOperand base at w (signed8 (w % 256))) (scaledOperand base at w (signed8 (w % 256)))
 
 -- an extension word; base is an IndexBase
 abbrev pub indexedTree : ℕ → Tree Operand
-indexedTree base = more (λ at w. pick (isFull w) (fullTree base at w) (ret (briefOperand base at w)))
+indexedTree base = more (λ at w. cond (isFull w) (fullTree base at w) (ret (briefOperand base at w)))
 
 -- #<data>: the high byte of a byte's word is 0
 abbrev pub immediateTree : Size → Tree ℕ

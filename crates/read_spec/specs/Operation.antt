@@ -1,6 +1,6 @@
 -- What the fields of an operation word name (the manual, section 4, each instruction's format).
 use Prim.Native.Nat.{ℕ, _-_, _/_, _%_}
-use mathlib.Core.Bool.{Bool, _&&_, _||_}
+use mathlib.Core.Bool.{Bool, _&&_, _||_, cond}
 use mathlib.Core.List.{[], _∷_}
 use lib.Dec.{eqb, ltb}
 use lib.ListN.{getD}
@@ -39,7 +39,6 @@ use Rattle.isa.specs.declared.OneOperation.{OneOperation}
 use Rattle.isa.specs.declared.OneOperation.the-variants.{CLR, NEG, NEGX, NOT, TST}
 use Rattle.isa.specs.declared.ShiftOperation.{ShiftOperation}
 use Rattle.isa.specs.declared.ShiftOperation.the-variants.{ASd, ROd, LSd, ROXd}
-use Rattle.isa.specs.ExtensionWord.{pick}
 
 -- the size field: 00 byte, 01 word, 10 long
 abbrev pub sizeAt : ℕ → Size
@@ -50,7 +49,7 @@ abbrev pub moveSize : ℕ → Size
 moveSize line = getD (Byte ∷ Byte ∷ Long ∷ Word ∷ []) line Byte
 
 abbrev pub signAt : ℕ → Sign
-signAt k = pick (eqb k 1) Signed Unsigned
+signAt k = cond (eqb k 1) Signed Unsigned
 
 -- bits 11 to 9 of ORI, ANDI, SUBI, ADDI, EORI and CMPI
 abbrev pub immediateAt : ℕ → ImmediateOperation
@@ -70,48 +69,48 @@ abbrev pub bitAt : ℕ → UnsizedPairOperation
 bitAt k = getD (BTST ∷ BCHG ∷ BCLR ∷ BSET ∷ []) k BTST
 
 abbrev pub toMemoryAt : ℕ → TargetDirection
-toMemoryAt k = pick (eqb k 1) ToMemory FromMemory
+toMemoryAt k = cond (eqb k 1) ToMemory FromMemory
 
 abbrev pub oneAt : ℕ → OneOperation
 oneAt x = getD (NEGX ∷ CLR ∷ NEG ∷ NOT ∷ []) x TST
 
 abbrev pub unsizedAt : ℕ → ℕ → UnsizedOneOperation
-unsizedAt x opmode = pick (eqb opmode 2) JSR (getD (MOVEfromSR ∷ MOVEfromCCR ∷ MOVEtoCCR ∷ MOVEtoSR ∷ JMP ∷ TAS ∷ []) x JMP)
+unsizedAt x opmode = cond (eqb opmode 2) JSR (getD (MOVEfromSR ∷ MOVEfromCCR ∷ MOVEtoCCR ∷ MOVEtoSR ∷ JMP ∷ TAS ∷ []) x JMP)
 
 -- a count of 1 to 8, 8 coded 0
 abbrev pub countAt : ℕ → ℕ
-countAt x = pick (eqb x 0) 8 x
+countAt x = cond (eqb x 0) 8 x
 
 abbrev pub pairAt : ℕ → PairOperation
 pairAt line = getD (OR ∷ SUB ∷ OR ∷ OR ∷ AND ∷ ADD ∷ []) (line - 8) OR
 
 abbrev pub extendAt : ℕ → PairOperation
-extendAt line = pick (eqb line 9) SUBX ADDX
+extendAt line = cond (eqb line 9) SUBX ADDX
 
 abbrev pub addressAt : ℕ → RegisterOperation
 addressAt line = getD (ADDA ∷ SUBA ∷ ADDA ∷ CMPA ∷ ADDA ∷ ADDA ∷ []) (line - 8) ADDA
 
 -- Dy or -(Ay), which bit 3 says
 abbrev pub eitherAt : ℕ → ℕ → Operand
-eitherAt ea k = pick (ltb ea 8) (Register (Data k)) (PreIndirect k)
+eitherAt ea k = cond (ltb ea 8) (Register (Data k)) (PreIndirect k)
 
 abbrev pub shiftAt : ℕ → ShiftOperation
 shiftAt k = getD (ASd ∷ LSd ∷ ROXd ∷ ROd ∷ []) k ASd
 
 abbrev pub directionAt : ℕ → ShiftDirection
-directionAt k = pick (eqb k 1) Left Right
+directionAt k = cond (eqb k 1) Left Right
 
 -- the count of a shift in bits 11 to 9: a register where i/r says so
 abbrev pub shiftCount : ℕ → ℕ → Operand
-shiftCount ea x = pick (eqb (ea / 32) 1) (Register (Data x)) (Immediate (countAt x))
+shiftCount ea x = cond (eqb (ea / 32) 1) (Register (Data x)) (Immediate (countAt x))
 
 -- bits 10 to 8 of a bit-field instruction
 abbrev pub bitFieldAt : ℕ → BitFieldOperation
 bitFieldAt k = getD (Test ∷ ExtractUnsigned ∷ Change ∷ ExtractSigned ∷ Clear ∷ FindFirstOne ∷ Set ∷ Insert ∷ []) k Test
 
 abbrev pub valueAt : ℕ → FieldValue
-valueAt n = pick (eqb (n / 32) 1) (value.Register (n % 8)) (value.Immediate (n % 32))
+valueAt n = cond (eqb (n / 32) 1) (value.Register (n % 8)) (value.Immediate (n % 32))
 
 -- the operand of TRAPcc: 010 a word, 011 a long, 100 none
 abbrev pub trapAt : ℕ → ℕ → TrapOperand
-trapAt ea v = pick (eqb ea 58) (trap.Word (v % 65536)) (pick (eqb ea 59) (trap.Long v) trap.None)
+trapAt ea v = cond (eqb ea 58) (trap.Word (v % 65536)) (cond (eqb ea 59) (trap.Long v) trap.None)

@@ -1,4 +1,5 @@
 -- The plain form (01, "The reading").
+use mathlib.Core.Bool.{cond}
 use Prim.Native.Nat.{ℕ, _*_, _/_, _%_, _^_}
 use lib.Dec.{eqb}
 use lib.IntN.{ℤ, pos}
@@ -6,19 +7,19 @@ use Rattle.isa.specs.declared.RegisterOperand.the-variants.{Address}
 use Rattle.isa.specs.declared.Operand.{Operand}
 use Rattle.isa.specs.declared.Operand.the-variants.{Immediate, Register, Indirect, PostIndirect, PreIndirect, IndirectDisplacement, IndirectIndex, PcDisplacement, PcIndex, Extended, Absolute}
 use Rattle.isa.specs.declared.Instruction.{Instruction}
-use Rattle.isa.specs.declared.Instruction.the-variants.{IntoRegister, MOVEM, Transfer, Pair, Quick, MOVEQ, ImmediateInto, WordIntoData, SWAP, EXG, UnsizedIntoRegister, UnsizedOne, UnsizedPair, EXT, OneOperand, Bcc, Scc, DBcc, Branch, Link, UNLK, Shift, Vector, Status, ConditionCode, MOVEUSP, Raw, Plain, RTD, MOVEC, TRAPcc, MULL, Pack, CAS, CAS2, BF, DIVL}
+use Rattle.isa.specs.declared.Instruction.the-variants.{IntoRegister, MOVEM, Transfer, Pair, Quick, MOVEQ, ImmediateInto, WordIntoData, SWAP, EXG, UnsizedIntoRegister, UnsizedOne, UnsizedPair, EXT, OneOperand, Bcc, Scc, DBcc, Branch, Link, UNLK, Shift, Vector, Status, ConditionCode, MOVEUSP, Raw, NoOperand, RTD, MOVEC, TRAPcc, MULL, Pack, CAS, CAS2, BF, DIVL}
 use Rattle.base_signed.specs.Signed.{bitsOf}
-use Rattle.isa.specs.ExtensionWord.{pick, isFull}
-use Rattle.read_spec.specs.declared.Fields.{Fields}
+use Rattle.isa.specs.ExtensionWord.{isFull}
+use Rattle.read_spec.specs.declared.Tail.{Tail}
 use Rattle.read_spec.specs.Operand.{indexOf}
 
 -- a brief Extended operand: of scale 1 an index, its displacement the offset or, read as unsigned, the target; another
 -- keeps bits 15 to 9 of its word and has outer 0
 abbrev pub plainIndex : ℕ → ℕ → ℤ → Operand
-plainIndex base w z = pick (eqb base 8) (PcIndex (bitsOf z % 2 ^ 32) (indexOf w)) (IndirectIndex (Address base) z (indexOf w))
+plainIndex base w z = cond (eqb base 8) (PcIndex (bitsOf z % 2 ^ 32) (indexOf w)) (IndirectIndex (Address base) z (indexOf w))
 
 abbrev pub plainBrief : ℕ → ℕ → ℤ → Operand
-plainBrief base w z = pick (eqb (w / 512 % 4) 0) (plainIndex base w z) (Extended base (w / 512 * 512) z (pos 0))
+plainBrief base w z = cond (eqb (w / 512 % 4) 0) (plainIndex base w z) (Extended base (w / 512 * 512) z (pos 0))
 
 abbrev pub plainOperand : Operand → Operand
 plainOperand (Immediate v) = Immediate v
@@ -30,11 +31,11 @@ plainOperand (IndirectDisplacement z base) = IndirectDisplacement z base
 plainOperand (IndirectIndex base z x) = IndirectIndex base z x
 plainOperand (PcDisplacement t) = PcDisplacement t
 plainOperand (PcIndex t x) = PcIndex t x
-plainOperand (Extended base w z outer) = pick (isFull w) (Extended base w z outer) (plainBrief base w z)
+plainOperand (Extended base w z outer) = cond (isFull w) (Extended base w z outer) (plainBrief base w z)
 plainOperand (Absolute a width) = Absolute a width
 
-abbrev pub plainFields : Fields → Fields
-plainFields f = record { value = f .value; source = plainOperand (f .source); destination = plainOperand (f .destination) }
+abbrev pub plainTail : Tail → Tail
+plainTail f = record { value = f .value; source = plainOperand (f .source); destination = plainOperand (f .destination) }
 
 -- all operands so, and MOVEC's control number modulo 4,096
 abbrev pub plain : Instruction → Instruction
@@ -65,7 +66,7 @@ plain (Status op v) = Status op v
 plain (ConditionCode op v) = ConditionCode op v
 plain (MOVEUSP to r) = MOVEUSP to r
 plain (Raw op w) = Raw op w
-plain (Plain op) = Plain op
+plain (NoOperand op) = NoOperand op
 plain (RTD d) = RTD d
 plain (MOVEC to control r) = MOVEC to (control % 4096) r
 plain (TRAPcc condition x) = TRAPcc condition x

@@ -2,22 +2,22 @@
 use Prim.Native.Nat.{ℕ, _*_, _/_, _%_}
 use mathlib.Core.List.{List}
 use Rattle.isa.specs.declared.Instruction.{Instruction}
-use Rattle.read_spec.specs.declared.Shape.{Shape}
+use Rattle.read_spec.specs.declared.Group.{Group}
 use Rattle.read_spec.specs.declared.Reading.{Reading}
 use Rattle.read_spec.specs.declared.Reading.the-variants.{Read, Short, Nothing}
 use Rattle.read_spec.specs.Tree.{Tree, more, bind, run, Out, got, short, none}
-use Rattle.read_spec.specs.Layout.{fieldsTree}
-use Rattle.read_spec.specs.Map.{shapeAt}
+use Rattle.read_spec.specs.Layout.{tailTree}
+use Rattle.read_spec.specs.Map.{groupAt}
 use Rattle.read_spec.specs.Layouts.{layoutOf}
-use Rattle.read_spec.specs.Formed.{formed}
+use Rattle.read_spec.specs.Decoded.{decoded}
 
 -- what follows an operation word of a group, in its fields
-abbrev pub shapeTree : ℕ → Shape → ℕ → ℕ → ℕ → ℕ → Tree Instruction
-shapeTree a s line x opmode ea =
-    bind (fieldsTree (layoutOf s line x opmode ea)) (λ f. formed a s line x opmode ea (f .value) (f .source) (f .destination))
+abbrev pub groupTree : ℕ → Group → ℕ → ℕ → ℕ → ℕ → Tree Instruction
+groupTree a s line x opmode ea =
+    bind (tailTree (layoutOf s line x opmode ea)) (λ f. decoded a s line x opmode ea (f .value) (f .source) (f .destination))
 
 abbrev pub wordTree : ℕ → ℕ → ℕ → ℕ → ℕ → Tree Instruction
-wordTree a line x opmode ea = shapeTree a (shapeAt line x opmode) line x opmode ea
+wordTree a line x opmode ea = groupTree a (groupAt line x opmode) line x opmode ea
 
 -- an instruction at a
 abbrev pub reader : ℕ → Tree Instruction

@@ -1,11 +1,10 @@
 -- A reading as a tree: it ends with what is read, or with nothing, or looks at one word more.
 use Prim.Native.Nat.{ℕ, _+_}
-use mathlib.Core.Bool.{Bool}
+use mathlib.Core.Bool.{Bool, cond}
 use mathlib.Core.List.{List, [], _∷_}
 use lib.Dec.{ltb}
 use lib.ListN.{getD, length}
 use Rattle.encode_spec.specs.Item.{placed}
-use Rattle.isa.specs.ExtensionWord.{pick}
 
 -- the next word is seen with its address
 pub data Tree (A : Type 0) : Type 0 where
@@ -28,7 +27,7 @@ module _ {A : Type 0} where
   run (more k) a n (w ∷ ws) = run (k (placed a n) w) a (n + 1) ws
 
   abbrev pub guard : Bool → Tree A → Tree A
-  guard b t = pick b t fail
+  guard b t = cond b t fail
 
 module _ {A B : Type 0} where
   abbrev pub bind : Tree A → (A → Tree B) → Tree B
@@ -46,4 +45,4 @@ module _ {A : Type 0} where
   abbrev pub runAt : Tree A → ℕ → List ℕ → ℕ → At A
   runAt (ret x) a ws n = found x n
   runAt fail a ws n = refused
-  runAt (more k) a ws n = pick (ltb n (length ws)) (runAt (k (placed a n) (getD ws n 0)) a ws (n + 1)) ended
+  runAt (more k) a ws n = cond (ltb n (length ws)) (runAt (k (placed a n) (getD ws n 0)) a ws (n + 1)) ended

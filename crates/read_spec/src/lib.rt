@@ -30,42 +30,42 @@ pub struct Layout {
 }
 
 // What is read after the operation word.
-pub struct Fields {
+pub struct Tail {
     pub value: u32,
     pub source: Operand,
     pub destination: Operand,
 }
 
 // The groups of operation words that the upper ten bits tell apart.
-pub enum Shape {
+pub enum Group {
     Unused,
     ImmediateInto,
     StaticBit,
-    DynamicBit,
+    DynamicBitMovep,
     MOVES,
     Bounds,
     CAS,
     MOVE,
     OneOperand,
     UnsizedOne,
-    NBCD,
-    PEA,
-    MOVEM,
+    NbcdLink,
+    PeaSwapBkpt,
+    MovemExt,
     MULL,
     DIVL,
     System,
-    LEA,
+    LeaExtb,
     CHK,
     Quick,
     Conditional,
     Branch,
     MOVEQ,
     IntoData,
-    Arithmetic,
-    Decimal,
-    Pack,
-    Exchange,
-    Compare,
+    ArithmeticExtended,
+    LogicDecimal,
+    LogicPack,
+    LogicExchange,
+    LogicCompare,
     WordIntoData,
     IntoAddress,
     ShiftRegister,

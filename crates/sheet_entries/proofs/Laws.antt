@@ -19,7 +19,7 @@ use Rattle.sheet_spec.proofs.Entries as entries
 use Rattle.sheet_spec.specs.Made.{addressIn}
 use Rattle.sheet_spec.specs.Entries.{noEntries}
 use Rattle.sheet_entries.specs.With.{placedEntry}
-use Rattle.sheet_entries.specs.Made.{namesOne, namesEach, numberIn, numbersIn, numbersWith, madeWith}
+use Rattle.sheet_entries.specs.Made.{namesOne, namesEach, resolvedNumber, resolvedNumbers, numbersWith, madeWith}
 
 pub named-places : (e : Entries) (vs : List Val) → Is (row entries.the-type) e vs → length (e .named) ≡ 24
 named-places e vs h = sym (length-map (e .named) (λ b. b)) ∙ h .1 .1 .1 .1 .0 .1 .0 .1
@@ -89,14 +89,14 @@ turned-end : (d z : List ℕ) (i : ℕ) → length d ≤ i → length z ≤ i �
 turned-end d z i h g = rw (drop-of-length-le d {i = i} h, take-all i z g) (append-nil z)
 
 module _ (addresses : List ℕ) where
-  numbers-length : (ts : List Bool) (ks : List ℕ) → length ts ≡ length ks → length (numbersIn addresses ts ks) ≡ length ks
+  numbers-length : (ts : List Bool) (ks : List ℕ) → length ts ≡ length ks → length (resolvedNumbers addresses ts ks) ≡ length ks
   numbers-length [] [] e = refl
   numbers-length [] (k ∷ ks) e = absurd (omega arith)
   numbers-length (t ∷ ts) [] e = refl
   numbers-length (t ∷ ts) (k ∷ ks) e = ap suc (numbers-length ts ks (omega arith))
 
   number-at : (ts : List Bool) (ks : List ℕ) (i : ℕ) → i < length ts → i < length ks
-      → getD (numbersIn addresses ts ks) i 0 ≡ numberIn addresses (getD ts i false) (getD ks i 0)
+      → getD (resolvedNumbers addresses ts ks) i 0 ≡ resolvedNumber addresses (getD ts i false) (getD ks i 0)
   number-at [] ks i h g = absurd (omega arith)
   number-at (t ∷ ts) [] i h g = absurd (omega arith)
   number-at (t ∷ ts) (k ∷ ks) zero h g = refl
@@ -104,20 +104,20 @@ module _ (addresses : List ℕ) where
 
   -- the numbers of the first i places, then 0
   abbrev pub numbersTo : Entries → ℕ → List ℕ
-  numbersTo e i = take i (numbersIn addresses (e .named) (e .magnitude)) ++ drop i (replicate 24 0)
+  numbersTo e i = take i (resolvedNumbers addresses (e .named) (e .magnitude)) ++ drop i (replicate 24 0)
 
   module _ (e : Entries) (vs : List Val) (good : Is (row entries.the-type) e vs) (i : ℕ) where
-    all-places : length (numbersIn addresses (e .named) (e .magnitude)) ≡ 24
+    all-places : length (resolvedNumbers addresses (e .named) (e .magnitude)) ≡ 24
     all-places = numbers-length (e .named) (e .magnitude) (named-places e vs good ∙ sym (magnitude-places e vs good)) ∙ magnitude-places e vs good
 
-    pub numbers-next : i < 24 → set (numbersTo e i) i (numberIn addresses (getD (e .named) i false) (getD (e .magnitude) i 0)) ≡ numbersTo e (i + 1)
+    pub numbers-next : i < 24 → set (numbersTo e i) i (resolvedNumber addresses (getD (e .named) i false) (getD (e .magnitude) i 0)) ≡ numbersTo e (i + 1)
     numbers-next h =
         ap (set (numbersTo e i) i)
         (sym (number-at (e .named) (e .magnitude) i (omega (arith, named-places e vs good)) (omega (arith, magnitude-places e vs good))))
-        ∙ turned-next (replicate 24 0) (numbersIn addresses (e .named) (e .magnitude)) i h (omega (arith, all-places))
+        ∙ turned-next (replicate 24 0) (resolvedNumbers addresses (e .named) (e .magnitude)) i h (omega (arith, all-places))
 
-    pub numbers-end : 24 ≤ i → numbersTo e i ≡ numbersIn addresses (e .named) (e .magnitude)
-    numbers-end h = turned-end (replicate 24 0) (numbersIn addresses (e .named) (e .magnitude)) i h (omega (arith, all-places))
+    pub numbers-end : 24 ≤ i → numbersTo e i ≡ resolvedNumbers addresses (e .named) (e .magnitude)
+    numbers-end h = turned-end (replicate 24 0) (resolvedNumbers addresses (e .named) (e .magnitude)) i h (omega (arith, all-places))
 
   pub address-line : (k : ℕ) → (k ≡ 0 → ⊥) → addressIn addresses k ≡ getD addresses (k - 1) 0
   address-line zero h = absurd (h refl)

@@ -23,16 +23,16 @@ unfoldable pub namesLines : Entries → ℕ → Bool
 namesLines e n = namesEach n (e .named) (e .magnitude)
 
 -- where it is named, the address of line k
-abbrev pub numberIn : List ℕ → Bool → ℕ → ℕ
-numberIn addresses t k = cond t (addressIn addresses k) k
+abbrev pub resolvedNumber : List ℕ → Bool → ℕ → ℕ
+resolvedNumber addresses t k = cond t (addressIn addresses k) k
 
-abbrev pub numbersIn : List ℕ → List Bool → List ℕ → List ℕ
-numbersIn addresses [] ks = []
-numbersIn addresses (t ∷ ts) [] = []
-numbersIn addresses (t ∷ ts) (k ∷ ks) = numberIn addresses t k ∷ numbersIn addresses ts ks
+abbrev pub resolvedNumbers : List ℕ → List Bool → List ℕ → List ℕ
+resolvedNumbers addresses [] ks = []
+resolvedNumbers addresses (t ∷ ts) [] = []
+resolvedNumbers addresses (t ∷ ts) (k ∷ ks) = resolvedNumber addresses t k ∷ resolvedNumbers addresses ts ks
 
 unfoldable pub numbersWith : Entries → List ℕ → Numbers
-numbersWith e addresses = record { count = e .count; negative = e .negative; magnitude = numbersIn addresses (e .named) (e .magnitude) }
+numbersWith e addresses = record { count = e .count; negative = e .negative; magnitude = resolvedNumbers addresses (e .named) (e .magnitude) }
 
 unfoldable pub madeWith : Entries → List ℕ → Built
 madeWith e addresses = cond (e .ok) (buildOf (numbersWith e addresses) 0) built.NotInForm

@@ -13,12 +13,12 @@ use Rattle.numeric_fields.specs.Form.{isNegative, pad}
 use Rattle.numeric_build.specs.Build.{buildOf}
 use Rattle.sheet_spec.specs.declared.Kind.{Kind}
 use Rattle.sheet_spec.specs.declared.Kind.the-variants as kind
-use Rattle.sheet_spec.specs.Line.{Said, plainly, naming, nothing, Parsed, says, no, lineOf}
+use Rattle.sheet_spec.specs.Line.{Token, literal, label, invalid, Parsed, says, no, lineOf}
 use Rattle.sheet_spec.specs.Spell.{numberAs, Suits, nextKinds, Fits}
 use Rattle.sheet_spec.specs.Made.{numbersAs, madeAs, madeOf, names, namesAll, namesIn, addressIn}
 use Rattle.sheet_spec.specs.Entries.{capped, isLine, negativeIn, magnitudeIn, noEntries, entriesFrom, entriesOf}
 use Rattle.sheet_form_laws.specs.LineForm.{spelled-line}
-use Rattle.sheet_entries.specs.Made.{namesOne, namesEach, namesLines, numberIn, numbersIn, numbersWith, madeWith}
+use Rattle.sheet_entries.specs.Made.{namesOne, namesEach, namesLines, resolvedNumber, resolvedNumbers, numbersWith, madeWith}
 
 -- by whether a number is above 4,096
 capped-cases : (P : ℕ → Type 0) (k : ℕ) → P k → (4096 < k → P 4097) → P (capped k)
@@ -35,18 +35,18 @@ module _ (n : ℕ) (few : n ≤ 4096) where
       capped-cases (λ x. leb 1 x && leb x n ≡ leb 1 k && leb k n) k refl
       (λ h. rw (lt-leb 4097 n (omega arith), le-leb 1 k (omega arith), lt-leb k n (omega arith)))
 
-  names-said : (v : Said) → namesOne n (isLine v) (magnitudeIn v) ≡ names n v
-  names-said (plainly s k) = refl
-  names-said (naming k) = names-capped k
-  names-said nothing = refl
+  names-said : (v : Token) → namesOne n (isLine v) (magnitudeIn v) ≡ names n v
+  names-said (literal s k) = refl
+  names-said (label k) = names-capped k
+  names-said invalid = refl
 
-  names-pad : (m : ℕ) (vs : List Said) → length vs ≤ m → namesEach n (pad m false (map isLine vs)) (pad m 0 (map magnitudeIn vs)) ≡ namesAll n vs
+  names-pad : (m : ℕ) (vs : List Token) → length vs ≤ m → namesEach n (pad m false (map isLine vs)) (pad m 0 (map magnitudeIn vs)) ≡ namesAll n vs
   names-pad zero [] h = refl
   names-pad zero (v ∷ vs) h = absurd (omega arith)
   names-pad (suc m) [] h = names-pad m [] (omega arith)
   names-pad (suc m) (v ∷ vs) h = λ i. names-said v i && names-pad m vs (omega arith) i
 
-  pub names-lines : (vs : List Said) → length vs ≤ 24 → namesLines (entriesFrom vs) n ≡ namesAll n vs
+  pub names-lines : (vs : List Token) → length vs ≤ 24 → namesLines (entriesFrom vs) n ≡ namesAll n vs
   unfolding namesLines entriesFrom
   names-lines vs h = names-pad 24 vs h
 
@@ -54,22 +54,22 @@ module _ (n : ℕ) (few : n ≤ 4096) where
   unfolding namesLines noEntries
   names-none = refl
 
-  pub names-in : (p : Parsed) → ((vs : List Said) → p ≡ says vs → length vs ≤ 24) → namesLines (entriesOf p) n ≡ namesIn n p
+  pub names-in : (p : Parsed) → ((vs : List Token) → p ≡ says vs → length vs ≤ 24) → namesLines (entriesOf p) n ≡ namesIn n p
   names-in (says vs) h = names-lines vs (h vs refl)
   names-in no h = names-none
 
 -- no entry is -0
-abbrev pub Signed : Said → Type 0
-Signed (plainly true n) = 0 < n
-Signed (plainly false n) = Unit {0}
-Signed (naming n) = Unit {0}
-Signed nothing = Unit {0}
+abbrev pub Signed : Token → Type 0
+Signed (literal true n) = 0 < n
+Signed (literal false n) = Unit {0}
+Signed (label n) = Unit {0}
+Signed invalid = Unit {0}
 
-abbrev pub AllSigned : List Said → Type 0
+abbrev pub AllSigned : List Token → Type 0
 AllSigned [] = Unit {0}
 AllSigned (v ∷ vs) = Signed v × AllSigned vs
 
-negative-suits : (k : Kind) (n : ℕ) → Suits k (plainly true n) → 0 < n
+negative-suits : (k : Kind) (n : ℕ) → Suits k (literal true n) → 0 < n
 negative-suits kind.Number n h = h .0
 negative-suits kind.Target n h = absurd h
 negative-suits kind.Place n h = h .0
@@ -88,19 +88,19 @@ negative-suits kind.RegisterChoice n h = absurd h
 negative-suits kind.Operand n h = absurd h
 negative-suits kind.Instruction n h = absurd h
 
-suits-signed : (k : Kind) (v : Said) → Suits k v → Signed v
-suits-signed k (plainly true n) h = negative-suits k n h
-suits-signed k (plainly false n) h = tt
-suits-signed k (naming n) h = tt
-suits-signed k nothing h = tt
+suits-signed : (k : Kind) (v : Token) → Suits k v → Signed v
+suits-signed k (literal true n) h = negative-suits k n h
+suits-signed k (literal false n) h = tt
+suits-signed k (label n) h = tt
+suits-signed k invalid h = tt
 
-fits-signed : (ks : List Kind) (vs : List Said) → Fits ks vs → AllSigned vs
+fits-signed : (ks : List Kind) (vs : List Token) → Fits ks vs → AllSigned vs
 fits-signed [] [] h = tt
 fits-signed [] (v ∷ vs) h = absurd h
 fits-signed (k ∷ ks) [] h = absurd h
 fits-signed (k ∷ ks) (v ∷ vs) h = (suits-signed k v (h .0), fits-signed (nextKinds k v ++ ks) vs (h .1))
 
-pub line-signed : (line : List ℕ) (vs : List Said) → lineOf line ≡ says vs → AllSigned vs
+pub line-signed : (line : List ℕ) (vs : List Token) → lineOf line ≡ says vs → AllSigned vs
 line-signed line vs e = fits-signed (kind.Instruction ∷ []) vs (spelled-line line vs e .0)
 
 -- a number above 4,096 has no address
@@ -113,39 +113,39 @@ module _ (addresses : List ℕ) (few : length addresses ≤ 4096) where
       capped-cases (λ x. addressIn addresses x ≡ addressIn addresses k) k refl
       (λ h. address-beyond 4097 (omega arith) ∙ sym (address-beyond k h))
 
-  number-said : (v : Said) → numberIn addresses (isLine v) (magnitudeIn v) ≡ natAbs (numberAs (addressIn addresses) v)
-  number-said (plainly true zero) = refl
-  number-said (plainly true (suc n)) = refl
-  number-said (plainly false n) = refl
-  number-said (naming k) = address-capped k
-  number-said nothing = refl
+  number-said : (v : Token) → resolvedNumber addresses (isLine v) (magnitudeIn v) ≡ natAbs (numberAs (addressIn addresses) v)
+  number-said (literal true zero) = refl
+  number-said (literal true (suc n)) = refl
+  number-said (literal false n) = refl
+  number-said (label k) = address-capped k
+  number-said invalid = refl
 
-  sign-said : (v : Said) → Signed v → negativeIn v ≡ isNegative (numberAs (addressIn addresses) v)
-  sign-said (plainly true zero) h = absurd (omega arith)
-  sign-said (plainly true (suc n)) h = refl
-  sign-said (plainly false n) h = refl
-  sign-said (naming k) h = refl
-  sign-said nothing h = refl
+  sign-said : (v : Token) → Signed v → negativeIn v ≡ isNegative (numberAs (addressIn addresses) v)
+  sign-said (literal true zero) h = absurd (omega arith)
+  sign-said (literal true (suc n)) h = refl
+  sign-said (literal false n) h = refl
+  sign-said (label k) h = refl
+  sign-said invalid h = refl
 
-  signs-said : (vs : List Said) → AllSigned vs → map negativeIn vs ≡ map (λ v. isNegative (numberAs (addressIn addresses) v)) vs
+  signs-said : (vs : List Token) → AllSigned vs → map negativeIn vs ≡ map (λ v. isNegative (numberAs (addressIn addresses) v)) vs
   signs-said [] h = refl
   signs-said (v ∷ vs) h = λ i. sign-said v (h .0) i ∷ signs-said vs (h .1) i
 
-  numbers-pad : (m : ℕ) (vs : List Said)
-      → numbersIn addresses (pad m false (map isLine vs)) (pad m 0 (map magnitudeIn vs)) ≡ pad m 0 (map (λ v. natAbs (numberAs (addressIn addresses) v)) vs)
+  numbers-pad : (m : ℕ) (vs : List Token)
+      → resolvedNumbers addresses (pad m false (map isLine vs)) (pad m 0 (map magnitudeIn vs)) ≡ pad m 0 (map (λ v. natAbs (numberAs (addressIn addresses) v)) vs)
   numbers-pad zero vs = refl
   numbers-pad (suc m) [] = ap (λ (t : List ℕ). 0 ∷ t) (numbers-pad m [])
   numbers-pad (suc m) (v ∷ vs) = λ i. number-said v i ∷ numbers-pad m vs i
 
-  pub numbers-as : (vs : List Said) → AllSigned vs → numbersWith (entriesFrom vs) addresses ≡ numbersAs (addressIn addresses) vs
+  pub numbers-as : (vs : List Token) → AllSigned vs → numbersWith (entriesFrom vs) addresses ≡ numbersAs (addressIn addresses) vs
   unfolding numbersWith entriesFrom numbersAs
   numbers-as vs h = λ i. record { count = length vs; negative = pad 24 false (signs-said vs h i); magnitude = numbers-pad 24 vs i }
 
-  made-from : (vs : List Said) → madeWith (entriesFrom vs) addresses ≡ buildOf (numbersWith (entriesFrom vs) addresses) 0
+  made-from : (vs : List Token) → madeWith (entriesFrom vs) addresses ≡ buildOf (numbersWith (entriesFrom vs) addresses) 0
   unfolding madeWith entriesFrom
   made-from vs = refl
 
-  made-parsed : (p : Parsed) → ((vs : List Said) → p ≡ says vs → AllSigned vs) → madeWith (entriesOf p) addresses ≡ madeAs (addressIn addresses) p
+  made-parsed : (p : Parsed) → ((vs : List Token) → p ≡ says vs → AllSigned vs) → madeWith (entriesOf p) addresses ≡ madeAs (addressIn addresses) p
   unfolding madeWith noEntries
   made-parsed (says vs) h = made-from vs ∙ ap (λ (ns : Numbers). buildOf ns 0) (numbers-as vs (h vs refl))
   made-parsed no h = refl

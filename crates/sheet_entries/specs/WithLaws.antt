@@ -10,7 +10,7 @@ use Rattle.numeric_fields.specs.Form.{pad}
 use Rattle.sheet_spec.specs.declared.Value.{Value}
 use Rattle.sheet_spec.specs.declared.Value.the-variants as value
 use Rattle.sheet_spec.specs.declared.Entries.{Entries}
-use Rattle.sheet_spec.specs.Line.{Said, plainly, naming, nothing}
+use Rattle.sheet_spec.specs.Line.{Token, literal, label, invalid}
 use Rattle.sheet_spec.specs.Entries.{valueOf, isLine, negativeIn, magnitudeIn, noEntries, entriesFrom}
 use Rattle.sheet_entries.specs.With.{placedEntry, withValue}
 
@@ -27,7 +27,7 @@ module _ {A : Type 0} where
   pad-more (suc n) z (x ∷ xs) zero a e h = absurd (omega arith)
   pad-more (suc n) z (x ∷ xs) (suc k) a e h = ap (λ (t : List A). x ∷ t) (pad-more n z xs k a (omega arith) (omega arith))
 
-place : (vs : List Said) (v : Said) → length vs < 24 → placedEntry (entriesFrom vs) (isLine v) (negativeIn v) (magnitudeIn v) ≡ entriesFrom (vs ++ (v ∷ []))
+place : (vs : List Token) (v : Token) → length vs < 24 → placedEntry (entriesFrom vs) (isLine v) (negativeIn v) (magnitudeIn v) ≡ entriesFrom (vs ++ (v ∷ []))
 unfolding placedEntry entriesFrom
 place vs v h =
     rw (
@@ -42,20 +42,20 @@ place vs v h =
     )
 
 -- something said is one entry more
-pub with-more : (vs : List Said) (v : Said) → length vs < 24 → (v ≡ nothing → ⊥) → withValue (entriesFrom vs) (valueOf v) ≡ entriesFrom (vs ++ (v ∷ []))
-with-more vs (plainly s n) h t = place vs (plainly s n) h
-with-more vs (naming n) h t = place vs (naming n) h
-with-more vs nothing h t = absurd (t refl)
+pub with-more : (vs : List Token) (v : Token) → length vs < 24 → (v ≡ invalid → ⊥) → withValue (entriesFrom vs) (valueOf v) ≡ entriesFrom (vs ++ (v ∷ []))
+with-more vs (literal s n) h t = place vs (literal s n) h
+with-more vs (label n) h t = place vs (label n) h
+with-more vs invalid h t = absurd (t refl)
 
-pub with-nothing : (e : Entries) → withValue e (valueOf nothing) ≡ noEntries
+pub with-nothing : (e : Entries) → withValue e (valueOf invalid) ≡ noEntries
 with-nothing e = refl
 
-full : (vs : List Said) (t s : Bool) (n : ℕ) → 24 ≤ length vs → placedEntry (entriesFrom vs) t s n ≡ noEntries
+full : (vs : List Token) (t s : Bool) (n : ℕ) → 24 ≤ length vs → placedEntry (entriesFrom vs) t s n ≡ noEntries
 unfolding placedEntry entriesFrom
 full vs t s n h = rw (le-ltb (length vs) 24 h)
 
 -- a 25th field is in no form
-pub with-full : (vs : List Said) (v : Value) → 24 ≤ length vs → withValue (entriesFrom vs) v ≡ noEntries
+pub with-full : (vs : List Token) (v : Value) → 24 ≤ length vs → withValue (entriesFrom vs) v ≡ noEntries
 with-full vs (value.Number s n) h = full vs false s n h
 with-full vs (value.Line n) h = full vs true false n h
 with-full vs value.None h = refl

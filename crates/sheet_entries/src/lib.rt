@@ -4,7 +4,7 @@ ghost use mathlib.Core.List.{[]};
 ghost use Rattle.sheet_spec.specs.Made.{addressIn};
 ghost use Rattle.sheet_spec.specs.Entries.{noEntries, entriesFrom};
 ghost use Rattle.sheet_entries.specs.With.{placedEntry, withValue};
-ghost use Rattle.sheet_entries.specs.Made.{namesOne, namesLines, numberIn, numbersWith, madeWith};
+ghost use Rattle.sheet_entries.specs.Made.{namesOne, namesLines, resolvedNumber, numbersWith, madeWith};
 use numeric_build::Built;
 use numeric_fields::Numbers;
 use sheet_spec::Entries;
@@ -108,7 +108,7 @@ fn address_in(addresses: &[u32], k: u64) -> u64
 }
 
 fn number_in(addresses: &[u32], named: bool, k: u64) -> u64
-    ensures { λ r. ⌜ r ≡ numberIn (now (addresses .entry)) named k ⌝ }
+    ensures { λ r. ⌜ r ≡ resolvedNumber (now (addresses .entry)) named k ⌝ }
 {
     if named {
         return address_in(addresses, k);

@@ -9,10 +9,10 @@ use lib.ListN.{length, take, drop, getD}
 use borrow.Author.Tests.{eq-eqb, eqb-true, ltb-true, leb-true}
 use Rattle.sheet_spec.specs.declared.Kind.the-variants as kind
 use Rattle.sheet_spec.specs.Names.{bytes, instructionNames}
-use Rattle.sheet_spec.specs.Line.{Said, plainly, naming, nothing, equal, isNone, asVariant}
+use Rattle.sheet_spec.specs.Line.{Token, literal, label, invalid, equal, isNone, asVariant}
 use Rattle.sheet_form_laws.specs.NumberForm.{both}
 use Rattle.sheet_form_laws.specs.NameForm.{all, below, equal-is, place-is, name-back}
-use Rattle.sheet_field.specs.Hash.{hashOf, hashed, placeOf, nameAt, startOf}
+use Rattle.sheet_field.specs.Hash.{hashOf, hashed, placeOf, nameAt, offsetOf}
 
 -- a table that passes a computed test follows the rule
 abbrev follows : (ℕ → ℕ) → List ℕ → ℕ → Bool
@@ -27,21 +27,21 @@ by-rule f n xs k t h = eqb-true (getD xs k 0) (f k) (below (follows f xs) n (is-
 
 -- where a name starts and ends in the text of all
 abbrev within : ℕ → Bool
-within n = ltb (startOf n) (startOf (n + 1)) && leb (startOf (n + 1)) 518
+within n = ltb (offsetOf n) (offsetOf (n + 1)) && leb (offsetOf (n + 1)) 518
 
-pub start-within : (n : ℕ) → n < 99 → (startOf n < startOf (n + 1)) × (startOf (n + 1) ≤ 518)
-unfolding startOf
+pub start-within : (n : ℕ) → n < 99 → (offsetOf n < offsetOf (n + 1)) × (offsetOf (n + 1) ≤ 518)
+unfolding offsetOf
 start-within n h =
-    let b = both (ltb (startOf n) (startOf (n + 1))) (leb (startOf (n + 1)) 518) (below within 99 refl n h) in
-    (ltb-true (startOf n) (startOf (n + 1)) (b .0), leb-true (startOf (n + 1)) 518 (b .1))
+    let b = both (ltb (offsetOf n) (offsetOf (n + 1))) (leb (offsetOf (n + 1)) 518) (below within 99 refl n h) in
+    (ltb-true (offsetOf n) (offsetOf (n + 1)) (b .0), leb-true (offsetOf (n + 1)) 518 (b .1))
 
 abbrev part : List ℕ → ℕ → List ℕ
-part names n = take (startOf (n + 1) - 1 - startOf n) (drop (startOf n) names)
+part names n = take (offsetOf (n + 1) - 1 - offsetOf n) (drop (offsetOf n) names)
 
 abbrev parted : List ℕ → ℕ → Bool
 parted names n = equal (part names n) (nameAt n)
 
-module _ (f : List ℕ) (n from next : ℕ) (h : n < 99) (a : from ≡ startOf n) (b : next ≡ startOf (n + 1)) where
+module _ (f : List ℕ) (n from next : ℕ) (h : n < 99) (a : from ≡ offsetOf n) (b : next ≡ offsetOf (n + 1)) where
   pub part-name : (r : Bool) (names : List ℕ) → T (all (parted names) 99) → r ≡ equal f (take (next - 1 - from) (drop from names)) → r ≡ equal f (nameAt n)
   part-name r names t e =
       let p = equal-is (part names n) (nameAt n) (below (parted names) 99 (is-true (all (parted names) 99) t) n h) in
@@ -80,14 +80,14 @@ equal-refl [] = refl
 equal-refl (b ∷ bs) = rw (eq-eqb b b refl) (equal-refl bs)
 
 -- what a field says
-pub found : (f : List ℕ) (n : ℕ) → n < 99 → 0 < length f → equal f (nameAt n) ≡ true → asVariant kind.Instruction f ≡ plainly false n
+pub found : (f : List ℕ) (n : ℕ) → n < 99 → 0 < length f → equal f (nameAt n) ≡ true → asVariant kind.Instruction f ≡ literal false n
 unfolding nameAt
 found f n h s t =
     let q : f ≡ nameAt n = equal-is f (nameAt n) t in
     ap (asVariant kind.Instruction) q ∙ name-back kind.Instruction n h (subst (λ (g : List ℕ). 0 < length g) q s)
 
 module _ (f : List ℕ) (n : ℕ) (h : n ≡ placeOf (hashOf f)) (t : equal f (nameAt n) ≡ false) where
-  clash : (v : Said) → asVariant kind.Instruction f ≡ v → (v ≡ nothing → ⊥) → ⊥
+  clash : (v : Token) → asVariant kind.Instruction f ≡ v → (v ≡ invalid → ⊥) → ⊥
   unfolding nameAt
   clash v e s =
       let p = place-is 0 f (map bytes instructionNames) v e s in
@@ -96,10 +96,10 @@ module _ (f : List ℕ) (n : ℕ) (h : n ≡ placeOf (hashOf f)) (t : equal f (n
       let o : n ≡ m = h ∙ ap (λ (g : List ℕ). placeOf (hashOf g)) q ∙ place-own m (p .here) (subst (λ (g : List ℕ). 0 < length g) q (p .some)) in
       false≢true (sym t ∙ ap (λ (k : ℕ). equal f (nameAt k)) o ∙ ap (equal f) (sym q) ∙ equal-refl f)
 
-  pub missed : asVariant kind.Instruction f ≡ nothing
+  pub missed : asVariant kind.Instruction f ≡ invalid
   missed = go (asVariant kind.Instruction f) refl
     where
-      go : (v : Said) → asVariant kind.Instruction f ≡ v → v ≡ nothing
-      go (plainly s k) q = absurd (clash (plainly s k) q (λ z. let o : _≡_ {A = ℕ} 0 1 = cc in omega arith))
-      go (naming k) q = absurd (clash (naming k) q (λ z. let o : _≡_ {A = ℕ} 0 1 = cc in omega arith))
-      go nothing q = refl
+      go : (v : Token) → asVariant kind.Instruction f ≡ v → v ≡ invalid
+      go (literal s k) q = absurd (clash (literal s k) q (λ z. let o : _≡_ {A = ℕ} 0 1 = cc in omega arith))
+      go (label k) q = absurd (clash (label k) q (λ z. let o : _≡_ {A = ℕ} 0 1 = cc in omega arith))
+      go invalid q = refl

@@ -15,7 +15,7 @@ use Rattle.base_text.specs.Number.{isDigit, allDigits, valueFrom, numberOf}
 use Rattle.base_text.specs.NumberLaws.{value-grows}
 use Rattle.sheet_spec.specs.declared.Kind.the-variants as kind
 use Rattle.sheet_spec.specs.declared.Value.the-variants as value
-use Rattle.sheet_spec.specs.Line.{plainly, naming, nothing, equal, isNone, placeFrom, asName, asNumber, said}
+use Rattle.sheet_spec.specs.Line.{literal, label, invalid, equal, isNone, placeFrom, asName, asNumber, token}
 use Rattle.sheet_spec.specs.Entries.{capped, valueOf}
 use Rattle.sheet_field.specs.LineNumber.{lineAfter}
 
@@ -98,22 +98,22 @@ and-first : (t u : Bool) → t && u ≡ true → t ≡ true
 and-first true u e = refl
 and-first false u e = e
 
-pub name-short : (f : List ℕ) → length f < 2 → asName f ≡ nothing
+pub name-short : (f : List ℕ) → length f < 2 → asName f ≡ invalid
 name-short [] h = refl
 name-short (b ∷ []) h = rw (and-false (eqb b 64))
 name-short (b ∷ (d ∷ bs)) h = absurd (omega arith)
 
-pub name-other : (f : List ℕ) → (getD f 0 0 ≡ 64 → ⊥) → asName f ≡ nothing
+pub name-other : (f : List ℕ) → (getD f 0 0 ≡ 64 → ⊥) → asName f ≡ invalid
 name-other [] e = refl
 name-other (b ∷ bs) e = rw (ne-eqb b 64 e)
 
-pub name-zeros : (f : List ℕ) → eqb (getD f 1 0) 48 && ltb 2 (length f) ≡ true → asName f ≡ nothing
+pub name-zeros : (f : List ℕ) → eqb (getD f 1 0) 48 && ltb 2 (length f) ≡ true → asName f ≡ invalid
 name-zeros [] e = refl
 name-zeros (b ∷ []) e = rw (and-false (eqb b 64))
 name-zeros (b ∷ (d ∷ [])) e = let z : _≡_ {A = ℕ} 0 1 = cc (and-false (eqb d 48)) in absurd (omega arith)
 name-zeros (b ∷ (d ∷ (x ∷ bs))) e = rw (and-first (eqb d 48) (ltb 2 (suc (suc (suc (length bs))))) e, and-false (eqb b 64))
 
-naming-if : (t : Bool) (n : ℕ) → valueOf (cond t (naming n) nothing) ≡ cond t (value.Line (capped n)) value.None
+naming-if : (t : Bool) (n : ℕ) → valueOf (cond t (label n) invalid) ≡ cond t (value.Line (capped n)) value.None
 naming-if true n = refl
 naming-if false n = refl
 
@@ -132,7 +132,7 @@ some : (f : List ℕ) → (length f ≡ 0 → ⊥) → not (isNone f) ≡ true
 some [] h = absurd (h refl)
 some (b ∷ bs) h = refl
 
-pub place-none : (f : List ℕ) → length f ≡ 0 → (k : ℕ) (ns : List (List ℕ)) → placeFrom k f ns ≡ nothing
+pub place-none : (f : List ℕ) → length f ≡ 0 → (k : ℕ) (ns : List (List ℕ)) → placeFrom k f ns ≡ invalid
 place-none [] h k [] = refl
 place-none [] h k (n ∷ ns) = rw (and-false (equal [] n)) (place-none [] h (suc k) ns)
 place-none (b ∷ bs) h k ns = absurd (omega arith)
@@ -143,28 +143,28 @@ place-start names f = rw (parts-start 9 names)
 module _ (names f : List ℕ) (k from e : ℕ) (h : from ≤ length names) (g : e ≡ partEnd 9 names from) (s : length f ≡ 0 → ⊥) where
   name : placeFrom k f (partsFrom 9 names from)
       ≡ cond (equal f (take (e - from) (drop from names)))
-      (plainly false k) (placeFrom (k + 1) f (partsFrom 9 names (e + 1)))
+      (literal false k) (placeFrom (k + 1) f (partsFrom 9 names (e + 1)))
   name = rw (add-one, parts-at 9 names from h, part-is 9 names from e g, some f s, and-true (equal f (before 9 (drop from names))), g)
 
-  pub place-here : equal f (take (e - from) (drop from names)) ≡ true → placeFrom k f (partsFrom 9 names from) ≡ plainly false k
+  pub place-here : equal f (take (e - from) (drop from names)) ≡ true → placeFrom k f (partsFrom 9 names from) ≡ literal false k
   place-here t = rw (name, t)
 
   pub place-later : equal f (take (e - from) (drop from names)) ≡ false
       → placeFrom k f (partsFrom 9 names from) ≡ placeFrom (k + 1) f (partsFrom 9 names (e + 1))
   place-later t = rw (name, t)
 
-pub place-end : (names f : List ℕ) (k from : ℕ) → length names < from → placeFrom k f (partsFrom 9 names from) ≡ nothing
+pub place-end : (names f : List ℕ) (k from : ℕ) → length names < from → placeFrom k f (partsFrom 9 names from) ≡ invalid
 place-end names f k from h = rw (parts-past 9 names from h)
 
 -- a place, by its first byte
-pub said-none : (f : List ℕ) → length f ≡ 0 → said kind.Place f ≡ nothing
+pub said-none : (f : List ℕ) → length f ≡ 0 → token kind.Place f ≡ invalid
 said-none [] h = refl
 said-none (b ∷ bs) h = absurd (omega arith)
 
-pub said-name : (f : List ℕ) → getD f 0 0 ≡ 64 → said kind.Place f ≡ asName f
+pub said-name : (f : List ℕ) → getD f 0 0 ≡ 64 → token kind.Place f ≡ asName f
 said-name [] e = refl
 said-name (b ∷ bs) e = rw (eq-eqb b 64 e)
 
-pub said-number : (f : List ℕ) → (getD f 0 0 ≡ 64 → ⊥) → said kind.Place f ≡ asNumber (numberOf f)
+pub said-number : (f : List ℕ) → (getD f 0 0 ≡ 64 → ⊥) → token kind.Place f ≡ asNumber (numberOf f)
 said-number [] e = refl
 said-number (b ∷ bs) e = rw (ne-eqb b 64 e)

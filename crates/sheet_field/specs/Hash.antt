@@ -26,10 +26,10 @@ unfoldable pub nameAt : ℕ → List ℕ
 nameAt n = getD (map bytes instructionNames) n []
 
 -- how many bytes stand before a name, where a tab follows each
-abbrev pub startIn : List (List ℕ) → ℕ → ℕ
-startIn ns zero = 0
-startIn [] (suc n) = 0
-startIn (x ∷ ns) (suc n) = length x + 1 + startIn ns n
+abbrev pub offsetIn : List (List ℕ) → ℕ → ℕ
+offsetIn ns zero = 0
+offsetIn [] (suc n) = 0
+offsetIn (x ∷ ns) (suc n) = length x + 1 + offsetIn ns n
 
-unfoldable pub startOf : ℕ → ℕ
-startOf n = startIn (map bytes instructionNames) n
+unfoldable pub offsetOf : ℕ → ℕ
+offsetOf n = offsetIn (map bytes instructionNames) n

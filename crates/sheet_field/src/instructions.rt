@@ -5,7 +5,7 @@ ghost use lib.ListN.{length, take, drop};
 ghost use Rattle.sheet_spec.specs.Line.{asVariant};
 ghost use Rattle.sheet_spec.specs.Line as line;
 ghost use Rattle.sheet_spec.specs.Entries.{valueOf};
-ghost use Rattle.sheet_field.specs.Hash.{mixedOf, hashOf, placeOf, nameAt, startOf};
+ghost use Rattle.sheet_field.specs.Hash.{mixedOf, hashOf, placeOf, nameAt, offsetOf};
 use crate::equal;
 use sheet_spec::Kind;
 use sheet_spec::Value;
@@ -417,7 +417,7 @@ fn place_of(h: usize) -> u8
 // Where the name at a place starts.
 fn start(place: usize) -> u16
     requires { ⌜ place < 100 ⌝ }
-    ensures { λ r. ⌜ r ≡ startOf place ⌝ }
+    ensures { λ r. ⌜ r ≡ offsetOf place ⌝ }
 {
     STARTS[place]
 }

@@ -2,7 +2,7 @@
 ghost use mathlib.Core.Path.{_≡_};
 ghost use Rattle.base_text.specs.Parts.{fields};
 ghost use Rattle.base_text.specs.Number.{numberOf};
-ghost use Rattle.sheet_spec.specs.Line.{asNumber, asName, asVariant, placeFrom, said};
+ghost use Rattle.sheet_spec.specs.Line.{asNumber, asName, asVariant, placeFrom, token};
 ghost use Rattle.sheet_spec.specs.Line as line;
 ghost use Rattle.sheet_spec.specs.Entries.{valueOf};
 ghost use Rattle.sheet_spec.specs.Entries as entries;
@@ -116,7 +116,7 @@ fn line_name(f: &[u8]) -> Value
 
 // A line's name or a number.
 fn place(f: &[u8]) -> Value
-    ensures { λ r. ⌜ r ≡ valueOf (said Kind.Place (now (f .entry))) ⌝ }
+    ensures { λ r. ⌜ r ≡ valueOf (token Kind.Place (now (f .entry))) ⌝ }
 {
     if f.len() == 0 {
         return Value::None;
@@ -149,7 +149,7 @@ fn operand(f: &[u8]) -> Value
 
 // What a field of a kind says.
 pub fn value(kind: Kind, f: &[u8]) -> Value
-    ensures { λ r. ⌜ r ≡ valueOf (said kind (now (f .entry))) ⌝ }
+    ensures { λ r. ⌜ r ≡ valueOf (token kind (now (f .entry))) ⌝ }
 {
     match kind {
         Kind::Number => number(f),

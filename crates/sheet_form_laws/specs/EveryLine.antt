@@ -45,9 +45,9 @@ use Rattle.isa.specs.declared.StatusOperation.the-variants.{ANDItoSR, ORItoSR, 
 use Rattle.isa.specs.declared.ConditionCodeOperation.the-variants.{ANDItoCCR, ORItoCCR, EORItoCCR}
 use Rattle.isa.specs.declared.VectorOperation.the-variants.{TRAP, BKPT}
 use Rattle.isa.specs.declared.RawOperation.the-variants.{LINEA, LINEF, IllegalWord}
-use Rattle.isa.specs.declared.PlainOperation.the-variants.{RTE, RESET, RTR, TRAPV, ILLEGAL, RTS, NOP, SIMHALT}
+use Rattle.isa.specs.declared.NoOperandOperation.the-variants.{RTE, RESET, RTR, TRAPV, ILLEGAL, RTS, NOP, SIMHALT}
 use Rattle.isa.specs.declared.Instruction.{Instruction}
-use Rattle.isa.specs.declared.Instruction.the-variants.{IntoRegister, MOVEM, Transfer, Pair, Quick, MOVEQ, ImmediateInto, WordIntoData, SWAP, EXG, UnsizedIntoRegister, UnsizedOne, UnsizedPair, EXT, OneOperand, Bcc, Scc, DBcc, Branch, Link, UNLK, Shift, Vector, Status, ConditionCode, MOVEUSP, Raw, Plain, RTD, MOVEC, TRAPcc, MULL, Pack, CAS, CAS2, BF, DIVL}
+use Rattle.isa.specs.declared.Instruction.the-variants.{IntoRegister, MOVEM, Transfer, Pair, Quick, MOVEQ, ImmediateInto, WordIntoData, SWAP, EXG, UnsizedIntoRegister, UnsizedOne, UnsizedPair, EXT, OneOperand, Bcc, Scc, DBcc, Branch, Link, UNLK, Shift, Vector, Status, ConditionCode, MOVEUSP, Raw, NoOperand, RTD, MOVEC, TRAPcc, MULL, Pack, CAS, CAS2, BF, DIVL}
 use Rattle.numeric_fields.specs.Form.{Entry, unsigned, signed, numberOf, inside, Inside, flagPlace, sizePlace, targetDirectionPlace, addressWidthPlace, conditionPlace, branchSizePlace, shiftDirectionPlace, signPlace, bitFieldOperationPlace, registerForm, fieldValueForm, trapOperandForm, registerChoiceForm, operandForm}
 use Rattle.numeric_build.specs.Form.{placeOf, formOf, numbersOf}
 use Rattle.numeric_build.specs.Form as numeric
@@ -56,7 +56,7 @@ use Rattle.sheet_spec.specs.declared.Kind.{Kind}
 use Rattle.sheet_spec.specs.declared.Kind.the-variants as kind
 use Rattle.sheet_spec.specs.Names.{bytes, namesOf}
 use Rattle.sheet_spec.specs.Grammar.{fieldsOf}
-use Rattle.sheet_spec.specs.Line.{Said, plainly, naming, nothing}
+use Rattle.sheet_spec.specs.Line.{Token, literal, label, invalid}
 use Rattle.sheet_spec.specs.Spell.{numberAs, Suits, Variant, Fits, nextKinds, spell, Line}
 use Rattle.sheet_spec.specs.Made.{madeOf}
 use Rattle.sheet_form_laws.specs.NumberForm.{both}
@@ -69,32 +69,32 @@ pub data Mark : Type 0 where
   named : ℕ → Mark
 
 -- what stands for an entry in a field of a kind, and the entry, with 0 for a target that a line's name stands for
-abbrev pub plain : Entry → Said × Entry
-plain (unsigned top n) = (plainly false n, unsigned top n)
-plain (signed (pos n)) = (plainly false n, signed (pos n))
-plain (signed (negsuc n)) = (plainly true (suc n), signed (negsuc n))
+abbrev pub unmarked : Entry → Token × Entry
+unmarked (unsigned top n) = (literal false n, unsigned top n)
+unmarked (signed (pos n)) = (literal false n, signed (pos n))
+unmarked (signed (negsuc n)) = (literal true (suc n), signed (negsuc n))
 
-abbrev pub aimed : ℕ → Said × Entry
-aimed n = (naming n, unsigned (2 ^ 32 - 1) 0)
+abbrev pub aimed : ℕ → Token × Entry
+aimed n = (label n, unsigned (2 ^ 32 - 1) 0)
 
-abbrev pub field : Kind → Mark → Entry → Said × Entry
-field k m e = elim k [ kind.Number ↦ plain e | kind.Target ↦ elim m [ numbered n ↦ aimed n | named n ↦ aimed n ] | kind.Place ↦ elim m [ numbered n ↦ plain e | named n ↦ aimed n ] | kind.Size ↦ plain e | kind.TargetDirection ↦ plain e | kind.RegisterOperand ↦ plain e | kind.AddressWidth ↦ plain e | kind.Condition ↦ plain e | kind.BranchSize ↦ plain e | kind.ShiftDirection ↦ plain e | kind.Sign ↦ plain e | kind.BitFieldOperation ↦ plain e | kind.FieldValue ↦ plain e | kind.TrapOperand ↦ plain e | kind.RegisterChoice ↦ plain e | kind.Operand ↦ plain e | kind.Instruction ↦ plain e ]
+abbrev pub field : Kind → Mark → Entry → Token × Entry
+field k m e = elim k [ kind.Number ↦ unmarked e | kind.Target ↦ elim m [ numbered n ↦ aimed n | named n ↦ aimed n ] | kind.Place ↦ elim m [ numbered n ↦ unmarked e | named n ↦ aimed n ] | kind.Size ↦ unmarked e | kind.TargetDirection ↦ unmarked e | kind.RegisterOperand ↦ unmarked e | kind.AddressWidth ↦ unmarked e | kind.Condition ↦ unmarked e | kind.BranchSize ↦ unmarked e | kind.ShiftDirection ↦ unmarked e | kind.Sign ↦ unmarked e | kind.BitFieldOperation ↦ unmarked e | kind.FieldValue ↦ unmarked e | kind.TrapOperand ↦ unmarked e | kind.RegisterChoice ↦ unmarked e | kind.Operand ↦ unmarked e | kind.Instruction ↦ unmarked e ]
 
 -- the fields of entries, by the grammar, with a mark for each
-abbrev pub fieldsBy : (ℕ → Mark) → List Kind → List Entry → List (Said × Entry)
+abbrev pub fieldsBy : (ℕ → Mark) → List Kind → List Entry → List (Token × Entry)
 fieldsBy m ks [] = []
 fieldsBy m [] (e ∷ es) = []
 fieldsBy m (k ∷ ks) (e ∷ es) = field k (m 0) e ∷ fieldsBy (λ n. m (suc n)) (nextKinds k (field k (m 0) e .0) ++ ks) es
 
-abbrev pub saying : (ℕ → Mark) → List Kind → List Entry → List Said
+abbrev pub saying : (ℕ → Mark) → List Kind → List Entry → List Token
 saying m ks es = map (λ w. w .0) (fieldsBy m ks es)
 
 abbrev pub unaimed : (ℕ → Mark) → List Kind → List Entry → List Entry
 unaimed m ks es = map (λ w. w .1) (fieldsBy m ks es)
 
 -- all but IllegalWord and SIMHALT
-abbrev pub Listed : Instruction → Type 0
-Listed i = ((w : ℕ) → i ≡ Raw IllegalWord w → ⊥) × (i ≡ Plain SIMHALT → ⊥)
+abbrev pub HasLine : Instruction → Type 0
+HasLine i = ((w : ℕ) → i ≡ Raw IllegalWord w → ⊥) × (i ≡ NoOperand SIMHALT → ⊥)
 
 -- a line for an instruction: its entries, with 0 for each target that a line's name stands for
 pub record Told (m : ℕ → Mark) (i : Instruction) : Type 0 where
@@ -103,10 +103,10 @@ pub record Told (m : ℕ → Mark) (i : Instruction) : Type 0 where
   pub line : Line (saying m (kind.Instruction ∷ []) (formOf i)) bare
 
 -- ---- numbers and types, whatever the kinds
-abbrev Numbered : Entry → Said × Entry → Type 0
+abbrev Numbered : Entry → Token × Entry → Type 0
 Numbered e w = (numberAs (λ n. 0) (w .0) ≡ numberOf (w .1)) × (inside e ≡ true → inside (w .1) ≡ true)
 
-plain-number : (e : Entry) → Numbered e (plain e)
+plain-number : (e : Entry) → Numbered e (unmarked e)
 plain-number (unsigned top n) = (refl, λ h. h)
 plain-number (signed (pos n)) = (refl, λ h. h)
 plain-number (signed (negsuc n)) = (refl, λ h. h)
@@ -199,14 +199,14 @@ place =
 abbrev isNamed : Kind → ℕ → Bool
 isNamed k n = ltb n (length (namesOf k)) && ltb 0 (length (getD (map bytes (namesOf k)) n []))
 
-is-variant : (k : Kind) (n : ℕ) → isNamed k n ≡ true → Variant k (plainly false n)
+is-variant : (k : Kind) (n : ℕ) → isNamed k n ≡ true → Variant k (literal false n)
 is-variant k n e =
     let b = both (ltb n (length (namesOf k))) (ltb 0 (length (getD (map bytes (namesOf k)) n []))) e in
     (ltb-true n (length (namesOf k)) (b .0), ltb-true 0 (length (getD (map bytes (namesOf k)) n [])) (b .1))
 
 -- a kind whose fields are names
 abbrev Naming : Kind → Type 0
-Naming k = (n : ℕ) → (Variant k (plainly false n) → Suits k (plainly false n)) × ((m : Mark) (top : ℕ) → field k m (unsigned top n) ≡ (plainly false n, unsigned top n))
+Naming k = (n : ℕ) → (Variant k (literal false n) → Suits k (literal false n)) × ((m : Mark) (top : ℕ) → field k m (unsigned top n) ≡ (literal false n, unsigned top n))
 
 -- ---- a variant and its fields: the form of its enum, its kind and the place of the last variant
 record Enum (X : Type 0) : Type 0 where
@@ -308,12 +308,12 @@ abbrev entries : Instruction → List Entry
 entries i = unsigned 98 (placeOf i) ∷ numeric.fieldsOf i
 
 shape : {Z : Type 0} (s : Sort Z) (con : Z → Instruction) (z : Z)
-    → (Listed (con z) → (w : Z) → _≡_ {A = Bool × List Kind × List Entry} (isNamed kind.Instruction (placeOf (con z)), fieldsOf kind.Instruction (placeOf (con z)), entries (con w)) (true, s .kinds, unsigned 98 (placeOf (con z)) ∷ s .form w))
-    → Listed (con z) → (m : ℕ → Mark) (ks : List Kind) → Fitting entries (kind.Instruction ∷ []) (con z) m ks
+    → (HasLine (con z) → (w : Z) → _≡_ {A = Bool × List Kind × List Entry} (isNamed kind.Instruction (placeOf (con z)), fieldsOf kind.Instruction (placeOf (con z)), entries (con w)) (true, s .kinds, unsigned 98 (placeOf (con z)) ∷ s .form w))
+    → HasLine (con z) → (m : ℕ → Mark) (ks : List Kind) → Fitting entries (kind.Instruction ∷ []) (con z) m ks
 shape s con z law l =
     variant (record { form = entries; kind = kind.Instruction; names = λ n. (λ h. h, λ m top. refl); top = 98 }) (placeOf (con z)) (λ h. ap (λ t. t .0) (law l z)) s con (λ w. ap (λ t. (t .1, t .2)) (law l w)) z
 
-instruction : (i : Instruction) → Listed i → (m : ℕ → Mark) (ks : List Kind) → Fitting entries (kind.Instruction ∷ []) i m ks
+instruction : (i : Instruction) → HasLine i → (m : ℕ → Mark) (ks : List Kind) → Fitting entries (kind.Instruction ∷ []) i m ks
 instruction (IntoRegister op o r s) = shape (operand ⊗ register ⊗ size) (λ w. IntoRegister op (w .0 .0) (w .0 .1) (w .1)) ((o, r), s) (λ h w. elim op [ ADDA ↦ refl | SUBA ↦ refl | CMPA ↦ refl | MOVEA ↦ refl | CMP ↦ refl | CHK2 ↦ refl | CMP2 ↦ refl ])
 instruction (MOVEM d s v o) = shape (direction ⊗ size ⊗ word ⊗ operand) (λ w. MOVEM (w .0 .0 .0) (w .0 .0 .1) (w .0 .1) (w .1)) (((d, s), v), o) (λ h w. refl)
 instruction (Transfer op d s r o) = shape (direction ⊗ size ⊗ register ⊗ operand) (λ w. Transfer op (w .0 .0 .0) (w .0 .0 .1) (w .0 .1) (w .1)) (((d, s), r), o) (λ h w. elim op [ MOVEP ↦ refl | MOVES ↦ refl ])
@@ -341,7 +341,7 @@ instruction (Status op v) = shape word (λ w. Status op w) v (λ h w. elim op [ 
 instruction (ConditionCode op v) = shape byte (λ w. ConditionCode op w) v (λ h w. elim op [ ANDItoCCR ↦ refl | ORItoCCR ↦ refl | EORItoCCR ↦ refl ])
 instruction (MOVEUSP b r) = shape (flag ⊗ register) (λ w. MOVEUSP (w .0) (w .1)) (b, r) (λ h w. refl)
 instruction (Raw op v) = shape word (λ w. Raw op w) v (elim op [ LINEA ↦ λ h w. refl | LINEF ↦ λ h w. refl | IllegalWord ↦ λ h w. absurd (h .0 v refl) ])
-instruction (Plain op) = shape none (λ w. Plain op) tt (elim op [ RTE ↦ λ h w. refl | RESET ↦ λ h w. refl | RTR ↦ λ h w. refl | TRAPV ↦ λ h w. refl | ILLEGAL ↦ λ h w. refl | RTS ↦ λ h w. refl | NOP ↦ λ h w. refl | SIMHALT ↦ λ h w. absurd (h .1 refl) ])
+instruction (NoOperand op) = shape none (λ w. NoOperand op) tt (elim op [ RTE ↦ λ h w. refl | RESET ↦ λ h w. refl | RTR ↦ λ h w. refl | TRAPV ↦ λ h w. refl | ILLEGAL ↦ λ h w. refl | RTS ↦ λ h w. refl | NOP ↦ λ h w. refl | SIMHALT ↦ λ h w. absurd (h .1 refl) ])
 instruction (RTD v) = shape long (λ w. RTD w) v (λ h w. refl)
 instruction (MOVEC b v r) = shape (flag ⊗ word ⊗ register) (λ w. MOVEC (w .0 .0) (w .0 .1) (w .1)) ((b, v), r) (λ h w. refl)
 instruction (TRAPcc c x) = shape (condition ⊗ trapped) (λ w. TRAPcc (w .0) (w .1)) (c, x) (λ h w. refl)
@@ -352,7 +352,7 @@ instruction (CAS2 c d u v p q s) = shape (byte ⊗ byte ⊗ byte ⊗ byte ⊗ re
 instruction (BF p o f n) = shape (action ⊗ operand ⊗ (extent ⊗ extent) ⊗ byte) (λ w. BF (w .0 .0 .0) (w .0 .0 .1) (record { offset = w .0 .1 .0; width = w .0 .1 .1 }) (w .1)) (((p, o), (f .offset, f .width)), n) (λ h w. refl)
 instruction (DIVL o q r b g) = shape (operand ⊗ byte ⊗ byte ⊗ flag ⊗ sign) (λ w. DIVL (w .0 .0 .0 .0) (w .0 .0 .0 .1) (w .0 .0 .1) (w .0 .1) (w .1)) ((((o, q), r), b), g) (λ h w. refl)
 
-pub every-line : (m : ℕ → Mark) (i : Instruction) → Listed i → Inside (formOf i) → Told m i
+pub every-line : (m : ℕ → Mark) (i : Instruction) → HasLine i → Inside (formOf i) → Told m i
 unfolding formOf numbersOf
 every-line m i l h =
     let f = instruction i l m [] in
@@ -363,23 +363,23 @@ every-line m i l h =
     record { bare = f .bare; form = e; line = record { grammar = g; numbers = b .0 ∙ ap (map numberOf) (sym e); inside = subst Inside (sym e) (b .1) } }
 
 -- each such line is in the form
-pub every-line-in-form : (m : ℕ → Mark) (i : Instruction) (l : Listed i) (h : Inside (formOf i)) → madeOf (λ n. 0) (spell (saying m (kind.Instruction ∷ []) (formOf i))) ≡ built.Instruction (every-line m i l h .bare)
+pub every-line-in-form : (m : ℕ → Mark) (i : Instruction) (l : HasLine i) (h : Inside (formOf i)) → madeOf (λ n. 0) (spell (saying m (kind.Instruction ∷ []) (formOf i))) ≡ built.Instruction (every-line m i l h .bare)
 every-line-in-form m i l h = form-complete _ _ (every-line m i l h .line)
 
 -- IllegalWord and SIMHALT have none
-place-named : (v : Said) (p : ℕ) → Variant kind.Instruction v → numberAs (λ n. 0) v ≡ pos p → 0 < length (getD (map bytes (namesOf kind.Instruction)) p [])
-place-named (plainly true n) p s e = absurd s
-place-named (plainly false n) p s e = subst (λ (k : ℕ). 0 < length (getD (map bytes (namesOf kind.Instruction)) k [])) (ap natAbs e) (s .1)
-place-named (naming n) p s e = absurd s
-place-named nothing p s e = absurd s
+place-named : (v : Token) (p : ℕ) → Variant kind.Instruction v → numberAs (λ n. 0) v ≡ pos p → 0 < length (getD (map bytes (namesOf kind.Instruction)) p [])
+place-named (literal true n) p s e = absurd s
+place-named (literal false n) p s e = subst (λ (k : ℕ). 0 < length (getD (map bytes (namesOf kind.Instruction)) k [])) (ap natAbs e) (s .1)
+place-named (label n) p s e = absurd s
+place-named invalid p s e = absurd s
 
-line-named : (vs : List Said) (i : Instruction) → Line vs i → 0 < length (getD (map bytes (namesOf kind.Instruction)) (placeOf i) [])
+line-named : (vs : List Token) (i : Instruction) → Line vs i → 0 < length (getD (map bytes (namesOf kind.Instruction)) (placeOf i) [])
 unfolding formOf numbersOf
 line-named [] i l = absurd (l .grammar)
 line-named (v ∷ vs) i l = place-named v (placeOf i) (l .grammar .0) (ap (λ (zs : List ℤ). getD zs 0 (pos 0)) (l .numbers))
 
-pub illegal-word-none : (vs : List Said) (w : ℕ) → Line vs (Raw IllegalWord w) → ⊥
+pub illegal-word-none : (vs : List Token) (w : ℕ) → Line vs (Raw IllegalWord w) → ⊥
 illegal-word-none vs w l = let h : 0 < 0 = line-named vs (Raw IllegalWord w) l in absurd (omega arith)
 
-pub simhalt-none : (vs : List Said) → Line vs (Plain SIMHALT) → ⊥
-simhalt-none vs l = let h : 0 < 0 = line-named vs (Plain SIMHALT) l in absurd (omega arith)
+pub simhalt-none : (vs : List Token) → Line vs (NoOperand SIMHALT) → ⊥
+simhalt-none vs l = let h : 0 < 0 = line-named vs (NoOperand SIMHALT) l in absurd (omega arith)

@@ -9,12 +9,12 @@ use lib.ListN.{length, length-map}
 use borrow.Author.Tests.{eqb-true, ne-eqb, lt-ltb}
 use Rattle.base_text.specs.declared.Number.{Number}
 use Rattle.base_text.specs.declared.Number.the-variants as number
-use Rattle.base_text.specs.Number.{isDigit, allDigits, value, plain, numberOf}
+use Rattle.base_text.specs.Number.{isDigit, allDigits, value, isDecimal, numberOf}
 use Rattle.base_text.specs.Written.{decimalOf}
 use Rattle.sheet_spec.specs.declared.Kind.{Kind}
 use Rattle.sheet_spec.specs.declared.Kind.the-variants as kind
 use Rattle.sheet_spec.specs.Names.{bytes, namesOf}
-use Rattle.sheet_spec.specs.Line.{Said, plainly, naming, nothing, asNumber, asName, isName, asVariant, said}
+use Rattle.sheet_spec.specs.Line.{Token, literal, label, invalid, asNumber, asName, isName, asVariant, token}
 use Rattle.sheet_spec.specs.Spell.{signText, numberText, nameText, spelled, Written, Named, Either, Variant, Suits}
 use Rattle.sheet_form_laws.specs.NumberForm.{both, digit, decimal-plain, decimal-value, plain-digits, plain-decimal, number-form, number-back}
 use Rattle.sheet_form_laws.specs.NameForm.{solid, Place, place-is, name-back, name-solid}
@@ -38,44 +38,44 @@ number-name : (s : Bool) (n : ℕ) → isName (signText s ++ decimalOf n) ≡ fa
 number-name true n = refl
 number-name false n = digits-name (decimalOf n) (plain-digits (decimalOf n) (decimal-plain n))
 
-cond-true : (t : Bool) (a b : Said) → t ≡ true → cond t a b ≡ a
+cond-true : (t : Bool) (a b : Token) → t ≡ true → cond t a b ≡ a
 cond-true t a b e = rw e
 
-cond-false : (t : Bool) (a b : Said) → t ≡ false → cond t a b ≡ b
+cond-false : (t : Bool) (a b : Token) → t ≡ false → cond t a b ≡ b
 cond-false t a b e = rw e
 
 -- what is spelled says what it was
-naming-back : (n : ℕ) → asName (64 ∷ decimalOf n) ≡ naming n
-naming-back n = cond-true (plain (decimalOf n)) (naming (value (decimalOf n))) nothing (decimal-plain n) ∙ ap naming (decimal-value n)
+naming-back : (n : ℕ) → asName (64 ∷ decimalOf n) ≡ label n
+naming-back n = cond-true (isDecimal (decimalOf n)) (label (value (decimalOf n))) invalid (decimal-plain n) ∙ ap label (decimal-value n)
 
-plainly-back : (s : Bool) (n : ℕ) → Written (plainly s n) → asNumber (numberOf (signText s ++ decimalOf n)) ≡ plainly s n
-plainly-back s n h = ap asNumber (number-back s n h)
+literal-back : (s : Bool) (n : ℕ) → Written (literal s n) → asNumber (numberOf (signText s ++ decimalOf n)) ≡ literal s n
+literal-back s n h = ap asNumber (number-back s n h)
 
-written-back : (v : Said) → Written v → asNumber (numberOf (numberText v)) ≡ v
-written-back (plainly true n) h = plainly-back true n h
-written-back (plainly false n) h = plainly-back false n h
-written-back (naming n) h = absurd h
-written-back nothing h = absurd h
+written-back : (v : Token) → Written v → asNumber (numberOf (numberText v)) ≡ v
+written-back (literal true n) h = literal-back true n h
+written-back (literal false n) h = literal-back false n h
+written-back (label n) h = absurd h
+written-back invalid h = absurd h
 
-named-back : (v : Said) → Named v → asName (numberText v) ≡ v
-named-back (plainly s n) h = absurd h
-named-back (naming n) h = naming-back n
-named-back nothing h = absurd h
+named-back : (v : Token) → Named v → asName (numberText v) ≡ v
+named-back (literal s n) h = absurd h
+named-back (label n) h = naming-back n
+named-back invalid h = absurd h
 
-either-back : (v : Said) → Either v → said kind.Place (numberText v) ≡ v
-either-back (plainly s n) h =
+either-back : (v : Token) → Either v → token kind.Place (numberText v) ≡ v
+either-back (literal s n) h =
     let f : List ℕ = signText s ++ decimalOf n in
-    cond-false (isName f) (asName f) (asNumber (numberOf f)) (number-name s n) ∙ plainly-back s n h
-either-back (naming n) h = naming-back n
-either-back nothing h = absurd h
+    cond-false (isName f) (asName f) (asNumber (numberOf f)) (number-name s n) ∙ literal-back s n h
+either-back (label n) h = naming-back n
+either-back invalid h = absurd h
 
-variant-back : (k : Kind) (v : Said) → Variant k v → asVariant k (nameText k v) ≡ v
-variant-back k (plainly true n) h = absurd h
-variant-back k (plainly false n) h = name-back k n (h .0) (h .1)
-variant-back k (naming n) h = absurd h
-variant-back k nothing h = absurd h
+variant-back : (k : Kind) (v : Token) → Variant k v → asVariant k (nameText k v) ≡ v
+variant-back k (literal true n) h = absurd h
+variant-back k (literal false n) h = name-back k n (h .0) (h .1)
+variant-back k (label n) h = absurd h
+variant-back k invalid h = absurd h
 
-pub said-spelled : (k : Kind) (v : Said) → Suits k v → said k (spelled k v) ≡ v
+pub said-spelled : (k : Kind) (v : Token) → Suits k v → token k (spelled k v) ≡ v
 said-spelled kind.Number v h = written-back v h
 said-spelled kind.Target v h = named-back v h
 said-spelled kind.Place v h = either-back v h
@@ -95,41 +95,41 @@ said-spelled kind.Operand v h = variant-back kind.Operand v h
 said-spelled kind.Instruction v h = variant-back kind.Instruction v h
 
 -- a field that says something is its spelling
-number-said : (f : List ℕ) (v : Said) → asNumber (numberOf f) ≡ v → (v ≡ nothing → ⊥) → (f ≡ numberText v) × Either v × Written v
+number-said : (f : List ℕ) (v : Token) → asNumber (numberOf f) ≡ v → (v ≡ invalid → ⊥) → (f ≡ numberText v) × Either v × Written v
 number-said f v e h = go (numberOf f) refl e
   where
     go : (u : Number) → numberOf f ≡ u → asNumber u ≡ v → (f ≡ numberText v) × Either v × Written v
     go (number.Is s n) w q = let d = number-form f s n w in rw (← q) (d .0, d .1, d .1)
     go number.No w q = absurd (h (sym q))
 
-name-said : (f : List ℕ) (v : Said) → asName f ≡ v → (v ≡ nothing → ⊥) → (f ≡ numberText v) × Either v × Named v
+name-said : (f : List ℕ) (v : Token) → asName f ≡ v → (v ≡ invalid → ⊥) → (f ≡ numberText v) × Either v × Named v
 name-said [] v e h = absurd (h (sym e))
-name-said (b ∷ bs) v e h = go (eqb b 64 && plain bs) refl e
+name-said (b ∷ bs) v e h = go (eqb b 64 && isDecimal bs) refl e
   where
-    go : (t : Bool) → eqb b 64 && plain bs ≡ t → cond t (naming (value bs)) nothing ≡ v → (b ∷ bs ≡ numberText v) × Either v × Named v
+    go : (t : Bool) → eqb b 64 && isDecimal bs ≡ t → cond t (label (value bs)) invalid ≡ v → (b ∷ bs ≡ numberText v) × Either v × Named v
     go true t q =
-        let d = both (eqb b 64) (plain bs) t in
+        let d = both (eqb b 64) (isDecimal bs) t in
         let x : b ≡ 64 = eqb-true b 64 (d .0) in
         let y : bs ≡ decimalOf (value bs) = sym (plain-decimal bs (d .1)) in
         rw (← q) ((λ i. x i ∷ y i), tt, tt)
     go false t q = absurd (h (sym q))
 
-either-said : (f : List ℕ) (v : Said) → said kind.Place f ≡ v → (v ≡ nothing → ⊥) → (f ≡ numberText v) × Either v
+either-said : (f : List ℕ) (v : Token) → token kind.Place f ≡ v → (v ≡ invalid → ⊥) → (f ≡ numberText v) × Either v
 either-said f v e h = go (isName f) e
   where
     go : (t : Bool) → cond t (asName f) (asNumber (numberOf f)) ≡ v → (f ≡ numberText v) × Either v
     go true q = let d = name-said f v q h in (d .0, d .1)
     go false q = let d = number-said f v q h in (d .0, d .1)
 
-variant-said : (k : Kind) (f : List ℕ) (v : Said) → asVariant k f ≡ v → (v ≡ nothing → ⊥) → (f ≡ nameText k v) × Variant k v
+variant-said : (k : Kind) (f : List ℕ) (v : Token) → asVariant k f ≡ v → (v ≡ invalid → ⊥) → (f ≡ nameText k v) × Variant k v
 variant-said k f v e h =
     let p = place-is 0 f (map bytes (namesOf k)) v e h in
     let z : 0 + p .at ≡ p .at = omega arith in
-    let q : v ≡ plainly false (p .at) = p .says ∙ ap (plainly false) z in
+    let q : v ≡ literal false (p .at) = p .says ∙ ap (literal false) z in
     let l : p .at < length (namesOf k) = omega (arith, p .here, length-map (namesOf k) bytes) in
     rw q (p .name, (l, rw (p .name) at (p .some)))
 
-pub spelled-said : (k : Kind) (f : List ℕ) (v : Said) → said k f ≡ v → (v ≡ nothing → ⊥) → (f ≡ spelled k v) × Suits k v
+pub spelled-said : (k : Kind) (f : List ℕ) (v : Token) → token k f ≡ v → (v ≡ invalid → ⊥) → (f ≡ spelled k v) × Suits k v
 spelled-said kind.Number f v e h = let d = number-said f v e h in (d .0, d .2)
 spelled-said kind.Target f v e h = let d = name-said f v e h in (d .0, d .2)
 spelled-said kind.Place f v e h = either-said f v e h
@@ -149,19 +149,19 @@ spelled-said kind.Operand f v e h = variant-said kind.Operand f v e h
 spelled-said kind.Instruction f v e h = variant-said kind.Instruction f v e h
 
 -- no spelling holds a tab
-number-solid : (v : Said) → solid (numberText v) ≡ true
-number-solid (plainly true n) = decimal-solid n
-number-solid (plainly false n) = decimal-solid n
-number-solid (naming n) = decimal-solid n
-number-solid nothing = refl
+number-solid : (v : Token) → solid (numberText v) ≡ true
+number-solid (literal true n) = decimal-solid n
+number-solid (literal false n) = decimal-solid n
+number-solid (label n) = decimal-solid n
+number-solid invalid = refl
 
-variant-solid : (k : Kind) (v : Said) → Variant k v → solid (nameText k v) ≡ true
-variant-solid k (plainly true n) h = absurd h
-variant-solid k (plainly false n) h = name-solid k n (h .0)
-variant-solid k (naming n) h = refl
-variant-solid k nothing h = refl
+variant-solid : (k : Kind) (v : Token) → Variant k v → solid (nameText k v) ≡ true
+variant-solid k (literal true n) h = absurd h
+variant-solid k (literal false n) h = name-solid k n (h .0)
+variant-solid k (label n) h = refl
+variant-solid k invalid h = refl
 
-pub field-solid : (k : Kind) (v : Said) → Suits k v → solid (spelled k v) ≡ true
+pub field-solid : (k : Kind) (v : Token) → Suits k v → solid (spelled k v) ≡ true
 field-solid kind.Number v h = number-solid v
 field-solid kind.Target v h = number-solid v
 field-solid kind.Place v h = number-solid v
@@ -181,7 +181,7 @@ field-solid kind.Operand v h = variant-solid kind.Operand v h
 field-solid kind.Instruction v h = variant-solid kind.Instruction v h
 
 -- nothing suits no kind
-pub suits-some : (k : Kind) → Suits k nothing → ⊥
+pub suits-some : (k : Kind) → Suits k invalid → ⊥
 suits-some kind.Number h = h
 suits-some kind.Target h = h
 suits-some kind.Place h = h

@@ -9,34 +9,34 @@ use Rattle.base_text.specs.Lines.{linesOf}
 use Rattle.sheet_spec.specs.declared.Kind.{Kind}
 use Rattle.sheet_spec.specs.declared.Kind.the-variants as kind
 use Rattle.sheet_spec.specs.Grammar.{fieldsOf}
-use Rattle.sheet_spec.specs.Line.{Said, plainly, naming, nothing, said, Parsed, says, no, with, after, lineFrom, lineOf}
+use Rattle.sheet_spec.specs.Line.{Token, literal, label, invalid, token, Parsed, says, no, with, after, lineFrom, lineOf}
 use Rattle.sheet_spec.specs.Spell.{spelled, Suits, nextKinds, Fits, fieldsFrom, joined, spell}
 use Rattle.sheet_form_laws.specs.FieldForm.{said-spelled, spelled-said, field-solid, suits-some}
 use Rattle.sheet_form_laws.specs.JoinForm.{Solid, joined-fields, fields-joined, joined-line}
 
 -- a field said, then the others
-said-on : (k : Kind) (ks : List Kind) (fs : List (List ℕ)) (v : Said) (vs : List Said) → Suits k v → lineFrom (nextKinds k v ++ ks) fs ≡ says vs
+said-on : (k : Kind) (ks : List Kind) (fs : List (List ℕ)) (v : Token) (vs : List Token) → Suits k v → lineFrom (nextKinds k v ++ ks) fs ≡ says vs
     → after v (λ n. lineFrom (fieldsOf k n ++ ks) fs) (lineFrom ks fs) ≡ says (v ∷ vs)
-said-on k ks fs (plainly s n) vs h e = ap (with (plainly s n)) e
-said-on k ks fs (naming n) vs h e = ap (with (naming n)) e
-said-on k ks fs nothing vs h e = absurd (suits-some k h)
+said-on k ks fs (literal s n) vs h e = ap (with (literal s n)) e
+said-on k ks fs (label n) vs h e = ap (with (label n)) e
+said-on k ks fs invalid vs h e = absurd (suits-some k h)
 
-from-spelled : (ks : List Kind) (vs : List Said) → Fits ks vs → lineFrom ks (fieldsFrom ks vs) ≡ says vs
+from-spelled : (ks : List Kind) (vs : List Token) → Fits ks vs → lineFrom ks (fieldsFrom ks vs) ≡ says vs
 from-spelled [] [] h = refl
 from-spelled [] (v ∷ vs) h = absurd h
 from-spelled (k ∷ ks) [] h = absurd h
 from-spelled (k ∷ ks) (v ∷ vs) h =
     let fs : List (List ℕ) = fieldsFrom (nextKinds k v ++ ks) vs in
-    ap (λ (x : Said). after x (λ n. lineFrom (fieldsOf k n ++ ks) fs) (lineFrom ks fs)) (said-spelled k v (h .0))
+    ap (λ (x : Token). after x (λ n. lineFrom (fieldsOf k n ++ ks) fs) (lineFrom ks fs)) (said-spelled k v (h .0))
     ∙ said-on k ks fs v vs (h .0) (from-spelled (nextKinds k v ++ ks) vs (h .1))
 
-solid-from : (ks : List Kind) (vs : List Said) → Fits ks vs → Solid (fieldsFrom ks vs)
+solid-from : (ks : List Kind) (vs : List Token) → Fits ks vs → Solid (fieldsFrom ks vs)
 solid-from [] [] h = tt
 solid-from [] (v ∷ vs) h = absurd h
 solid-from (k ∷ ks) [] h = absurd h
 solid-from (k ∷ ks) (v ∷ vs) h = (field-solid k v (h .0), solid-from (nextKinds k v ++ ks) vs (h .1))
 
-pub line-spelled : (vs : List Said) → Fits (kind.Instruction ∷ []) vs → lineOf (spell vs) ≡ says vs
+pub line-spelled : (vs : List Token) → Fits (kind.Instruction ∷ []) vs → lineOf (spell vs) ≡ says vs
 unfolding lineOf spell
 line-spelled [] h = absurd h
 line-spelled (v ∷ vs) h =
@@ -45,22 +45,22 @@ line-spelled (v ∷ vs) h =
     ap (lineFrom ks) (fields-joined (spelled kind.Instruction v) fs (solid-from ks (v ∷ vs) h)) ∙ from-spelled ks (v ∷ vs) h
 
 -- a spelling and a line feed are the first line of a text that begins with them
-pub line-in-text : (vs : List Said) → Fits (kind.Instruction ∷ []) vs → (rest : List ℕ) → linesOf (spell vs ++ (10 ∷ rest)) ≡ spell vs ∷ linesOf rest
+pub line-in-text : (vs : List Token) → Fits (kind.Instruction ∷ []) vs → (rest : List ℕ) → linesOf (spell vs ++ (10 ∷ rest)) ≡ spell vs ∷ linesOf rest
 unfolding spell
 line-in-text vs h rest = joined-line (fieldsFrom (kind.Instruction ∷ []) vs) rest (solid-from (kind.Instruction ∷ []) vs h)
 
-no-says : {vs : List Said} → no ≡ says vs → ⊥
+no-says : {vs : List Token} → no ≡ says vs → ⊥
 no-says e = let z : _≡_ {A = ℕ} 0 1 = cc in absurd (omega arith)
 
-plainly-some : {s : Bool} {n : ℕ} → plainly s n ≡ nothing → ⊥
-plainly-some e = let z : _≡_ {A = ℕ} 0 1 = cc in absurd (omega arith)
+literal-some : {s : Bool} {n : ℕ} → literal s n ≡ invalid → ⊥
+literal-some e = let z : _≡_ {A = ℕ} 0 1 = cc in absurd (omega arith)
 
-naming-some : {n : ℕ} → naming n ≡ nothing → ⊥
+naming-some : {n : ℕ} → label n ≡ invalid → ⊥
 naming-some e = let z : _≡_ {A = ℕ} 0 1 = cc in absurd (omega arith)
 
 -- what a line says with v first
-module _ (k : Kind) (ks : List Kind) (f : List ℕ) (fs : List (List ℕ)) (v : Said) (vs : List Said) (e : said k f ≡ v) (h : v ≡ nothing → ⊥) where
-  first : (p : Parsed) → with v p ≡ says vs → ((ws : List Said) → p ≡ says ws → Fits (nextKinds k v ++ ks) ws × (fs ≡ fieldsFrom (nextKinds k v ++ ks) ws))
+module _ (k : Kind) (ks : List Kind) (f : List ℕ) (fs : List (List ℕ)) (v : Token) (vs : List Token) (e : token k f ≡ v) (h : v ≡ invalid → ⊥) where
+  first : (p : Parsed) → with v p ≡ says vs → ((ws : List Token) → p ≡ says ws → Fits (nextKinds k v ++ ks) ws × (fs ≡ fieldsFrom (nextKinds k v ++ ks) ws))
       → Fits (k ∷ ks) vs × (f ∷ fs ≡ fieldsFrom (k ∷ ks) vs)
   first (says ws) q next =
       let r : v ∷ ws ≡ vs = cc in
@@ -71,20 +71,20 @@ module _ (k : Kind) (ks : List Kind) (f : List ℕ) (fs : List (List ℕ)) (v : 
       rw (← r) ((d .1, n .0), (λ i. g i ∷ gs i))
   first no q next = absurd (no-says q)
 
-spelled-from : (ks : List Kind) (fs : List (List ℕ)) (vs : List Said) → lineFrom ks fs ≡ says vs → Fits ks vs × (fs ≡ fieldsFrom ks vs)
+spelled-from : (ks : List Kind) (fs : List (List ℕ)) (vs : List Token) → lineFrom ks fs ≡ says vs → Fits ks vs × (fs ≡ fieldsFrom ks vs)
 spelled-from [] [] vs e = let r : [] ≡ vs = cc in rw (← r) (tt, refl)
 spelled-from [] (f ∷ fs) vs e = absurd (no-says e)
 spelled-from (k ∷ ks) [] vs e = absurd (no-says e)
-spelled-from (k ∷ ks) (f ∷ fs) vs e = go (said k f) refl e (λ ls ws q. spelled-from ls fs ws q)
+spelled-from (k ∷ ks) (f ∷ fs) vs e = go (token k f) refl e (λ ls ws q. spelled-from ls fs ws q)
   where
-    go : (v : Said) → said k f ≡ v → after v (λ n. lineFrom (fieldsOf k n ++ ks) fs) (lineFrom ks fs) ≡ says vs
-        → ((ls : List Kind) (ws : List Said) → lineFrom ls fs ≡ says ws → Fits ls ws × (fs ≡ fieldsFrom ls ws))
+    go : (v : Token) → token k f ≡ v → after v (λ n. lineFrom (fieldsOf k n ++ ks) fs) (lineFrom ks fs) ≡ says vs
+        → ((ls : List Kind) (ws : List Token) → lineFrom ls fs ≡ says ws → Fits ls ws × (fs ≡ fieldsFrom ls ws))
         → Fits (k ∷ ks) vs × (f ∷ fs ≡ fieldsFrom (k ∷ ks) vs)
-    go (plainly s n) t q next = first k ks f fs (plainly s n) vs t plainly-some (lineFrom (fieldsOf k n ++ ks) fs) q (next (fieldsOf k n ++ ks))
-    go (naming n) t q next = first k ks f fs (naming n) vs t naming-some (lineFrom ks fs) q (next ks)
-    go nothing t q next = absurd (no-says q)
+    go (literal s n) t q next = first k ks f fs (literal s n) vs t literal-some (lineFrom (fieldsOf k n ++ ks) fs) q (next (fieldsOf k n ++ ks))
+    go (label n) t q next = first k ks f fs (label n) vs t naming-some (lineFrom ks fs) q (next ks)
+    go invalid t q next = absurd (no-says q)
 
-pub spelled-line : (t : List ℕ) (vs : List Said) → lineOf t ≡ says vs → Fits (kind.Instruction ∷ []) vs × (t ≡ spell vs)
+pub spelled-line : (t : List ℕ) (vs : List Token) → lineOf t ≡ says vs → Fits (kind.Instruction ∷ []) vs × (t ≡ spell vs)
 unfolding lineOf spell
 spelled-line t vs e =
     let d = spelled-from (kind.Instruction ∷ []) (fields t) vs e in

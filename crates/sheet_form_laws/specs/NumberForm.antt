@@ -9,11 +9,11 @@ use lib.ListN.{length, getD, length-append, List·getD-append}
 use borrow.Author.Tests.{le-leb, leb-true, ltb-true, ltb-false, eqb-true, eqb-false, ne-eqb, not-true}
 use Rattle.base_text.specs.declared.Number.{Number}
 use Rattle.base_text.specs.declared.Number.the-variants as number
-use Rattle.base_text.specs.Number.{isDigit, allDigits, valueFrom, value, plain, unsignedOf, negated, numberOf}
+use Rattle.base_text.specs.Number.{isDigit, allDigits, valueFrom, value, isDecimal, unsignedOf, negated, numberOf}
 use Rattle.base_text.specs.Written.{decimalOf}
 use Rattle.base_text.specs.WrittenLaws.{decimal-small, decimal-more}
 use Rattle.base_text.specs.ReadBack.{decimal-back, negative-back}
-use Rattle.sheet_spec.specs.Line.{plainly}
+use Rattle.sheet_spec.specs.Line.{literal}
 use Rattle.sheet_spec.specs.Spell.{signText, Written}
 
 pub both : (a b : Bool) → a && b ≡ true → (a ≡ true) × (b ≡ true)
@@ -63,12 +63,12 @@ decimal-digits (suc k) n h g = go (ltb n 10) refl (decimal-digits k (n / 10))
         let m : 10 ≤ n = ltb-false n 10 e in
         rw (decimal-more n m) (digits-next n (decimalOf (n / 10)) (f (omega arith) (omega arith)))
 
-digits-plain : (n : ℕ) (l : List ℕ) → Digits n l → plain l ≡ true
+digits-plain : (n : ℕ) (l : List ℕ) → Digits n l → isDecimal l ≡ true
 digits-plain n [] d = absurd (omega (arith, d .some))
 digits-plain n (b ∷ []) d = both (isDigit b) true (d .digits) .0
 digits-plain n (b ∷ (x ∷ bs)) d = rw (ne-eqb b 48 (λ e. omega (arith, d .first))) (d .digits)
 
-pub decimal-plain : (n : ℕ) → plain (decimalOf n) ≡ true
+pub decimal-plain : (n : ℕ) → isDecimal (decimalOf n) ≡ true
 decimal-plain zero = rw (decimal-small 0 (omega arith))
 decimal-plain (suc n) = digits-plain (suc n) (decimalOf (suc n)) (decimal-digits (suc (suc n)) (suc n) (omega arith) (omega arith))
 
@@ -76,7 +76,7 @@ pub decimal-value : (n : ℕ) → value (decimalOf n) ≡ n
 decimal-value zero = rw (decimal-small 0 (omega arith))
 decimal-value (suc n) = decimal-digits (suc (suc n)) (suc n) (omega arith) (omega arith) .writes
 
-pub plain-digits : (l : List ℕ) → plain l ≡ true → allDigits l ≡ true
+pub plain-digits : (l : List ℕ) → isDecimal l ≡ true → allDigits l ≡ true
 plain-digits [] e = absurd (false≢true e)
 plain-digits (b ∷ []) e = rw e
 plain-digits (b ∷ (x ∷ bs)) e = both (not (eqb b 48)) (allDigits (b ∷ (x ∷ bs))) e .1
@@ -99,7 +99,7 @@ decimal-digit b e =
     let q : 48 + (0 * 10 + (b - 48)) ≡ b = omega (arith, d) in
     decimal-small (0 * 10 + (b - 48)) (omega (arith, d)) ∙ ap (λ (x : ℕ). x ∷ []) q
 
-pub plain-decimal : (f : List ℕ) → plain f ≡ true → decimalOf (value f) ≡ f
+pub plain-decimal : (f : List ℕ) → isDecimal f ≡ true → decimalOf (value f) ≡ f
 plain-decimal [] e = absurd (false≢true e)
 plain-decimal (b ∷ []) e = decimal-digit b e
 plain-decimal (b ∷ (x ∷ bs)) e =
@@ -113,9 +113,9 @@ no-is : {s : Bool} {n : ℕ} → number.No ≡ number.Is s n → ⊥
 no-is e = let z : _≡_ {A = ℕ} 0 1 = cc in absurd (omega arith)
 
 unsigned-form : (f : List ℕ) (s : Bool) (n : ℕ) → unsignedOf f ≡ number.Is s n → (s ≡ false) × (f ≡ decimalOf n) × (n < 2 ^ 64)
-unsigned-form f s n = go (plain f) (ltb (value f) (2 ^ 64)) refl refl
+unsigned-form f s n = go (isDecimal f) (ltb (value f) (2 ^ 64)) refl refl
   where
-    go : (p q : Bool) → plain f ≡ p → ltb (value f) (2 ^ 64) ≡ q → cond (p && q) (number.Is false (value f)) number.No ≡ number.Is s n
+    go : (p q : Bool) → isDecimal f ≡ p → ltb (value f) (2 ^ 64) ≡ q → cond (p && q) (number.Is false (value f)) number.No ≡ number.Is s n
         → (s ≡ false) × (f ≡ decimalOf n) × (n < 2 ^ 64)
     go true true p q e =
         let b : false ≡ s = cc in
@@ -126,28 +126,28 @@ unsigned-form f s n = go (plain f) (ltb (value f) (2 ^ 64)) refl refl
     go false false p q e = absurd (no-is e)
 
 -- what a field says is its number, and the field is its spelling
-pub number-form : (f : List ℕ) (s : Bool) (n : ℕ) → numberOf f ≡ number.Is s n → (f ≡ signText s ++ decimalOf n) × Written (plainly s n)
+pub number-form : (f : List ℕ) (s : Bool) (n : ℕ) → numberOf f ≡ number.Is s n → (f ≡ signText s ++ decimalOf n) × Written (literal s n)
 number-form [] s n e = absurd (no-is e)
 number-form (b ∷ bs) s n e = go (eqb b 45) refl e
   where
     minus : b ≡ 45 → (m : ℕ) (t : Bool) → bs ≡ decimalOf m → m < 2 ^ 64 → eqb m 0 ≡ t → cond t number.No (number.Is true m) ≡ number.Is s n
-        → (b ∷ bs ≡ signText s ++ decimalOf n) × Written (plainly s n)
+        → (b ∷ bs ≡ signText s ++ decimalOf n) × Written (literal s n)
     minus h m true d l z e = absurd (no-is e)
     minus h m false d l z e =
         let p : true ≡ s = cc in
         let q : m ≡ n = cc in
         rw (← p, ← q) ((λ i. h i ∷ d i), (omega (arith, eqb-false m 0 z), l))
 
-    below : b ≡ 45 → (u : Number) → unsignedOf bs ≡ u → negated u ≡ number.Is s n → (b ∷ bs ≡ signText s ++ decimalOf n) × Written (plainly s n)
+    below : b ≡ 45 → (u : Number) → unsignedOf bs ≡ u → negated u ≡ number.Is s n → (b ∷ bs ≡ signText s ++ decimalOf n) × Written (literal s n)
     below h (number.Is t m) w e = let d = unsigned-form bs t m w in minus h m (eqb m 0) (d .1) (d .2) refl e
     below h number.No w e = absurd (no-is e)
 
     go : (t : Bool) → eqb b 45 ≡ t → cond t (negated (unsignedOf bs)) (unsignedOf (b ∷ bs)) ≡ number.Is s n
-        → (b ∷ bs ≡ signText s ++ decimalOf n) × Written (plainly s n)
+        → (b ∷ bs ≡ signText s ++ decimalOf n) × Written (literal s n)
     go true h e = below (eqb-true b 45 h) (unsignedOf bs) refl e
     go false h e = let d = unsigned-form (b ∷ bs) s n e in rw (d .0) (d .1, d .2)
 
-pub number-back : (s : Bool) (n : ℕ) → Written (plainly s n) → numberOf (signText s ++ decimalOf n) ≡ number.Is s n
+pub number-back : (s : Bool) (n : ℕ) → Written (literal s n) → numberOf (signText s ++ decimalOf n) ≡ number.Is s n
 number-back true zero h = absurd (omega (arith, h .0))
 number-back true (suc n) h = negative-back n (h .1)
 number-back false n h = decimal-back n h

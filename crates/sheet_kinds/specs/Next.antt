@@ -11,8 +11,8 @@ abbrev pub below : List Kind → ℕ → ℕ
 below [] n = n
 below (k ∷ ks) n = codeOf k + 32 * below ks n
 
-abbrev pub nextOf : ℕ → ℕ → ℕ
-nextOf kinds place = below (fieldsOf (kindAt (kinds % 32)) place) (kinds / 32)
+abbrev pub kindsAfter : ℕ → ℕ → ℕ
+kindsAfter kinds place = below (fieldsOf (kindAt (kinds % 32)) place) (kinds / 32)
 
 -- 64 bits hold the kinds of `fields` and n above them
 pub record Holds (fields n : ℕ) : Type 0 where

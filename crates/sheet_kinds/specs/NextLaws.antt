@@ -12,7 +12,7 @@ use Rattle.sheet_spec.specs.declared.Kind.the-variants as kind
 use Rattle.sheet_spec.specs.Grammar.{fieldsOf}
 use Rattle.sheet_form_laws.specs.NumberForm.{both}
 use Rattle.sheet_kinds.specs.Packed.{codeOf, packed, kindAt}
-use Rattle.sheet_kinds.specs.Next.{below, nextOf, Holds, Joined}
+use Rattle.sheet_kinds.specs.Next.{below, kindsAfter, Holds, Joined}
 
 codes : (k : Kind) → (ltb 0 (codeOf k) && ltb (codeOf k) 32 ≡ true) × (kindAt (codeOf k) ≡ k)
 codes kind.Number = (refl, refl)
@@ -54,7 +54,7 @@ pub below-packed : (ks ls : List Kind) → below ks (packed ls) ≡ packed (ks +
 below-packed [] ls = refl
 below-packed (k ∷ ks) ls = ap (λ (n : ℕ). codeOf k + 32 * n) (below-packed ks ls)
 
-pub next-packed : (k : Kind) (ks : List Kind) (n : ℕ) → nextOf (packed (k ∷ ks)) n ≡ packed (fieldsOf k n ++ ks)
+pub next-packed : (k : Kind) (ks : List Kind) (n : ℕ) → kindsAfter (packed (k ∷ ks)) n ≡ packed (fieldsOf k n ++ ks)
 next-packed k ks n = rw (packed-first k ks, packed-rest k ks) (below-packed (fieldsOf k n) ks)
 
 pub packed-small : (n : ℕ) (ks : List Kind) → length ks ≤ n → packed ks < 32 ^ n

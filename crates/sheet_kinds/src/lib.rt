@@ -4,7 +4,7 @@ ghost use Prim.Native.Nat.{_%_, _^_, _<_};
 ghost use lib.ListN.{getD};
 ghost use Rattle.sheet_spec.specs.Grammar.{fieldsOf};
 ghost use Rattle.sheet_kinds.specs.Packed.{packed, kindAt};
-ghost use Rattle.sheet_kinds.specs.Next.{nextOf, Holds, Joined};
+ghost use Rattle.sheet_kinds.specs.Next.{kindsAfter, Holds, Joined};
 use sheet_spec::Kind;
 
 // The kinds by their codes.
@@ -238,8 +238,8 @@ fn onto(fields: u64, kinds: u64) -> u64
 
 // The next kind taken off, and its fields put in its place.
 pub fn next(kinds: u64, place: u64) -> u64
-    requires { ⌜ nextOf kinds place < 2 ^ 64 ⌝ }
-    ensures { λ r. ⌜ r ≡ nextOf kinds place ⌝ }
+    requires { ⌜ kindsAfter kinds place < 2 ^ 64 ⌝ }
+    ensures { λ r. ⌜ r ≡ kindsAfter kinds place ⌝ }
 {
     onto(fields_of(first(kinds), place), kinds / 32)
 }

@@ -23,7 +23,7 @@ use Rattle.sheet_spec.specs.Sheet.{encodedLine, lineEncoded}
 use Rattle.sheet_spec.specs.Translate.{countIn, addressesIn}
 use Rattle.sheet_spec.specs.Follow.{Next, on, to, either, stop, nextOf, target, lineAt, addressOf, countOf, instructionIn, plainLine, named}
 use Rattle.sheet_laws.specs.Follows.{Aims, Within, wordsAt, LineStands, AllStand, address-is}
-use Rattle.sheet_laws.specs.Verdicts.{Accepted}
+use Rattle.sheet_laws.specs.Outcomes.{Accepted}
 use Rattle.sheet_laws.specs.Lawful.{quiet, Goes, quietly, aimed}
 use Rattle.sheet_laws.specs.Made.{LineMade}
 use Rattle.sheet_laws.specs.Bounds.{size-is, MeasuredSheet, line-at, count-some, names-bounded, addresses-bounded}
@@ -40,20 +40,20 @@ taken : (v : item.Verdict) (ws : List ℕ) → v ≡ item.fine → take (encode.
 taken v ws e = rw e (take-at ws (replicate {A = ℕ} (11 - length ws) 0) (length ws) refl)
 
 -- ---- where a line goes: to the address t, and to line k of m; its target is even
-abbrev Fits : Next → ℕ → ℕ → ℕ → Type 0
-Fits x t k m = Aims x t × Within x m k × (target x % 2 ≡ 0)
+abbrev Lands : Next → ℕ → ℕ → ℕ → Type 0
+Lands x t k m = Aims x t × Within x m k × (target x % 2 ≡ 0)
 
-quiet-fits : (x : Next) → quiet x ≡ true → (t k m : ℕ) → Fits x t k m
-quiet-fits on h t k m = (tt, tt, refl)
-quiet-fits (to u) h t k m = let z : _≡_ {A = ℕ} 0 1 = cc in absurd (omega arith)
-quiet-fits (either u) h t k m = let z : _≡_ {A = ℕ} 0 1 = cc in absurd (omega arith)
-quiet-fits stop h t k m = (tt, tt, refl)
+quiet-lands : (x : Next) → quiet x ≡ true → (t k m : ℕ) → Lands x t k m
+quiet-lands on h t k m = (tt, tt, refl)
+quiet-lands (to u) h t k m = let z : _≡_ {A = ℕ} 0 1 = cc in absurd (omega arith)
+quiet-lands (either u) h t k m = let z : _≡_ {A = ℕ} 0 1 = cc in absurd (omega arith)
+quiet-lands stop h t k m = (tt, tt, refl)
 
-aimed-fits : (x : Next) (t k m : ℕ) → target x ≡ t → t % 2 ≡ 0 → 1 ≤ k → k ≤ m → Fits x t k m
-aimed-fits on t k m e h p q = (tt, tt, refl)
-aimed-fits (to u) t k m e h p q = (e, (p, q), rw e h)
-aimed-fits (either u) t k m e h p q = (e, (p, q), rw e h)
-aimed-fits stop t k m e h p q = (tt, tt, refl)
+aimed-lands : (x : Next) (t k m : ℕ) → target x ≡ t → t % 2 ≡ 0 → 1 ≤ k → k ≤ m → Lands x t k m
+aimed-lands on t k m e h p q = (tt, tt, refl)
+aimed-lands (to u) t k m e h p q = (e, (p, q), rw e h)
+aimed-lands (either u) t k m e h p q = (e, (p, q), rw e h)
+aimed-lands stop t k m e h p q = (tt, tt, refl)
 
 module _ (text : List ℕ) (places room : ℕ) (ok : Accepted text places room) where
   measured : MeasuredSheet text
@@ -101,11 +101,11 @@ module _ (text : List ℕ) (places room : ℕ) (ok : Accepted text places room) 
     named-is : named text n ≡ target (nextOf (l .made (λ k. k)))
     named-is = ap (λ (b : Built). target (nextOf (instructionIn b))) (l .makes (λ k. k) (names-bounded text measured))
 
-    goes : Goes (countIn text) (l .made) → Fits (nextOf i) (addressOf text (named text n)) (named text n) (countIn text)
-    goes (quietly q) = quiet-fits (nextOf i) (q A) (addressOf text (named text n)) (named text n) (countIn text)
+    goes : Goes (countIn text) (l .made) → Lands (nextOf i) (addressOf text (named text n)) (named text n) (countIn text)
+    goes (quietly q) = quiet-lands (nextOf i) (q A) (addressOf text (named text n)) (named text n) (countIn text)
     goes (aimed (m, p, q, e)) =
-        subst (λ (k : ℕ). Fits (nextOf i) (addressOf text k) k (countIn text)) (sym (named-is ∙ e (λ k. k)))
-        (aimed-fits (nextOf i) (addressOf text m) m (countIn text) (e A ∙ address-is text m p q) (address-even m) p q)
+        subst (λ (k : ℕ). Lands (nextOf i) (addressOf text k) k (countIn text)) (sym (named-is ∙ e (λ k. k)))
+        (aimed-lands (nextOf i) (addressOf text m) m (countIn text) (e A ∙ address-is text m p q) (address-even m) p q)
 
     line-accepted : reads.Accepted a i
     line-accepted = (l .follows .typed A (l .inside A (addresses-bounded text measured)), is-fine, l .follows .read A a (address-even n) (goes (l .follows .goes) .2))

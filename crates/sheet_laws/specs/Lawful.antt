@@ -19,7 +19,7 @@ use Rattle.read_operand_laws.specs.Stands.{Fits32}
 use Rattle.read_operand_laws.specs.Facts.{as-fits32, Lt, lt?, less, notLess}
 use Rattle.read_spec.specs.Plain as plain
 use Rattle.read_spec.specs.LeftOut.{isMinusOne, branchLeftOut, leftOut}
-use Rattle.read_laws.specs.Statements.{TypedInstruction}
+use Rattle.read_laws.specs.Statements.{InstructionInTypes}
 use Rattle.sheet_spec.specs.Follow.{Next, on, to, either, stop, nextOf, target}
 use Rattle.sheet_laws.specs.Turned.{Aimed}
 
@@ -42,7 +42,7 @@ pub data Goes (n : ℕ) (y : (ℕ → ℕ) → Instruction) : Type 0 where
 -- instructions for i, whatever names are made: of its size and their types, their plain forms go alike, and they are read between even addresses
 pub record Follows (n : ℕ) (i : Instruction) (y : (ℕ → ℕ) → Instruction) : Type 0 where
   pub size : (f : ℕ → ℕ) → sizeOf (y f) ≡ sizeOf i
-  pub typed : (f : ℕ → ℕ) → Inside (entries (y f)) → TypedInstruction (y f)
+  pub typed : (f : ℕ → ℕ) → Inside (entries (y f)) → InstructionInTypes (y f)
   pub plain : (f : ℕ → ℕ) → nextOf (plain.plain (y f)) ≡ nextOf (y f)
   pub read : (f : ℕ → ℕ) (a : ℕ) → a % 2 ≡ 0 → target (nextOf (y f)) % 2 ≡ 0 → leftOut (y f) a ≡ false
   pub goes : Goes n y

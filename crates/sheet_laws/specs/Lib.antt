@@ -1,7 +1,7 @@
 pub mod Examples
 pub mod StartForm
 pub mod Follows
-pub mod Verdicts
+pub mod Outcomes
 pub mod Turned
 pub mod Renamed
 pub mod Sizes

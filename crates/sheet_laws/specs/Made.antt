@@ -16,7 +16,7 @@ use Rattle.numeric_build.specs.Build.{buildOf}
 use Rattle.numeric_build.specs.Form.{formOf, numbersOf}
 use Rattle.numeric_build.specs.RoundTrip.{build-numbers}
 use Rattle.sheet_spec.specs.declared.Kind.the-variants as kind
-use Rattle.sheet_spec.specs.Line.{Said, says, lineOf}
+use Rattle.sheet_spec.specs.Line.{Token, says, lineOf}
 use Rattle.sheet_spec.specs.Spell.{numberAs, Fits}
 use Rattle.sheet_spec.specs.Made.{numbersAs, madeAs, madeOf, namesAll, namesIn}
 use Rattle.sheet_form_laws.specs.LineForm.{line-spelled}
@@ -27,20 +27,20 @@ use Rattle.sheet_laws.specs.Lawful.{Follows, entries}
 use Rattle.sheet_laws.specs.Renamed.{instruction-turned}
 
 -- ---- what `sizedOf` accepts
-record Sized (b : Built) (named : Bool) : Type 0 where
+record SizedLine (b : Built) (named : Bool) : Type 0 where
   instruction : Instruction
   is : b ≡ built.Instruction instruction
   names : named ≡ true
   number : sizeOf instruction .number ≡ 0
   measured : sizedAs b named ≡ sizeOf instruction
 
-sized-is : (b : Built) (named : Bool) → sizedAs b named .number ≡ 0 → Sized b named
+sized-is : (b : Built) (named : Bool) → sizedAs b named .number ≡ 0 → SizedLine b named
 sized-is (built.Instruction i) true h = record { instruction = i; is = refl; names = refl; number = h; measured = refl }
 sized-is (built.Instruction i) false h = absurd (omega arith)
 sized-is built.NotInForm named h = absurd (omega arith)
 
 -- ---- numbers said and numbers of entries
-numbers-are : (f : ℕ → ℕ) (vs : List Said) (es : List Entry) → Spelt f vs es → numbersAs f vs ≡ numbersFrom es
+numbers-are : (f : ℕ → ℕ) (vs : List Token) (es : List Entry) → Spelt f vs es → numbersAs f vs ≡ numbersFrom es
 unfolding numbersAs numbersFrom
 numbers-are f vs es e =
     let c : length vs ≡ length es = sym (length-map vs (numberAs f)) ∙ ap length e ∙ length-map es numberOf in
@@ -48,7 +48,7 @@ numbers-are f vs es e =
     let m = sym (map-map natAbs (numberAs f) vs) ∙ ap (map natAbs) e ∙ map-map natAbs numberOf es in
     λ i. record { count = c i; negative = pad 24 false (n i); magnitude = pad 24 0 (m i) }
 
-empty-spelt : (f : ℕ → ℕ) (vs : List Said) → Fits [] vs → Spelt f vs []
+empty-spelt : (f : ℕ → ℕ) (vs : List Token) → Fits [] vs → Spelt f vs []
 empty-spelt f [] h = refl
 empty-spelt f (v ∷ vs) h = absurd h
 
@@ -62,7 +62,7 @@ pub record LineMade (n : ℕ) (line : List ℕ) : Type 0 where
   pub makes : (f : ℕ → ℕ) → Bounded n f → madeOf f line ≡ built.Instruction (made f)
   pub inside : (f : ℕ → ℕ) → Bounded n f → Inside (entries (made f))
 
-module _ (n : ℕ) (line : List ℕ) (i : Instruction) (vs : List Said) (l : lineOf line ≡ says vs) where
+module _ (n : ℕ) (line : List ℕ) (i : Instruction) (vs : List Token) (l : lineOf line ≡ says vs) where
   made-as : (f : ℕ → ℕ) (j : Instruction) → Spelt f vs (entries j) → Inside (entries j) → madeOf f line ≡ built.Instruction j
   unfolding madeOf formOf
   made-as f j s g = ap (madeAs f) l ∙ ap (λ ns. buildOf ns 0) (numbers-are f vs (formOf j) s) ∙ build-numbers j g

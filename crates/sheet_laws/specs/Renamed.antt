@@ -41,22 +41,22 @@ use Rattle.isa.specs.declared.VectorOperation.the-variants.{TRAP, BKPT}
 use Rattle.isa.specs.declared.StatusOperation.the-variants.{ANDItoSR, ORItoSR, EORItoSR, STOP}
 use Rattle.isa.specs.declared.ConditionCodeOperation.the-variants.{ANDItoCCR, ORItoCCR, EORItoCCR}
 use Rattle.isa.specs.declared.RawOperation.the-variants.{LINEA, LINEF, IllegalWord}
-use Rattle.isa.specs.declared.PlainOperation.the-variants.{RTE, RESET, RTR, TRAPV, ILLEGAL, RTS, NOP, SIMHALT}
+use Rattle.isa.specs.declared.NoOperandOperation.the-variants.{RTE, RESET, RTR, TRAPV, ILLEGAL, RTS, NOP, SIMHALT}
 use Rattle.isa.specs.declared.PackOperation.the-variants.{PACK, UNPK}
 use Rattle.isa.specs.declared.Instruction.{Instruction}
-use Rattle.isa.specs.declared.Instruction.the-variants.{IntoRegister, MOVEM, Transfer, Pair, Quick, MOVEQ, ImmediateInto, WordIntoData, SWAP, EXG, UnsizedIntoRegister, UnsizedOne, UnsizedPair, EXT, OneOperand, Bcc, Scc, DBcc, Branch, Link, UNLK, Shift, Vector, Status, ConditionCode, MOVEUSP, Raw, Plain, RTD, MOVEC, TRAPcc, MULL, Pack, CAS, CAS2, BF, DIVL}
+use Rattle.isa.specs.declared.Instruction.the-variants.{IntoRegister, MOVEM, Transfer, Pair, Quick, MOVEQ, ImmediateInto, WordIntoData, SWAP, EXG, UnsizedIntoRegister, UnsizedOne, UnsizedPair, EXT, OneOperand, Bcc, Scc, DBcc, Branch, Link, UNLK, Shift, Vector, Status, ConditionCode, MOVEUSP, Raw, NoOperand, RTD, MOVEC, TRAPcc, MULL, Pack, CAS, CAS2, BF, DIVL}
 use Rattle.encode_spec.specs.Encode.{sizeOf}
 use Rattle.numeric_fields.specs.Form.{Entry, unsigned, signed, Inside, flagPlace, sizePlace, targetDirectionPlace, addressWidthPlace, conditionPlace, branchSizePlace, shiftDirectionPlace, signPlace, bitFieldOperationPlace, registerForm, fieldValueForm, trapOperandForm, registerChoiceForm, operandForm}
 use Rattle.numeric_build.specs.Form.{placeOf, fieldsOf}
 use Rattle.sheet_spec.specs.declared.Kind.{Kind}
 use Rattle.sheet_spec.specs.declared.Kind.the-variants as kind
 use Rattle.sheet_spec.specs.Grammar as grammar
-use Rattle.sheet_spec.specs.Line.{Said, plainly}
+use Rattle.sheet_spec.specs.Line.{Token, literal}
 use Rattle.sheet_spec.specs.Spell.{Variant}
-use Rattle.read_operand_laws.specs.Stands.{Typed, Fits32}
+use Rattle.read_operand_laws.specs.Stands.{InTypes, Fits32}
 use Rattle.read_spec.specs.Plain as plain
 use Rattle.read_spec.specs.LeftOut.{leftOut}
-use Rattle.read_laws.specs.Statements.{TypedTrap, TypedInstruction}
+use Rattle.read_laws.specs.Statements.{TrapInTypes, InstructionInTypes}
 use Rattle.sheet_spec.specs.Follow as follow
 use Rattle.sheet_spec.specs.Follow.{Next, nextOf}
 use Rattle.sheet_laws.specs.Turned.{Input, Turned, Simple, Sort, _⊗_, none, one, number, target, place, chosen, Enum, variant, enum}
@@ -124,7 +124,7 @@ choice =
 
 abbrev trapped : {n : ℕ} → Sort n TrapOperand
 trapped =
-    let e : Enum TrapOperand = record { form = trapOperandForm; kind = kind.TrapOperand; suits = λ v q. q; top = 2; Holds = TypedTrap; bare = λ x. x } in
+    let e : Enum TrapOperand = record { form = trapOperandForm; kind = kind.TrapOperand; suits = λ v q. q; top = 2; Holds = TrapInTypes; bare = λ x. x } in
     enum e (λ x. elim x [ trap.None ↦ variant e 0 none (λ w. trap.None) tt (λ w. refl) (λ h. tt) | trap.Word m ↦ variant e 1 word trap.Word m (λ w. refl) (λ h. h) | trap.Long m ↦ variant e 2 long trap.Long m (λ w. refl) (λ h. h) ])
 
 abbrev indexed : RegisterOperand × Size → IndexRegister
@@ -132,7 +132,7 @@ indexed w = record { register = w .0; size = w .1 }
 
 abbrev operand : {n : ℕ} → Sort n Operand
 operand =
-    let e : Enum Operand = record { form = operandForm; kind = kind.Operand; suits = λ v q. q; top = 10; Holds = Typed; bare = bare } in
+    let e : Enum Operand = record { form = operandForm; kind = kind.Operand; suits = λ v q. q; top = 10; Holds = InTypes; bare = bare } in
     enum e (λ x. elim x [
       | Immediate v ↦ variant e 0 long Immediate v (λ w. refl) (λ h. tt)
       | Register r ↦ variant e 1 register Register r (λ w. refl) (λ h. tt)
@@ -150,11 +150,11 @@ operand =
 -- ---- the instructions of a shape: the sort of their fields, their constructor, and the fields of one of them, which has a name
 module _ {n : ℕ} {Z : Type 0} (s : Sort n Z) (con : Z → Instruction) (z : Z) where
   abbrev Spoken : Type 0
-  Spoken = Variant kind.Instruction (plainly false (placeOf (con z)))
+  Spoken = Variant kind.Instruction (literal false (placeOf (con z)))
 
   abbrev Made : Type 0
   Made =
-      (vs : List Said) → Input n (kind.Instruction ∷ []) vs (unsigned 98 (placeOf (con z)) ∷ (s .form z ++ [])) → Inside (unsigned 98 (placeOf (con z)) ∷ s .form z)
+      (vs : List Token) → Input n (kind.Instruction ∷ []) vs (unsigned 98 (placeOf (con z)) ∷ (s .form z ++ [])) → Inside (unsigned 98 (placeOf (con z)) ∷ s .form z)
       → Turned n Instruction entries (Follows n (con z)) [] vs []
 
   -- their grammar, their form, and where their plain form goes
@@ -169,7 +169,7 @@ module _ {n : ℕ} {Z : Type 0} (s : Sort n Z) (con : Z → Instruction) (z : Z)
 
   -- their size without targets, and their types
   abbrev Kept : Type 0
-  Kept = (w : Z) → (sizeOf (con (s .bare w)) ≡ sizeOf (con w)) × (s .Holds w → TypedInstruction (con w))
+  Kept = (w : Z) → (sizeOf (con (s .bare w)) ≡ sizeOf (con w)) × (s .Holds w → InstructionInTypes (con w))
 
   shape : (Spoken → (w : Z) → (known w ≡ told w) × ((a : ℕ) → a % 2 ≡ 0 → follow.target (nextOf (con w)) % 2 ≡ 0 → leftOut (con w) a ≡ false))
       → (Spoken → (y : (ℕ → ℕ) → Z) → s .Aims y → Goes n (λ f. con (y f))) → Kept → Made
@@ -190,7 +190,7 @@ module _ {n : ℕ} {Z : Type 0} (s : Sort n Z) (con : Z → Instruction) (z : Z)
   still : (Spoken → (w : Z) → _≡_ {A = Known × (ℕ → Bool) × Bool} (known w, leftOut (con w), quiet (nextOf (con w))) (told w, λ a. false, true)) → Kept → Made
   still law = shape (λ l w. (ap (λ t. t .0) (law l w), λ a e t. ap (λ t. t .1 a) (law l w))) (λ l y a. quietly (λ f. ap (λ t. t .2) (law l (y f))))
 
-pub instruction-turned : {n : ℕ} (i : Instruction) (vs : List Said) → Input n (kind.Instruction ∷ []) vs (entries i ++ []) → Inside (entries i) → Turned n Instruction entries (Follows n i) [] vs []
+pub instruction-turned : {n : ℕ} (i : Instruction) (vs : List Token) → Input n (kind.Instruction ∷ []) vs (entries i ++ []) → Inside (entries i) → Turned n Instruction entries (Follows n i) [] vs []
 instruction-turned (IntoRegister op o r s) =
     still (operand ⊗ register ⊗ size) (λ w. IntoRegister op (w .0 .0) (w .0 .1) (w .1)) ((o, r), s)
     (λ l w. elim op [ ADDA ↦ refl | SUBA ↦ refl | CMPA ↦ refl | MOVEA ↦ refl | CMP ↦ refl | CHK2 ↦ refl | CMP2 ↦ refl ]) (λ w. (bare-size sizes.into-register _, λ h. h .0 .0))
@@ -249,8 +249,8 @@ instruction-turned (ConditionCode op v) =
 instruction-turned (MOVEUSP b r) = still (flag ⊗ register) (λ w. MOVEUSP (w .0) (w .1)) (b, r) (λ l w. refl) (λ w. (refl, λ h. tt))
 instruction-turned (Raw op v) =
     still word (λ w. Raw op w) v (elim op [ LINEA ↦ λ l w. refl | LINEF ↦ λ l w. refl | IllegalWord ↦ λ l w. absurd (omega (arith, l .1)) ]) (λ w. (refl, λ h. h))
-instruction-turned (Plain op) =
-    still none (λ w. Plain op) tt
+instruction-turned (NoOperand op) =
+    still none (λ w. NoOperand op) tt
     (elim op [ RTE ↦ λ l w. refl | RESET ↦ λ l w. refl | RTR ↦ λ l w. refl | TRAPV ↦ λ l w. refl | ILLEGAL ↦ λ l w. refl | RTS ↦ λ l w. refl | NOP ↦ λ l w. refl | SIMHALT ↦ λ l w. absurd (omega (arith, l .1)) ]) (λ w. (refl, λ h. tt))
 instruction-turned (RTD v) = still long (λ w. RTD w) v (λ l w. refl) (λ w. (refl, λ h. h))
 instruction-turned (MOVEC b v r) = still (flag ⊗ word ⊗ register) (λ w. MOVEC (w .0 .0) (w .0 .1) (w .1)) ((b, v), r) (λ l w. refl) (λ w. (refl, λ h. tt))

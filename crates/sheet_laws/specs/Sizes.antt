@@ -1,7 +1,7 @@
 -- The size of an instruction does not depend on its targets.
 use Prim.Native.Nat.{ℕ, _*_}
 use mathlib.Core.Path.{_≡_, refl, ap, ap₂}
-use mathlib.Core.Bool.{Bool, true, false, not}
+use mathlib.Core.Bool.{Bool, true, false, not, cond}
 use mathlib.Core.List.{List, _∷_, _++_}
 use lib.ListN.{length, length-append}
 use Rattle.isa.specs.declared.Measured.{Measured}
@@ -24,7 +24,6 @@ use Rattle.isa.specs.declared.PackOperation.the-variants.{PACK, UNPK}
 use Rattle.isa.specs.declared.Instruction.{Instruction}
 use Rattle.isa.specs.declared.Instruction.the-variants.{IntoRegister, MOVEM, Transfer, Pair, Quick, ImmediateInto, WordIntoData, UnsizedIntoRegister, UnsizedOne, UnsizedPair, OneOperand, Bcc, Scc, DBcc, Branch, Shift, MULL, Pack, CAS, BF, DIVL}
 use Rattle.encode_spec.specs.Item.{Item, Part, failure, wordsIn, laid, check, fine, operation, allow}
-use Rattle.isa.specs.ExtensionWord.{pick}
 use Rattle.isa.specs.Code.{moveCode}
 use Rattle.encode_spec.specs.Encode.{measuredAs, sizeOf}
 use Rattle.encode_spec.specs.Ea.{everyMode, permits, byteOfAddress, eaField, effective, isRegister, isImmediate, typed, single, withData, withAddress, fromData}
@@ -92,7 +91,7 @@ behind xs ys zs e k =
 
 -- two values either way of a test
 either : {A B : Type 0} (b : Bool) (F : A → B) {x y x₂ y₂ u v u₂ v₂ : A} → _≡_ {A = B × B} (F x, F x₂) (F u, F u₂) → _≡_ {A = B × B} (F y, F y₂) (F v, F v₂)
-    → _≡_ {A = B × B} (F (pick b x y), F (pick b x₂ y₂)) (F (pick b u v), F (pick b u₂ v₂))
+    → _≡_ {A = B × B} (F (cond b x y), F (cond b x₂ y₂)) (F (cond b u v), F (cond b u₂ v₂))
 either true F p q = p
 either false F p q = q
 

@@ -10,13 +10,13 @@ use Rattle.numeric_fields.specs.Form.{Entry, unsigned, numberOf, inside, Inside
 use Rattle.sheet_spec.specs.declared.Kind.{Kind}
 use Rattle.sheet_spec.specs.declared.Kind.the-variants as kind
 use Rattle.sheet_spec.specs.Grammar.{fieldsOf}
-use Rattle.sheet_spec.specs.Line.{Said, plainly, naming, nothing}
+use Rattle.sheet_spec.specs.Line.{Token, literal, label, invalid}
 use Rattle.sheet_spec.specs.Spell.{numberAs, Variant, Suits, Fits}
 use Rattle.sheet_spec.specs.Made.{names, namesAll}
 use Rattle.read_operand_laws.specs.Facts.{and-true, leb-is, leb-true}
 
 -- the entries' numbers are what the fields say
-abbrev pub Spelt : (ℕ → ℕ) → List Said → List Entry → Type 0
+abbrev pub Spelt : (ℕ → ℕ) → List Token → List Entry → Type 0
 Spelt f vs es = map (numberAs f) vs ≡ map numberOf es
 
 head-is : {x y : ℤ} {xs ys : List ℤ} → x ∷ xs ≡ y ∷ ys → x ≡ y
@@ -38,14 +38,14 @@ abbrev pub Bounded : ℕ → (ℕ → ℕ) → Type 0
 Bounded n f = (k : ℕ) → 1 ≤ k → k ≤ n → f k < 2 ^ 32
 
 -- fields in the grammar that name lines, and the entries that they spell where names are 0
-pub record Input (n : ℕ) (ks : List Kind) (vs : List Said) (es : List Entry) : Type 0 where
+pub record Input (n : ℕ) (ks : List Kind) (vs : List Token) (es : List Entry) : Type 0 where
   pub fits : Fits ks vs
   pub named : namesAll n vs ≡ true
   pub zeros : Spelt (λ k. 0) vs es
 
 -- a value in front, whatever names are made, and what is left of the fields
-pub record Turned (n : ℕ) (X : Type 0) (form : X → List Entry) (P : ((ℕ → ℕ) → X) → Type 0) (ks : List Kind) (vs : List Said) (es : List Entry) : Type 0 where
-  pub rest : List Said
+pub record Turned (n : ℕ) (X : Type 0) (form : X → List Entry) (P : ((ℕ → ℕ) → X) → Type 0) (ks : List Kind) (vs : List Token) (es : List Entry) : Type 0 where
+  pub rest : List Token
   pub left : Input n ks rest es
   pub made : (ℕ → ℕ) → X
   pub good : P made
@@ -55,7 +55,7 @@ pub record Turned (n : ℕ) (X : Type 0) (form : X → List Entry) (P : ((ℕ �
 -- fields of these kinds that spell x make values that are x but for the targets, of which something is known
 abbrev pub Turn : (n : ℕ) {X : Type 0} → (X → List Entry) → List Kind → (X → X) → (((ℕ → ℕ) → X) → Type 0) → X → Type 0
 Turn n {X} form kinds bare Aims x =
-    (ks : List Kind) (vs : List Said) (es : List Entry) → Input n (kinds ++ ks) vs (form x ++ es) → Inside (form x)
+    (ks : List Kind) (vs : List Token) (es : List Entry) → Input n (kinds ++ ks) vs (form x ++ es) → Inside (form x)
     → Turned n X form (λ y. ((f : ℕ → ℕ) → bare (y f) ≡ bare x) × Aims y) ks vs es
 
 -- A sort of values: their form and the kinds of its fields, what holds of a value inside its types, a value without its targets,
@@ -109,12 +109,12 @@ s ⊗ t = record {
 }
 
 -- ---- one field: a number or a variant without fields
-same-number : (f : ℕ → ℕ) (b : Bool) (m : ℕ) → numberAs f (plainly b m) ≡ numberAs (λ k. 0) (plainly b m)
+same-number : (f : ℕ → ℕ) (b : Bool) (m : ℕ) → numberAs f (literal b m) ≡ numberAs (λ k. 0) (literal b m)
 same-number f true m = refl
 same-number f false m = refl
 
-said-turned : {n : ℕ} {X : Type 0} {P : ((ℕ → ℕ) → X) → Type 0} (e : X → Entry) (x : X) → P (λ f. x) → (k : Kind) (b : Bool) (m : ℕ) → fieldsOf k m ≡ [] → (ks : List Kind) (vs : List Said) (es : List Entry)
-    → Input n (k ∷ ks) (plainly b m ∷ vs) (e x ∷ es) → Inside (e x ∷ []) → Turned n X (λ z. e z ∷ []) P ks (plainly b m ∷ vs) es
+said-turned : {n : ℕ} {X : Type 0} {P : ((ℕ → ℕ) → X) → Type 0} (e : X → Entry) (x : X) → P (λ f. x) → (k : Kind) (b : Bool) (m : ℕ) → fieldsOf k m ≡ [] → (ks : List Kind) (vs : List Token) (es : List Entry)
+    → Input n (k ∷ ks) (literal b m ∷ vs) (e x ∷ es) → Inside (e x ∷ []) → Turned n X (λ z. e z ∷ []) P ks (literal b m ∷ vs) es
 said-turned e x p k b m c ks vs es h i =
     record {
       rest = vs;
@@ -127,13 +127,13 @@ said-turned e x p k b m c ks vs es h i =
 
 -- a kind whose fields say numbers that no fields follow
 abbrev pub Simple : Kind → Type 0
-Simple k = (m : ℕ) → (fieldsOf k m ≡ []) × (Suits k (naming m) → ⊥) × (Suits k nothing → ⊥)
+Simple k = (m : ℕ) → (fieldsOf k m ≡ []) × (Suits k (label m) → ⊥) × (Suits k invalid → ⊥)
 
 pub plain-turned : {n : ℕ} {X : Type 0} (k : Kind) → Simple k → (e : X → Entry) (x : X) → Turn n (λ z. e z ∷ []) (k ∷ []) (λ z. z) (λ y. Unit {0}) x
 plain-turned k s e x ks [] es h i = absurd (h .fits)
-plain-turned k s e x ks (plainly b m ∷ vs) es h i = said-turned e x (λ f. refl, tt) k b m (s m .0) ks vs es h i
-plain-turned k s e x ks (naming m ∷ vs) es h i = absurd (s m .1 (h .fits .0))
-plain-turned k s e x ks (nothing ∷ vs) es h i = absurd (s 0 .2 (h .fits .0))
+plain-turned k s e x ks (literal b m ∷ vs) es h i = said-turned e x (λ f. refl, tt) k b m (s m .0) ks vs es h i
+plain-turned k s e x ks (label m ∷ vs) es h i = absurd (s m .1 (h .fits .0))
+plain-turned k s e x ks (invalid ∷ vs) es h i = absurd (s 0 .2 (h .fits .0))
 
 abbrev pub one : {n : ℕ} {X : Type 0} (k : Kind) → Simple k → (e : X → Entry) (H : X → Type 0) → ((x : X) → inside (e x) ≡ true → H x) → Sort n X
 one k s e H l = record { form = λ z. e z ∷ []; kinds = k ∷ []; Holds = H; holds = λ z h. l z (h .0); bare = λ z. z; Aims = λ y. Unit {0}; turn = plain-turned k s e }
@@ -145,12 +145,12 @@ number top = one kind.Number (λ m. (refl, λ h. h, λ h. h)) (λ z. unsigned to
 abbrev pub Aimed : ℕ → ((ℕ → ℕ) → ℕ) → Type 0
 Aimed n y = (m : ℕ) × (1 ≤ m) × (m ≤ n) × ((f : ℕ → ℕ) → y f ≡ f m)
 
-pub aim-turned : {n : ℕ} {A : ((ℕ → ℕ) → ℕ) → Type 0} (k : Kind) → ((m : ℕ) → fieldsOf k m ≡ []) → (Suits k nothing → ⊥)
-    → (x : ℕ) → ((b : Bool) (m : ℕ) → Suits k (plainly b m) → A (λ f. x)) → ((m : ℕ) → Aimed n (λ f. f m) → A (λ f. f m)) → Turn n longForm (k ∷ []) (λ x. 0) A x
+pub aim-turned : {n : ℕ} {A : ((ℕ → ℕ) → ℕ) → Type 0} (k : Kind) → ((m : ℕ) → fieldsOf k m ≡ []) → (Suits k invalid → ⊥)
+    → (x : ℕ) → ((b : Bool) (m : ℕ) → Suits k (literal b m) → A (λ f. x)) → ((m : ℕ) → Aimed n (λ f. f m) → A (λ f. f m)) → Turn n longForm (k ∷ []) (λ x. 0) A x
 aim-turned k s t x p q ks [] es h i = absurd (h .fits)
-aim-turned k s t x p q ks (plainly b m ∷ vs) es h i = said-turned (λ z. unsigned (2 ^ 32 - 1) z) x (λ f. refl, p b m (h .fits .0)) k b m (s m) ks vs es h i
-aim-turned {n} k s t x p q ks (naming m ∷ vs) es h i =
-    let g = and-true (names n (naming m)) (namesAll n vs) (h .named) in
+aim-turned k s t x p q ks (literal b m ∷ vs) es h i = said-turned (λ z. unsigned (2 ^ 32 - 1) z) x (λ f. refl, p b m (h .fits .0)) k b m (s m) ks vs es h i
+aim-turned {n} k s t x p q ks (label m ∷ vs) es h i =
+    let g = and-true (names n (label m)) (namesAll n vs) (h .named) in
     let u = and-true (leb 1 m) (leb m n) (g .0) in
     let l = leb-is 1 m (u .0) in
     let r = leb-is m n (u .1) in
@@ -162,7 +162,7 @@ aim-turned {n} k s t x p q ks (naming m ∷ vs) es h i =
       spells = λ f b us e. ap (λ (zs : List ℤ). pos (f m) ∷ zs) e;
       stays = λ f b. (leb-true (f m) (2 ^ 32 - 1) (omega (arith, b m l r)), tt);
     }
-aim-turned k s t x p q ks (nothing ∷ vs) es h i = absurd (t (h .fits .0))
+aim-turned k s t x p q ks (invalid ∷ vs) es h i = absurd (t (h .fits .0))
 
 abbrev aim : {n : ℕ} (k : Kind) (A : ((ℕ → ℕ) → ℕ) → Type 0) → ((x : ℕ) → Turn n longForm (k ∷ []) (λ x. 0) A x) → Sort n ℕ
 aim k A t = record { form = longForm; kinds = k ∷ []; Holds = λ x. x < 2 ^ 32; holds = λ x h. omega (arith, leb-is x (2 ^ 32 - 1) (h .0)); bare = λ x. 0; Aims = A; turn = t }
@@ -174,16 +174,16 @@ abbrev pub place : {n : ℕ} → Sort n ℕ
 place = aim kind.Place (λ y. Unit {0}) (λ x. aim-turned kind.Place (λ m. refl) (λ h. h) x (λ b m h. tt) (λ m a. tt))
 
 -- ---- a variant and its fields
-pub chosen : {n : ℕ} {X Z : Type 0} {form : X → List Entry} {P : ((ℕ → ℕ) → X) → Type 0} (k : Kind) → ((v : Said) → Suits k v → Variant k v) → (top p : ℕ) (s : Sort n Z) (con : Z → X) (z : Z)
-    → (Variant k (plainly false p) → (fieldsOf k p ≡ s .kinds) × ((w : Z) → form (con w) ≡ unsigned top p ∷ s .form w)
+pub chosen : {n : ℕ} {X Z : Type 0} {form : X → List Entry} {P : ((ℕ → ℕ) → X) → Type 0} (k : Kind) → ((v : Token) → Suits k v → Variant k v) → (top p : ℕ) (s : Sort n Z) (con : Z → X) (z : Z)
+    → (Variant k (literal false p) → (fieldsOf k p ≡ s .kinds) × ((w : Z) → form (con w) ≡ unsigned top p ∷ s .form w)
     × ((y : (ℕ → ℕ) → Z) → ((f : ℕ → ℕ) → s .bare (y f) ≡ s .bare z) → s .Aims y → P (λ f. con (y f))))
-    → (ks : List Kind) (vs : List Said) (es : List Entry) → Input n (k ∷ ks) vs (unsigned top p ∷ (s .form z ++ es)) → Inside (unsigned top p ∷ s .form z) → Turned n X form P ks vs es
+    → (ks : List Kind) (vs : List Token) (es : List Entry) → Input n (k ∷ ks) vs (unsigned top p ∷ (s .form z ++ es)) → Inside (unsigned top p ∷ s .form z) → Turned n X form P ks vs es
 chosen k v top p s con z l ks [] es h i = absurd (h .fits)
-chosen k v top p s con z l ks (plainly true m ∷ vs) es h i = absurd (v (plainly true m) (h .fits .0))
-chosen {n} k v top p s con z l ks (plainly false m ∷ vs) es h i =
+chosen k v top p s con z l ks (literal true m ∷ vs) es h i = absurd (v (literal true m) (h .fits .0))
+chosen {n} k v top p s con z l ks (literal false m ∷ vs) es h i =
     let e = h .zeros in
     let q : m ≡ p = cc in
-    let t = l (rw q at (v (plainly false m) (h .fits .0))) in
+    let t = l (rw q at (v (literal false m) (h .fits .0))) in
     let a = s .turn z ks vs es (record { fits = rw (q, t .0) at (h .fits .1); named = and-true true (namesAll n vs) (h .named) .1; zeros = tail-is e }) (i .1) in
     record {
       rest = a .rest;
@@ -193,14 +193,14 @@ chosen {n} k v top p s con z l ks (plainly false m ∷ vs) es h i =
       spells = λ f b us r. rw (t .1 (a .made f)) (λ j. head-is e j ∷ a .spells f b us r j);
       stays = λ f b. rw (t .1 (a .made f)) (i .0, a .stays f b);
     }
-chosen k v top p s con z l ks (naming m ∷ vs) es h i = absurd (v (naming m) (h .fits .0))
-chosen k v top p s con z l ks (nothing ∷ vs) es h i = absurd (v nothing (h .fits .0))
+chosen k v top p s con z l ks (label m ∷ vs) es h i = absurd (v (label m) (h .fits .0))
+chosen k v top p s con z l ks (invalid ∷ vs) es h i = absurd (v invalid (h .fits .0))
 
 -- an enum: its form, its kind and the place of its last variant, what holds of its values, and a value without its targets
 pub record Enum (X : Type 0) : Type 1 where
   pub form : X → List Entry
   pub kind : Kind
-  pub suits : (v : Said) → Suits kind v → Variant kind v
+  pub suits : (v : Token) → Suits kind v → Variant kind v
   pub top : ℕ
   pub Holds : X → Type 0
   pub bare : X → X

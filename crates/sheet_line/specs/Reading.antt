@@ -13,20 +13,20 @@ use Rattle.sheet_spec.specs.declared.Kind.the-variants as kind
 use Rattle.sheet_spec.specs.declared.Value.{Value}
 use Rattle.sheet_spec.specs.declared.Entries.{Entries}
 use Rattle.sheet_spec.specs.Grammar.{fieldsOf}
-use Rattle.sheet_spec.specs.Line.{Said, plainly, naming, nothing, said, Parsed, says, no, with, after, lineFrom, lineOf}
+use Rattle.sheet_spec.specs.Line.{Token, literal, label, invalid, token, Parsed, says, no, with, after, lineFrom, lineOf}
 use Rattle.sheet_spec.specs.Spell.{Suits}
 use Rattle.sheet_form_laws.specs.FieldForm.{spelled-said, suits-some}
 use Rattle.sheet_spec.specs.Entries.{valueOf, noEntries, entriesFrom, entriesOf}
 use Rattle.sheet_kinds.specs.Packed.{packed, kindAt}
 use Rattle.sheet_kinds.specs.Weight.{room, most, total, room-next, most-next, length-room}
-use Rattle.sheet_kinds.specs.Next.{nextOf}
+use Rattle.sheet_kinds.specs.Next.{kindsAfter}
 use Rattle.sheet_kinds.specs.NextLaws.{packed-first, packed-none, next-packed, packed-small}
 use Rattle.sheet_entries.specs.With.{withValue}
 use Rattle.sheet_entries.specs.WithLaws.{with-more}
-use Rattle.sheet_line.specs.Value.{isSaid, numberIn}
+use Rattle.sheet_line.specs.Value.{isSaid, variantPlace}
 
 -- vs said before the rest
-abbrev pub saidFirst : List Said → Parsed → Parsed
+abbrev pub saidFirst : List Token → Parsed → Parsed
 saidFirst vs (says ws) = says (vs ++ ws)
 saidFirst vs no = no
 
@@ -34,13 +34,13 @@ first-none : (p : Parsed) → saidFirst [] p ≡ p
 first-none (says vs) = refl
 first-none no = refl
 
-first-more : (vs : List Said) (v : Said) (p : Parsed) → saidFirst vs (with v p) ≡ saidFirst (vs ++ (v ∷ [])) p
+first-more : (vs : List Token) (v : Token) (p : Parsed) → saidFirst vs (with v p) ≡ saidFirst (vs ++ (v ∷ [])) p
 first-more vs v (says ws) = ap says (sym (append-snoc vs v ws))
 first-more vs v no = refl
 
 -- what is read before `from`, and the kinds to come
 pub record Reading (line : List ℕ) (e : Entries) (kinds from : ℕ) : Type 0 where
-  pub done : List Said
+  pub done : List Token
   pub ahead : List Kind
   pub entries : e ≡ entriesFrom done
   pub packs : kinds ≡ packed ahead
@@ -62,16 +62,16 @@ reading-start line e g =
     }
 
 -- what says something, and what says nothing
-is-said : (v : Said) → isSaid (valueOf v) ≡ true → v ≡ nothing → ⊥
-is-said v h e = false≢true (ap (λ (x : Said). isSaid (valueOf x)) (sym e) ∙ h)
+is-said : (v : Token) → isSaid (valueOf v) ≡ true → v ≡ invalid → ⊥
+is-said v h e = false≢true (ap (λ (x : Token). isSaid (valueOf x)) (sym e) ∙ h)
 
-not-said : (v : Said) → isSaid (valueOf v) ≡ false → v ≡ nothing
-not-said (plainly s n) h = absurd (false≢true (sym h))
-not-said (naming n) h = absurd (false≢true (sym h))
-not-said nothing h = refl
+not-said : (v : Token) → isSaid (valueOf v) ≡ false → v ≡ invalid
+not-said (literal s n) h = absurd (false≢true (sym h))
+not-said (label n) h = absurd (false≢true (sym h))
+not-said invalid h = refl
 
 -- a line's name has no fields
-name-last : (k : Kind) (n m : ℕ) → Suits k (naming n) → fieldsOf k m ≡ []
+name-last : (k : Kind) (n m : ℕ) → Suits k (label n) → fieldsOf k m ≡ []
 name-last kind.Number n m h = absurd h
 name-last kind.Target n m h = refl
 name-last kind.Place n m h = refl
@@ -90,19 +90,19 @@ name-last kind.RegisterChoice n m h = absurd h
 name-last kind.Operand n m h = absurd h
 name-last kind.Instruction n m h = absurd h
 
-said-on : (k : Kind) (ks : List Kind) (fs : List (List ℕ)) (v : Said) → Suits k v
-    → after v (λ n. lineFrom (fieldsOf k n ++ ks) fs) (lineFrom ks fs) ≡ with v (lineFrom (fieldsOf k (numberIn (valueOf v)) ++ ks) fs)
-said-on k ks fs (plainly s n) h = refl
-said-on k ks fs (naming n) h = ap (λ (ls : List Kind). with (naming n) (lineFrom (ls ++ ks) fs)) (sym (name-last k n 0 h))
-said-on k ks fs nothing h = absurd (suits-some k h)
+said-on : (k : Kind) (ks : List Kind) (fs : List (List ℕ)) (v : Token) → Suits k v
+    → after v (λ n. lineFrom (fieldsOf k n ++ ks) fs) (lineFrom ks fs) ≡ with v (lineFrom (fieldsOf k (variantPlace (valueOf v)) ++ ks) fs)
+said-on k ks fs (literal s n) h = refl
+said-on k ks fs (label n) h = ap (λ (ls : List Kind). with (label n) (lineFrom (ls ++ ks) fs)) (sym (name-last k n 0 h))
+said-on k ks fs invalid h = absurd (suits-some k h)
 
 -- one field more
 module _ (k : Kind) (ks : List Kind) (f : List ℕ) (fs : List (List ℕ)) where
-  from-none : isSaid (valueOf (said k f)) ≡ false → lineFrom (k ∷ ks) (f ∷ fs) ≡ no
-  from-none t = ap (λ (v : Said). after v (λ n. lineFrom (fieldsOf k n ++ ks) fs) (lineFrom ks fs)) (not-said (said k f) t)
+  from-none : isSaid (valueOf (token k f)) ≡ false → lineFrom (k ∷ ks) (f ∷ fs) ≡ no
+  from-none t = ap (λ (v : Token). after v (λ n. lineFrom (fieldsOf k n ++ ks) fs) (lineFrom ks fs)) (not-said (token k f) t)
 
-  from-on : isSaid (valueOf (said k f)) ≡ true → lineFrom (k ∷ ks) (f ∷ fs) ≡ with (said k f) (lineFrom (fieldsOf k (numberIn (valueOf (said k f))) ++ ks) fs)
-  from-on t = said-on k ks fs (said k f) (spelled-said k f (said k f) refl (is-said (said k f) t) .1)
+  from-on : isSaid (valueOf (token k f)) ≡ true → lineFrom (k ∷ ks) (f ∷ fs) ≡ with (token k f) (lineFrom (fieldsOf k (variantPlace (valueOf (token k f))) ++ ks) fs)
+  from-on t = said-on k ks fs (token k f) (spelled-said k f (token k f) refl (is-said (token k f) t) .1)
 
 module _ (line : List ℕ) (e : Entries) (kinds from : ℕ) (r : Reading line e kinds from) where
   refused : lineFrom (r .ahead) (partsFrom 9 line from) ≡ no → noEntries ≡ entriesOf (lineOf line)
@@ -136,19 +136,19 @@ module _ (line : List ℕ) (e : Entries) (kinds from : ℕ) (r : Reading line e 
             let q : kindAt (kinds % 32) ≡ k = ap (λ (n : ℕ). kindAt (n % 32)) (r .packs ∙ ap packed a) ∙ packed-first k ks in
             f ks (a ∙ ap (λ (x : Kind). x ∷ ks) (sym q))
 
-    pub next-fits : (n : ℕ) → nextOf kinds n < 2 ^ 64
+    pub next-fits : (n : ℕ) → kindsAfter kinds n < 2 ^ 64
     next-fits n =
         split (λ ks a.
         let k : Kind = kindAt (kinds % 32) in
         let fits : total room (k ∷ ks) ≤ 10 = rw a at (r .fits) in
         let next : List Kind = fieldsOf k n ++ ks in
         let p : packed next < 32 ^ 10 = packed-small 10 next (omega (arith, length-room next, room-next k ks n)) in
-        let z : nextOf kinds n ≡ packed next = ap (λ (x : ℕ). nextOf x n) (r .packs ∙ ap packed a) ∙ next-packed k ks n in
+        let z : kindsAfter kinds n ≡ packed next = ap (λ (x : ℕ). kindsAfter x n) (r .packs ∙ ap packed a) ∙ next-packed k ks n in
         omega arith)
 
     -- the next field, which ends at `end`: its kind and what it says
     module _ (end : ℕ) (h : from ≤ length line) (g : end ≡ partEnd 9 line from) (k : Kind) (q : k ≡ kindAt (kinds % 32)) (w : Value)
-        (i : w ≡ valueOf (said k (take (end - from) (drop from line)))) where
+        (i : w ≡ valueOf (token k (take (end - from) (drop from line)))) where
       abbrev f : List ℕ
       f = take (end - from) (drop from line)
 
@@ -161,11 +161,11 @@ module _ (line : List ℕ) (e : Entries) (kinds from : ℕ) (r : Reading line e 
       pub reading-none : isSaid w ≡ false → noEntries ≡ entriesOf (lineOf line)
       reading-none t = split (λ ks a. refused (rw (a, ← q, parts-on) (from-none k ks f rest (rw i at t))))
 
-      pub reading-on : isSaid w ≡ true → Reading line (withValue e w) (nextOf kinds (numberIn w)) (end + 1)
+      pub reading-on : isSaid w ≡ true → Reading line (withValue e w) (kindsAfter kinds (variantPlace w)) (end + 1)
       reading-on t =
           split (λ ks a.
-          let v : Said = said k f in
-          let n : ℕ = numberIn (valueOf v) in
+          let v : Token = token k f in
+          let n : ℕ = variantPlace (valueOf v) in
           let some-said : isSaid (valueOf v) ≡ true = rw i at t in
           let b : r .ahead ≡ k ∷ ks = a ∙ ap (λ (x : Kind). x ∷ ks) (sym q) in
           let fits : total room (k ∷ ks) ≤ 10 = rw b at (r .fits) in
@@ -175,7 +175,7 @@ module _ (line : List ℕ) (e : Entries) (kinds from : ℕ) (r : Reading line e 
             done = r .done ++ (v ∷ []);
             ahead = fieldsOf k n ++ ks;
             entries = ap (λ (x : Entries). withValue x (valueOf v)) (r .entries) ∙ with-more (r .done) v (omega (arith, most-next k ks n)) (is-said v some-said);
-            packs = ap (λ (x : ℕ). nextOf x n) (r .packs ∙ ap packed b) ∙ next-packed k ks n;
+            packs = ap (λ (x : ℕ). kindsAfter x n) (r .packs ∙ ap packed b) ∙ next-packed k ks n;
             fits = omega (arith, room-next k ks n);
             few = rw length-append (omega (arith, most-next k ks n));
             whole = r .whole ∙ rw (b, parts-on) (ap (saidFirst (r .done)) (from-on k ks f rest some-said)) ∙ first-more (r .done) v (lineFrom (fieldsOf k n ++ ks) rest);

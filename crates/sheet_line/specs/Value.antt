@@ -10,7 +10,7 @@ isSaid (value.Line n) = true
 isSaid value.None = false
 
 -- the place that a variant's name says; the kind of a line's name has no fields
-abbrev pub numberIn : Value → ℕ
-numberIn (value.Number negative n) = n
-numberIn (value.Line n) = 0
-numberIn value.None = 0
+abbrev pub variantPlace : Value → ℕ
+variantPlace (value.Number negative n) = n
+variantPlace (value.Line n) = 0
+variantPlace value.None = 0

@@ -2,7 +2,7 @@
 ghost use mathlib.Core.Path.{_≡_};
 ghost use Rattle.sheet_spec.specs.Line.{lineOf};
 ghost use Rattle.sheet_spec.specs.Entries.{entriesOf};
-ghost use Rattle.sheet_line.specs.Value.{isSaid, numberIn};
+ghost use Rattle.sheet_line.specs.Value.{isSaid, variantPlace};
 use sheet_spec::Entries;
 use sheet_spec::Value;
 
@@ -21,7 +21,7 @@ fn says(v: Value) -> bool
 
 // The place that a variant's name says; 0 of a line's name, whose kind has no fields.
 fn number_in(v: Value) -> u64
-    ensures { λ r. ⌜ r ≡ numberIn v ⌝ }
+    ensures { λ r. ⌜ r ≡ variantPlace v ⌝ }
 {
     match v {
         Value::Number {

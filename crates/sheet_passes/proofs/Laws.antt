@@ -24,7 +24,7 @@ use Rattle.sheet_entries.specs.Made.{madeWith, namesLines}
 use Rattle.sheet_entries.specs.MadeLaws.{made-line, made-unaddressed, names-in}
 use Rattle.base_text.specs.LinesLaws.{lines-next}
 use Rattle.sheet_spec.specs.Sheet.{sizedAs, sizedOf, counted, total, addressesFrom, encodedLine, lineEncoded}
-use Rattle.sheet_spec.specs.Translate.{orElse, asVerdict, sizesVerdict, rangesVerdict, lineWords, imageFrom, over}
+use Rattle.sheet_spec.specs.Translate.{andThen, asOutcome, sizesOutcome, rangesOutcome, lineWords, imageFrom, over}
 use Rattle.sheet_passes.specs.declared.Passed.{Passed}
 use Rattle.sheet_passes.specs.Passes.{linesAt, passedOf, filledOf, Placed, rangesAt, imageAt}
 use Rattle.sheet_passes.specs.PassLaws.{counted-most, words-length, line-most}
@@ -78,7 +78,7 @@ module _ (text : List ℕ) (from n start : ℕ) (lent : List ℕ) where
   pub record Measuring (next k words : ℕ) (scratch : List ℕ) : Type 0 where
     pub left : n ≡ k + length (linesAt text next)
     pub few : words ≤ 11 * k
-    pub verdict : sizesVerdict n 1 (linesAt text from) ≡ sizesVerdict n (suc k) (linesAt text next)
+    pub verdict : sizesOutcome n 1 (linesAt text from) ≡ sizesOutcome n (suc k) (linesAt text next)
     pub counts : total n (linesAt text from) ≡ words + total n (linesAt text next)
     pub written : List ℕ
     pub filled : filledOf n start (linesAt text from) ≡ written ++ filledOf n (start + 2 * words) (linesAt text next)
@@ -101,7 +101,7 @@ module _ (text : List ℕ) (from n start : ℕ) (lent : List ℕ) where
 
   abbrev pub Measured-all : Passed → List ℕ → Type 0
   Measured-all r scratch =
-      (r ≡ passedOf (sizesVerdict n 1 (linesAt text from)) (total n (linesAt text from))) × (scratch ≡ over (filledOf n start (linesAt text from)) lent)
+      (r ≡ passedOf (sizesOutcome n 1 (linesAt text from)) (total n (linesAt text from))) × (scratch ≡ over (filledOf n start (linesAt text from)) lent)
 
   module _ {next k words : ℕ} {scratch : List ℕ} (s : Measuring next k words scratch) where
     pub measuring-end : length text ≤ next → Measured-all (record { number = 0; line = 0; detail = 0; value = pos 0; words = words }) scratch
@@ -123,8 +123,8 @@ module _ (text : List ℕ) (from n start : ℕ) (lent : List ℕ) where
       measuring-few : m .size / 2 ≤ 11
       measuring-few = omega (arith, counts-here, counted-most n (lineTo text next e))
 
-      verdict-here : sizesVerdict n 1 (linesAt text from)
-          ≡ orElse (asVerdict (suc k) (m .number) (m .detail) (m .value)) (sizesVerdict n (suc (suc k)) (linesAt text (e + 1)))
+      verdict-here : sizesOutcome n 1 (linesAt text from)
+          ≡ andThen (asOutcome (suc k) (m .number) (m .detail) (m .value)) (sizesOutcome n (suc (suc k)) (linesAt text (e + 1)))
       verdict-here = s .verdict ∙ rw (lines, is)
 
       filled-here : filledOf n start (linesAt text from)
@@ -179,7 +179,7 @@ module _ (text : List ℕ) (from : ℕ) (addresses : List ℕ) where
   pub record Ranging (next k : ℕ) : Type 0 where
     pub address : ℕ
     pub left : drop k addresses ≡ addressesFrom (length (linesAt text from)) address (linesAt text next)
-    pub verdict : rangesAt addresses (linesAt text from) ≡ rangesVerdict addresses (length (linesAt text from)) (suc k) address (linesAt text next)
+    pub verdict : rangesAt addresses (linesAt text from) ≡ rangesOutcome addresses (length (linesAt text from)) (suc k) address (linesAt text next)
 
   pub ranging : Placed addresses (linesAt text from) → Ranging from 0
   ranging p = record { address = getD addresses 0 0; left = p .each; verdict = refl }
@@ -193,7 +193,7 @@ module _ (text : List ℕ) (from : ℕ) (addresses : List ℕ) where
       n = length (linesAt text from)
 
       ranging-here : rangesAt addresses (linesAt text from)
-          ≡ orElse (asVerdict (suc k) (r .number) (r .detail) (r .value)) (rangesVerdict addresses n (suc (suc k)) (s .address + 2 * counted n (lineTo text next e)) (linesAt text (e + 1)))
+          ≡ andThen (asOutcome (suc k) (r .number) (r .detail) (r .value)) (rangesOutcome addresses n (suc (suc k)) (s .address + 2 * counted n (lineTo text next e)) (linesAt text (e + 1)))
       ranging-here = s .verdict ∙ rw (lines-next text next e h g, place-encoded text addresses n next k (s .address) (s .left) e h g r is)
 
       pub ranging-stop : (r .number ≡ 0 → ⊥)

@@ -19,7 +19,7 @@ use Rattle.read_operand_laws.specs.Facts.{words-count, eqb-eq}
 use Rattle.m68k.specs.Lays.{instruction-lays}
 use Rattle.m68k.specs.Laws.{places-law, encode-most}
 use Rattle.sheet_spec.specs.Sheet.{sizedAs, sizedOf, counted, total, addressesFrom, encodedLine, lineEncoded}
-use Rattle.sheet_spec.specs.Translate.{Verdict, fine, refused, orElse, asVerdict, sizesVerdict, lineWords}
+use Rattle.sheet_spec.specs.Translate.{Outcome, passed, refused, andThen, asOutcome, sizesOutcome, lineWords}
 use Rattle.sheet_passes.specs.Passes.{filledOf}
 
 -- ---- an encoded line has eleven places, and so many words count
@@ -91,21 +91,21 @@ module _ (n : ℕ) where
   total-most (l ∷ ls) = omega (arith, counted-most l, total-most ls)
 
 -- ---- the scratch of a sheet whose lines are not refused, and which ends in time, holds the addresses
-refused-not : {C : Type 0} {number line detail : ℕ} {value : ℤ} → refused number line detail value ≡ fine → C
+refused-not : {C : Type 0} {number line detail : ℕ} {value : ℤ} → refused number line detail value ≡ passed → C
 refused-not e = let z : _≡_ {A = ℕ} 0 1 = cc in absurd (omega arith)
 
-first-fine : (k number detail : ℕ) (value : ℤ) (v : Verdict) → orElse (asVerdict k number detail value) v ≡ fine → (number ≡ 0) × (v ≡ fine)
+first-fine : (k number detail : ℕ) (value : ℤ) (v : Outcome) → andThen (asOutcome k number detail value) v ≡ passed → (number ≡ 0) × (v ≡ passed)
 first-fine k number detail value v e = go (eqb number 0) refl e
   where
-    go : (t : Bool) → eqb number 0 ≡ t → orElse (cond t fine (refused number k detail value)) v ≡ fine → (number ≡ 0) × (v ≡ fine)
+    go : (t : Bool) → eqb number 0 ≡ t → andThen (cond t passed (refused number k detail value)) v ≡ passed → (number ≡ 0) × (v ≡ passed)
     go true h e = (eqb-eq number 0 h, e)
     go false h e = refused-not e
 
-pub filled-addresses : (n k a : ℕ) (ls : List (List ℕ)) → sizesVerdict n k ls ≡ fine → a + 2 * total n ls ≤ 2 ^ 32
+pub filled-addresses : (n k a : ℕ) (ls : List (List ℕ)) → sizesOutcome n k ls ≡ passed → a + 2 * total n ls ≤ 2 ^ 32
     → filledOf n a ls ≡ addressesFrom n a ls
 filled-addresses n k a [] e h = refl
 filled-addresses n k a (l ∷ ls) e h =
-    let f = first-fine k (sizedOf n l .number) (sizedOf n l .detail) (sizedOf n l .value) (sizesVerdict n (suc k) ls) e in
+    let f = first-fine k (sizedOf n l .number) (sizedOf n l .detail) (sizedOf n l .value) (sizesOutcome n (suc k) ls) e in
     let low : a % 2 ^ 32 ≡ a = omega (arith, counted-least n l (f .0)) in
     let rest = filled-addresses n (suc k) (a + 2 * counted n l) ls (f .1) (omega arith) in
     rw (eq-eqb (sizedOf n l .number) 0 (f .0), low, rest)

@@ -8,7 +8,7 @@ use lib.IntN.{pos}
 use lib.ListN.{length, drop, getD}
 use Rattle.base_text.specs.Lines.{linesOf}
 use Rattle.sheet_spec.specs.Sheet.{sizedOf, counted, addressesFrom}
-use Rattle.sheet_spec.specs.Translate.{Verdict, fine, refused, rangesVerdict, imageFrom}
+use Rattle.sheet_spec.specs.Translate.{Outcome, passed, refused, rangesOutcome, imageFrom}
 use Rattle.sheet_passes.specs.declared.Passed.{Passed}
 
 -- the lines of a text from a place on
@@ -16,8 +16,8 @@ abbrev pub linesAt : List ℕ → ℕ → List (List ℕ)
 linesAt text from = linesOf (drop from text)
 
 -- the words that were counted, or the refusal
-abbrev pub passedOf : Verdict → ℕ → Passed
-passedOf fine words = record { number = 0; line = 0; detail = 0; value = pos 0; words = words }
+abbrev pub passedOf : Outcome → ℕ → Passed
+passedOf passed words = record { number = 0; line = 0; detail = 0; value = pos 0; words = words }
 passedOf (refused number line detail value) words = record { number = number; line = line; detail = detail; value = value; words = 0 }
 
 -- the low 32 bits of the addresses of the lines before the first that is refused
@@ -31,8 +31,8 @@ pub record Placed (addresses : List ℕ) (ls : List (List ℕ)) : Type 0 where
   pub each : addresses ≡ addressesFrom (length ls) (getD addresses 0 0) ls
 
 -- the lines encoded at these addresses: the first refusal, and the words
-abbrev pub rangesAt : List ℕ → List (List ℕ) → Verdict
-rangesAt addresses ls = rangesVerdict addresses (length ls) 1 (getD addresses 0 0) ls
+abbrev pub rangesAt : List ℕ → List (List ℕ) → Outcome
+rangesAt addresses ls = rangesOutcome addresses (length ls) 1 (getD addresses 0 0) ls
 
 abbrev pub imageAt : List ℕ → List (List ℕ) → List ℕ
 imageAt addresses ls = imageFrom addresses (length ls) (getD addresses 0 0) ls

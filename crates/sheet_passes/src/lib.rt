@@ -2,8 +2,8 @@
 ghost use mathlib.Core.Path.{_≡_};
 ghost use Prim.Native.Nat.{_≤_};
 ghost use lib.ListN.{length, take};
-ghost use Rattle.sheet_spec.specs.Sheet.{turned, sizedAs, sizedOf, total, encodedLine, lineEncoded};
-ghost use Rattle.sheet_spec.specs.Translate.{sizesVerdict, over};
+ghost use Rattle.sheet_spec.specs.Sheet.{refusedLine, sizedAs, sizedOf, total, encodedLine, lineEncoded};
+ghost use Rattle.sheet_spec.specs.Translate.{sizesOutcome, over};
 ghost use Rattle.sheet_passes.specs.Passes.{linesAt, passedOf, filledOf, Placed, rangesAt, imageAt};
 use isa::Encoded;
 use isa::Measured;
@@ -34,7 +34,7 @@ fn sized_as(b: Built, named: bool) -> Measured
 }
 
 fn turned_back(number: u8) -> Measured
-    ensures { λ r. ⌜ r ≡ turned number ⌝ }
+    ensures { λ r. ⌜ r ≡ refusedLine number ⌝ }
 {
     Measured {
         size: 0,
@@ -81,7 +81,7 @@ fn encoded(line: &[u8], addresses: &[u32], address: u32) -> Encoded
 // Each line measured, and its address put into the scratch.
 pub fn sizes(text: &[u8], from: usize, lines: usize, start: u32, scratch: &mut [u32]) -> Passed
     requires { ⌜ (lines ≡ length (linesAt (now text) from)) × (lines ≤ 4096) × (lines ≤ length (now scratch)) ⌝ }
-    ensures { λ r. ⌜ (r ≡ passedOf (sizesVerdict lines 1 (linesAt (now (text .entry)) from)) (total lines (linesAt (now (text .entry)) from)))
+    ensures { λ r. ⌜ (r ≡ passedOf (sizesOutcome lines 1 (linesAt (now (text .entry)) from)) (total lines (linesAt (now (text .entry)) from)))
         × (now (scratch .exit) ≡ over (filledOf lines start (linesAt (now (text .entry)) from)) (now (scratch .entry))) ⌝ }
 {
     let mut next = from;

@@ -6,7 +6,7 @@ use Rattle.base_text.specs.Written.{hex4Of, hex8Of, signedOf}
 use Rattle.base_text.specs.Wrote.{tab, fieldText}
 use Rattle.sheet_spec.specs.Names.{bytes}
 use Rattle.sheet_spec.specs.Sheet.{linesIn, counted}
-use Rattle.sheet_spec.specs.Translate.{Verdict, fine, refused, startIn, countIn, addressesIn, verdictOf, lineWords}
+use Rattle.sheet_spec.specs.Translate.{Outcome, passed, refused, startIn, countIn, addressesIn, outcomeOf, lineWords}
 
 -- a tab and each word
 abbrev pub wordsText : List ℕ → List ℕ
@@ -31,10 +31,10 @@ unfoldable pub refusalText : ℕ → ℕ → ℕ → ℤ → List ℕ
 refusalText number line detail value =
     bytes "refused\t" ++ fieldText number ++ fieldText line ++ fieldText detail ++ signedOf value ++ (10 ∷ [])
 
-abbrev pub printedAs : Verdict → List ℕ → List ℕ
-printedAs fine listing = listing
+abbrev pub printedAs : Outcome → List ℕ → List ℕ
+printedAs passed listing = listing
 printedAs (refused number line detail value) listing = refusalText number line detail value
 
 -- with so many scratch places and image words
 unfoldable pub printedOf : List ℕ → ℕ → ℕ → List ℕ
-printedOf text places room = printedAs (verdictOf text places room) (listingOf text)
+printedOf text places room = printedAs (outcomeOf text places room) (listingOf text)

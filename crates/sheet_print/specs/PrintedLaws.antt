@@ -13,13 +13,13 @@ use Rattle.base_text.specs.Written.{placed}
 use Rattle.base_text.specs.Wrote.{Wrote}
 use Rattle.sheet_spec.specs.declared.Listed.{Listed}
 use Rattle.sheet_spec.specs.Sheet.{isSheet, feeds, last, linesIn, counted, total}
-use Rattle.sheet_spec.specs.Translate.{Verdict, fine, refused, startIn, countIn, addressesIn, needIn, verdictOf, listedOf, imageIn, over, imageOf, scratchOf}
-use Rattle.sheet_laws.specs.Verdicts.{accepted}
+use Rattle.sheet_spec.specs.Translate.{Outcome, passed, refused, startIn, countIn, addressesIn, needIn, outcomeOf, listedOf, imageIn, over, imageOf, scratchOf}
+use Rattle.sheet_laws.specs.Outcomes.{accepted}
 use Rattle.sheet_laws.specs.Demand3.{each-stands, image-counts}
 use Rattle.sheet_start.specs.SheetLaws.{count-most}
 use Rattle.sheet_passes.specs.PassLaws.{line-most, words-length}
 use Rattle.sheet_translate.specs.Translated.{Translated}
-use Rattle.sheet_translate.specs.VerdictLaws.{Sound, verdict-sound}
+use Rattle.sheet_translate.specs.OutcomeLaws.{Sound, verdict-sound}
 use Rattle.sheet_translate.specs.PlaceLaws.{addresses-length}
 use Rattle.sheet_print.specs.Printed.{listingOf, refusalText, printedOf}
 use Rattle.sheet_print.specs.Listing.{linesText, Laid}
@@ -35,7 +35,7 @@ part-length : (image ws : List ℕ) (from count : ℕ) → take count (drop from
 part-length image ws from count e h = rw (sym e, length-take, length-drop) (omega arith)
 
 -- ---- an accepted sheet
-module _ (text : List ℕ) (places room : ℕ) (e : verdictOf text places room ≡ fine) where
+module _ (text : List ℕ) (places room : ℕ) (e : outcomeOf text places room ≡ passed) where
   counts : Counts (addressesIn text) (countIn text) (startIn text) (linesIn text)
   counts j h =
       part-length (imageIn text) _ (total (countIn text) (take j (linesIn text))) (counted (countIn text) (getD (linesIn text) j []))
@@ -58,7 +58,7 @@ pub record Listable (scratch image : List ℕ) (lines words : ℕ) (printed : Li
   pub laid : Laid (take lines scratch) (take words image)
   pub listing : linesText 1 (take lines scratch) (take words image) ≡ printed
 
-accepted-listable : (text v s : List ℕ) → verdictOf text (length s) (length v) ≡ fine
+accepted-listable : (text v s : List ℕ) → outcomeOf text (length s) (length v) ≡ passed
     → Listable (over (addressesIn text) s) (over (imageIn text) v) (countIn text) (needIn text) (printedOf text (length s) (length v))
 accepted-listable text v s e =
     let a = accepted text (length s) (length v) e in
@@ -77,20 +77,20 @@ accepted-listable text v s e =
 module _ {text v s v′ s′ : List ℕ} {r : Listed} (t : Translated text v s v′ s′ r) where
   pub listable : r .number ≡ 0 → Listable s′ v′ (r .lines) (r .words) (printedOf text (length s) (length v))
   unfolding listedOf imageOf scratchOf
-  listable h = go (verdictOf text (length s) (length v)) refl (verdict-sound text (length s) (length v))
+  listable h = go (outcomeOf text (length s) (length v)) refl (verdict-sound text (length s) (length v))
     where
-      go : (w : Verdict) → verdictOf text (length s) (length v) ≡ w → Sound w
+      go : (w : Outcome) → outcomeOf text (length s) (length v) ≡ w → Sound w
           → Listable s′ v′ (r .lines) (r .words) (printedOf text (length s) (length v))
-      go fine e n = rw (t .listed, t .image, t .scratch, e) (accepted-listable text v s e)
+      go passed e n = rw (t .listed, t .image, t .scratch, e) (accepted-listable text v s e)
       go (refused number line detail value) e n = absurd (n (rw (t .listed, e) at h))
 
   pub refusal-is : (r .number ≡ 0 → ⊥) → refusalText (r .number) (r .line) (r .detail) (r .value) ≡ printedOf text (length s) (length v)
   unfolding listedOf printedOf
-  refusal-is h = go (verdictOf text (length s) (length v)) refl
+  refusal-is h = go (outcomeOf text (length s) (length v)) refl
     where
-      go : (w : Verdict) → verdictOf text (length s) (length v) ≡ w
+      go : (w : Outcome) → outcomeOf text (length s) (length v) ≡ w
           → refusalText (r .number) (r .line) (r .detail) (r .value) ≡ printedOf text (length s) (length v)
-      go fine e = absurd (h (rw (t .listed, e)))
+      go passed e = absurd (h (rw (t .listed, e)))
       go (refused number line detail value) e = rw (t .listed, e)
 
 -- a text from the first place on
@@ -106,5 +106,5 @@ sheet-long text h = rw (lt-leb (length text) 65536 h) (long (leb 1 (length text)
     long false = refl
 
 pub long-refused : (text : List ℕ) (places room : ℕ) → 65536 < length text → printedOf text places room ≡ refusalText 10 0 0 (pos 0)
-unfolding printedOf verdictOf
+unfolding printedOf outcomeOf
 long-refused text places room h = rw (sheet-long text h)

@@ -10,18 +10,18 @@ use borrow.Author.Tests.{eqb-true, ne-eqb, leb-true}
 use Rattle.read_operand_laws.specs.Facts.{and-true}
 use Rattle.sheet_spec.specs.Line.{equal}
 use Rattle.sheet_spec.specs.declared.Listed.{Listed}
-use Rattle.sheet_spec.specs.Translate.{Verdict, fine, refused, startIn, countIn, needIn, imageIn, verdictOf, listedAs, listedOf, imageAs, imageOf, scratchOf, isFine, same}
-use Rattle.sheet_laws.specs.Verdicts.{accepted}
+use Rattle.sheet_spec.specs.Translate.{Outcome, passed, refused, startIn, countIn, needIn, imageIn, outcomeOf, listedAs, listedOf, imageAs, imageOf, scratchOf, isPassed, same}
+use Rattle.sheet_laws.specs.Outcomes.{accepted}
 use Rattle.sheet_translate.specs.Translated.{Translated}
-use Rattle.sheet_translate.specs.VerdictLaws.{Sound, verdict-sound}
+use Rattle.sheet_translate.specs.OutcomeLaws.{Sound, verdict-sound}
 use Rattle.sheet_translate.specs.PlaceLaws.{scratch-length, image-length, words-fit}
 use Rattle.sheet_translate.specs.Stands.{translated-stands, number-fine}
 use Rattle.sheet_same.specs.Compared.{enough, Compared}
 use Rattle.sheet_same.specs.SameLaws.{verdict-more}
 
 -- an answer's number is 0 exactly where nothing is refused
-fine-number : (w : Verdict) → Sound w → (lines words : ℕ) → eqb (listedAs w lines words .number) 0 ≡ isFine w
-fine-number fine s lines words = refl
+fine-number : (w : Outcome) → Sound w → (lines words : ℕ) → eqb (listedAs w lines words .number) 0 ≡ isPassed w
+fine-number passed s lines words = refl
 fine-number (refused number line detail value) s lines words = ne-eqb number 0 s
 
 -- ---- one sheet translated with room enough
@@ -41,12 +41,12 @@ module _ (text v s v′ s′ : List ℕ) (r : Listed) (t : Translated text v s v
       let some = accepted text (length s) (length v) (number-fine text (length s) (length v) r (t .listed) h) .lines-some in
       omega (arith, z .addresses 1 (omega arith) (omega (arith, z .lines)))
 
-  judged : 4096 ≤ length s → 45056 ≤ length v → eqb (r .number) 0 ≡ isFine (verdictOf text 4096 45056)
+  judged : 4096 ≤ length s → 45056 ≤ length v → eqb (r .number) 0 ≡ isPassed (outcomeOf text 4096 45056)
   unfolding listedOf
   judged h g =
       ap (λ (x : Listed). eqb (x .number) 0) (t .listed)
-      ∙ fine-number (verdictOf text (length s) (length v)) (verdict-sound text (length s) (length v)) (countIn text) (needIn text)
-      ∙ ap isFine (verdict-more text (length s) (length v) h g)
+      ∙ fine-number (outcomeOf text (length s) (length v)) (verdict-sound text (length s) (length v)) (countIn text) (needIn text)
+      ∙ ap isPassed (verdict-more text (length s) (length v) h g)
 
 both : (x y a b c d : Bool) → (x ≡ true → y ≡ true → (a ≡ c) × (b ≡ d)) → x && y && a && b ≡ x && y && c && d
 both true true a b c d f = let e = f refl refl in rw (e .0, e .1)
@@ -81,7 +81,7 @@ module _ (f g v w s : List ℕ) (h : (4096 ≤ length s) × (45056 ≤ length v)
   comparison q e = (
     rw e compared,
     t .image,
-    u .image ∙ ap (λ (k : ℕ). imageAs (verdictOf g k (length w)) (imageIn g) w) (keeps f v s v′ s₁ a t),
+    u .image ∙ ap (λ (k : ℕ). imageAs (outcomeOf g k (length w)) (imageIn g) w) (keeps f v s v′ s₁ a t),
     u .scratch ∙ ap (λ (l : List ℕ). scratchOf g l w) (t .scratch),
   )
 

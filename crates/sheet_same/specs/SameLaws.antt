@@ -12,7 +12,7 @@ use Rattle.sheet_form_laws.specs.NameForm.{equal-is}
 use Rattle.sheet_start.specs.SheetLaws.{count-most}
 use Rattle.sheet_passes.specs.PassLaws.{total-most}
 use Rattle.sheet_spec.specs.Sheet.{isSheet, startLine, startOf, linesIn}
-use Rattle.sheet_spec.specs.Translate.{Verdict, fine, refused, orElse, unless, startVerdict, startIn, countIn, needIn, imageIn, verdictOf, isFine, same}
+use Rattle.sheet_spec.specs.Translate.{Outcome, passed, refused, andThen, require, startOutcome, startIn, countIn, needIn, imageIn, outcomeOf, isPassed, same}
 use Rattle.sheet_translate.specs.Translated.{sizesIn, rangesIn}
 
 -- ---- equal lists
@@ -21,28 +21,28 @@ equal-refl [] = refl
 equal-refl (a ∷ x) = rw (eq-eqb a a refl) (equal-refl x)
 
 -- ---- exactly where
-is-fine : (w : Verdict) → isFine w ≡ true → w ≡ fine
-is-fine fine e = refl
+is-fine : (w : Outcome) → isPassed w ≡ true → w ≡ passed
+is-fine passed e = refl
 is-fine (refused number line detail value) e = absurd (false≢true e)
 
 pub record Same (s t : List ℕ) : Type 0 where
-  pub first : verdictOf s 4096 45056 ≡ fine
-  pub second : verdictOf t 4096 45056 ≡ fine
+  pub first : outcomeOf s 4096 45056 ≡ passed
+  pub second : outcomeOf t 4096 45056 ≡ passed
   pub starts : startIn s ≡ startIn t
   pub images : imageIn s ≡ imageIn t
 
 pub same-is : (s t : List ℕ) → same s t ≡ true → Same s t
 unfolding same
 same-is s t e =
-    let a = isFine (verdictOf s 4096 45056) in
-    let b = isFine (verdictOf t 4096 45056) in
+    let a = isPassed (outcomeOf s 4096 45056) in
+    let b = isPassed (outcomeOf t 4096 45056) in
     let c = eqb (startIn s) (startIn t) in
     let p = and-true (a && b && c) (equal (imageIn s) (imageIn t)) e in
     let q = and-true (a && b) c (p .0) in
     let r = and-true a b (q .0) in
     record {
-      first = is-fine (verdictOf s 4096 45056) (r .0);
-      second = is-fine (verdictOf t 4096 45056) (r .1);
+      first = is-fine (outcomeOf s 4096 45056) (r .0);
+      second = is-fine (outcomeOf t 4096 45056) (r .1);
       starts = eqb-true (startIn s) (startIn t) (q .1);
       images = equal-is (imageIn s) (imageIn t) (p .1);
     }
@@ -52,7 +52,7 @@ unfolding same
 is-same s t h =
     rw (h .first, h .second, eq-eqb (startIn s) (startIn t) (h .starts), h .images) (equal-refl (imageIn t))
 
-pub same-refl : (s : List ℕ) → verdictOf s 4096 45056 ≡ fine → same s s ≡ true
+pub same-refl : (s : List ℕ) → outcomeOf s 4096 45056 ≡ passed → same s s ≡ true
 same-refl s e = is-same s s (record { first = e; second = e; starts = refl; images = refl })
 
 turn : {s t : List ℕ} → Same s t → Same t s
@@ -69,20 +69,20 @@ same-sym s t = both-ways (same s t) (same t s) (λ e. is-same t s (turn (same-is
 -- ---- more than 4,096 places and 45,056 words change nothing
 module _ (text : List ℕ) where
   -- 01's table by its tests of the shape, the scratch and the image
-  abbrev by : Bool → Bool → Bool → Verdict
+  abbrev by : Bool → Bool → Bool → Outcome
   by sheet scratch image =
-      orElse (unless sheet 10)
-      (orElse (startVerdict (startOf (startLine text)))
-      (orElse (unless scratch 11)
-      (orElse (sizesIn text)
-      (orElse (unless (leb (startIn text + 2 * needIn text) (2 ^ 32)) 9)
-      (orElse (unless image 11) (rangesIn text))))))
+      andThen (require sheet 10)
+      (andThen (startOutcome (startOf (startLine text)))
+      (andThen (require scratch 11)
+      (andThen (sizesIn text)
+      (andThen (require (leb (startIn text + 2 * needIn text) (2 ^ 32)) 9)
+      (andThen (require image 11) (rangesIn text))))))
 
-  by-tests : (places room : ℕ) → verdictOf text places room ≡ by (isSheet text) (leb (countIn text) places) (leb (needIn text) room)
-  unfolding verdictOf
+  by-tests : (places room : ℕ) → outcomeOf text places room ≡ by (isSheet text) (leb (countIn text) places) (leb (needIn text) room)
+  unfolding outcomeOf
   by-tests places room = refl
 
-  with-room : (b : Bool) → isSheet text ≡ b → (places room : ℕ) → 4096 ≤ places → 45056 ≤ room → verdictOf text places room ≡ by b true true
+  with-room : (b : Bool) → isSheet text ≡ b → (places room : ℕ) → 4096 ≤ places → 45056 ≤ room → outcomeOf text places room ≡ by b true true
   with-room true e places room h g =
       let few = count-most text e in
       let scratch : leb (countIn text) places ≡ true = le-leb (countIn text) places (omega arith) in
@@ -94,6 +94,6 @@ module _ (text : List ℕ) where
   with-room false e places room h g =
       by-tests places room ∙ ap (λ (t : Bool). by t (leb (countIn text) places) (leb (needIn text) room)) e
 
-  pub verdict-more : (places room : ℕ) → 4096 ≤ places → 45056 ≤ room → verdictOf text places room ≡ verdictOf text 4096 45056
+  pub verdict-more : (places room : ℕ) → 4096 ≤ places → 45056 ≤ room → outcomeOf text places room ≡ outcomeOf text 4096 45056
   verdict-more places room h g =
       with-room (isSheet text) refl places room h g ∙ sym (with-room (isSheet text) refl 4096 45056 (omega arith) (omega arith))

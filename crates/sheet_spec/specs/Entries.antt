@@ -8,36 +8,36 @@ use Rattle.numeric_fields.specs.Form.{pad}
 use Rattle.sheet_spec.specs.declared.Value.{Value}
 use Rattle.sheet_spec.specs.declared.Value.the-variants as value
 use Rattle.sheet_spec.specs.declared.Entries.{Entries}
-use Rattle.sheet_spec.specs.Line.{Said, plainly, naming, nothing, Parsed, says, no}
+use Rattle.sheet_spec.specs.Line.{Token, literal, label, invalid, Parsed, says, no}
 
 abbrev pub capped : ℕ → ℕ
 capped n = cond (leb n 4096) n 4097
 
-abbrev pub valueOf : Said → Value
-valueOf (plainly negative n) = value.Number negative n
-valueOf (naming n) = value.Line (capped n)
-valueOf nothing = value.None
+abbrev pub valueOf : Token → Value
+valueOf (literal negative n) = value.Number negative n
+valueOf (label n) = value.Line (capped n)
+valueOf invalid = value.None
 
-abbrev pub isLine : Said → Bool
-isLine (plainly negative n) = false
-isLine (naming n) = true
-isLine nothing = false
+abbrev pub isLine : Token → Bool
+isLine (literal negative n) = false
+isLine (label n) = true
+isLine invalid = false
 
-abbrev pub negativeIn : Said → Bool
-negativeIn (plainly negative n) = negative
-negativeIn (naming n) = false
-negativeIn nothing = false
+abbrev pub negativeIn : Token → Bool
+negativeIn (literal negative n) = negative
+negativeIn (label n) = false
+negativeIn invalid = false
 
-abbrev pub magnitudeIn : Said → ℕ
-magnitudeIn (plainly negative n) = n
-magnitudeIn (naming n) = capped n
-magnitudeIn nothing = 0
+abbrev pub magnitudeIn : Token → ℕ
+magnitudeIn (literal negative n) = n
+magnitudeIn (label n) = capped n
+magnitudeIn invalid = 0
 
 unfoldable pub noEntries : Entries
 noEntries = record { ok = false; count = 0; named = replicate 24 false; negative = replicate 24 false; magnitude = replicate 24 0 }
 
 -- no line in the form has more than 24 fields
-unfoldable pub entriesFrom : List Said → Entries
+unfoldable pub entriesFrom : List Token → Entries
 entriesFrom vs =
     record {
       ok = true;

@@ -6,15 +6,15 @@ use mathlib.Core.List.{List, [], _∷_}
 use lib.Dec.{leb, ltb, eqb}
 use lib.ListN.{length, drop, take, getD}
 use Rattle.isa.specs.declared.Instruction.{Instruction}
-use Rattle.isa.specs.declared.Instruction.the-variants.{IntoRegister, MOVEM, Transfer, Pair, Quick, MOVEQ, ImmediateInto, WordIntoData, SWAP, EXG, UnsizedIntoRegister, UnsizedOne, UnsizedPair, EXT, OneOperand, Bcc, Scc, DBcc, Branch, Link, UNLK, Shift, Vector, Status, ConditionCode, MOVEUSP, Raw, Plain, RTD, MOVEC, TRAPcc, MULL, Pack, CAS, CAS2, BF, DIVL}
+use Rattle.isa.specs.declared.Instruction.the-variants.{IntoRegister, MOVEM, Transfer, Pair, Quick, MOVEQ, ImmediateInto, WordIntoData, SWAP, EXG, UnsizedIntoRegister, UnsizedOne, UnsizedPair, EXT, OneOperand, Bcc, Scc, DBcc, Branch, Link, UNLK, Shift, Vector, Status, ConditionCode, MOVEUSP, Raw, NoOperand, RTD, MOVEC, TRAPcc, MULL, Pack, CAS, CAS2, BF, DIVL}
 use Rattle.isa.specs.declared.UnsizedOneOperation.{UnsizedOneOperation}
 use Rattle.isa.specs.declared.UnsizedOneOperation.the-variants.{PEA, NBCD, JSR, JMP, TAS, MOVEtoCCR, MOVEfromCCR, MOVEtoSR, MOVEfromSR}
 use Rattle.isa.specs.declared.StatusOperation.{StatusOperation}
 use Rattle.isa.specs.declared.StatusOperation.the-variants.{ANDItoSR, ORItoSR, EORItoSR, STOP}
 use Rattle.isa.specs.declared.RawOperation.{RawOperation}
 use Rattle.isa.specs.declared.RawOperation.the-variants.{LINEA, LINEF, IllegalWord}
-use Rattle.isa.specs.declared.PlainOperation.{PlainOperation}
-use Rattle.isa.specs.declared.PlainOperation.the-variants.{RTE, RESET, RTR, TRAPV, ILLEGAL, RTS, NOP, SIMHALT}
+use Rattle.isa.specs.declared.NoOperandOperation.{NoOperandOperation}
+use Rattle.isa.specs.declared.NoOperandOperation.the-variants.{RTE, RESET, RTR, TRAPV, ILLEGAL, RTS, NOP, SIMHALT}
 use Rattle.numeric_build.specs.declared.Built.{Built}
 use Rattle.numeric_build.specs.declared.Built.the-variants as built
 use Rattle.read_spec.specs.declared.Reading.{Reading}
@@ -54,15 +54,15 @@ rawNext LINEA = stop
 rawNext LINEF = stop
 rawNext IllegalWord = on
 
-abbrev pub plainNext : PlainOperation → Next
-plainNext RTE = stop
-plainNext RESET = on
-plainNext RTR = stop
-plainNext TRAPV = on
-plainNext ILLEGAL = stop
-plainNext RTS = stop
-plainNext NOP = on
-plainNext SIMHALT = on
+abbrev pub noOperandNext : NoOperandOperation → Next
+noOperandNext RTE = stop
+noOperandNext RESET = on
+noOperandNext RTR = stop
+noOperandNext TRAPV = on
+noOperandNext ILLEGAL = stop
+noOperandNext RTS = stop
+noOperandNext NOP = on
+noOperandNext SIMHALT = on
 
 abbrev pub nextOf : Instruction → Next
 nextOf (IntoRegister op o r s) = on
@@ -92,7 +92,7 @@ nextOf (Status op v) = statusNext op
 nextOf (ConditionCode op v) = on
 nextOf (MOVEUSP b r) = on
 nextOf (Raw op w) = rawNext op
-nextOf (Plain op) = plainNext op
+nextOf (NoOperand op) = noOperandNext op
 nextOf (RTD d) = stop
 nextOf (MOVEC b control r) = on
 nextOf (TRAPcc condition x) = on
@@ -142,7 +142,7 @@ countOf text n = counted (countIn text) (lineAt text n)
 -- line n's instruction, each line's number k in it made f k; a line that is not in the form has none, and NOP stands for it
 abbrev pub instructionIn : Built → Instruction
 instructionIn (built.Instruction i) = i
-instructionIn built.NotInForm = Plain NOP
+instructionIn built.NotInForm = NoOperand NOP
 
 abbrev pub instructionWith : (ℕ → ℕ) → List ℕ → ℕ → Instruction
 instructionWith f text n = instructionIn (madeOf f (lineAt text n))

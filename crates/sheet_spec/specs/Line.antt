@@ -6,26 +6,26 @@ use lib.Dec.{eqb}
 use Rattle.base_text.specs.declared.Number.{Number}
 use Rattle.base_text.specs.declared.Number.the-variants as number
 use Rattle.base_text.specs.Parts.{fields}
-use Rattle.base_text.specs.Number.{numberOf, plain, value}
+use Rattle.base_text.specs.Number.{numberOf, isDecimal, value}
 use Rattle.sheet_spec.specs.declared.Kind.{Kind}
 use Rattle.sheet_spec.specs.declared.Kind.the-variants as kind
 use Rattle.sheet_spec.specs.Names.{bytes, namesOf}
 use Rattle.sheet_spec.specs.Grammar.{fieldsOf}
 
 -- what one field says: a number, a line's name, or nothing in the form; a variant's name says its place
-pub data Said : Type 0 where
-  plainly : Bool → ℕ → Said
-  naming : ℕ → Said
-  nothing : Said
+pub data Token : Type 0 where
+  literal : Bool → ℕ → Token
+  label : ℕ → Token
+  invalid : Token
 
-abbrev pub asNumber : Number → Said
-asNumber (number.Is negative n) = plainly negative n
-asNumber number.No = nothing
+abbrev pub asNumber : Number → Token
+asNumber (number.Is negative n) = literal negative n
+asNumber number.No = invalid
 
 -- `@` and a line's number, of any length
-abbrev pub asName : List ℕ → Said
-asName [] = nothing
-asName (b ∷ bs) = cond (eqb b 64 && plain bs) (naming (value bs)) nothing
+abbrev pub asName : List ℕ → Token
+asName [] = invalid
+asName (b ∷ bs) = cond (eqb b 64 && isDecimal bs) (label (value bs)) invalid
 
 abbrev pub isName : List ℕ → Bool
 isName [] = false
@@ -42,51 +42,51 @@ isNone [] = true
 isNone (b ∷ bs) = false
 
 -- the place of a name among names, from k on; an empty field names nothing
-abbrev pub placeFrom : ℕ → List ℕ → List (List ℕ) → Said
-placeFrom k f [] = nothing
-placeFrom k f (n ∷ ns) = cond (equal f n && not (isNone f)) (plainly false k) (placeFrom (suc k) f ns)
+abbrev pub placeFrom : ℕ → List ℕ → List (List ℕ) → Token
+placeFrom k f [] = invalid
+placeFrom k f (n ∷ ns) = cond (equal f n && not (isNone f)) (literal false k) (placeFrom (suc k) f ns)
 
-abbrev pub asVariant : Kind → List ℕ → Said
+abbrev pub asVariant : Kind → List ℕ → Token
 asVariant k f = placeFrom 0 f (map bytes (namesOf k))
 
-abbrev pub said : Kind → List ℕ → Said
-said kind.Number f = asNumber (numberOf f)
-said kind.Target f = asName f
-said kind.Place f = cond (isName f) (asName f) (asNumber (numberOf f))
-said kind.Size f = asVariant kind.Size f
-said kind.TargetDirection f = asVariant kind.TargetDirection f
-said kind.RegisterOperand f = asVariant kind.RegisterOperand f
-said kind.AddressWidth f = asVariant kind.AddressWidth f
-said kind.Condition f = asVariant kind.Condition f
-said kind.BranchSize f = asVariant kind.BranchSize f
-said kind.ShiftDirection f = asVariant kind.ShiftDirection f
-said kind.Sign f = asVariant kind.Sign f
-said kind.BitFieldOperation f = asVariant kind.BitFieldOperation f
-said kind.FieldValue f = asVariant kind.FieldValue f
-said kind.TrapOperand f = asVariant kind.TrapOperand f
-said kind.RegisterChoice f = asVariant kind.RegisterChoice f
-said kind.Operand f = asVariant kind.Operand f
-said kind.Instruction f = asVariant kind.Instruction f
+abbrev pub token : Kind → List ℕ → Token
+token kind.Number f = asNumber (numberOf f)
+token kind.Target f = asName f
+token kind.Place f = cond (isName f) (asName f) (asNumber (numberOf f))
+token kind.Size f = asVariant kind.Size f
+token kind.TargetDirection f = asVariant kind.TargetDirection f
+token kind.RegisterOperand f = asVariant kind.RegisterOperand f
+token kind.AddressWidth f = asVariant kind.AddressWidth f
+token kind.Condition f = asVariant kind.Condition f
+token kind.BranchSize f = asVariant kind.BranchSize f
+token kind.ShiftDirection f = asVariant kind.ShiftDirection f
+token kind.Sign f = asVariant kind.Sign f
+token kind.BitFieldOperation f = asVariant kind.BitFieldOperation f
+token kind.FieldValue f = asVariant kind.FieldValue f
+token kind.TrapOperand f = asVariant kind.TrapOperand f
+token kind.RegisterChoice f = asVariant kind.RegisterChoice f
+token kind.Operand f = asVariant kind.Operand f
+token kind.Instruction f = asVariant kind.Instruction f
 
 -- what the fields of a line say, each by its kind; a variant's fields come after its name
 pub data Parsed : Type 0 where
-  says : List Said → Parsed
+  says : List Token → Parsed
   no : Parsed
 
-abbrev pub with : Said → Parsed → Parsed
+abbrev pub with : Token → Parsed → Parsed
 with v (says vs) = says (v ∷ vs)
 with v no = no
 
-abbrev pub after : Said → (ℕ → Parsed) → Parsed → Parsed
-after (plainly negative n) next rest = with (plainly negative n) (next n)
-after (naming n) next rest = with (naming n) rest
-after nothing next rest = no
+abbrev pub after : Token → (ℕ → Parsed) → Parsed → Parsed
+after (literal negative n) next rest = with (literal negative n) (next n)
+after (label n) next rest = with (label n) rest
+after invalid next rest = no
 
 abbrev pub lineFrom : List Kind → List (List ℕ) → Parsed
 lineFrom [] [] = says []
 lineFrom [] (f ∷ fs) = no
 lineFrom (k ∷ ks) [] = no
-lineFrom (k ∷ ks) (f ∷ fs) = after (said k f) (λ n. lineFrom (fieldsOf k n ++ ks) fs) (lineFrom ks fs)
+lineFrom (k ∷ ks) (f ∷ fs) = after (token k f) (λ n. lineFrom (fieldsOf k n ++ ks) fs) (lineFrom ks fs)
 
 unfoldable pub lineOf : List ℕ → Parsed
 lineOf text = lineFrom (kind.Instruction ∷ []) (fields text)

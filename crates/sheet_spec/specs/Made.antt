@@ -10,10 +10,10 @@ use Rattle.numeric_fields.specs.Form.{isNegative, pad}
 use Rattle.numeric_build.specs.declared.Built.{Built}
 use Rattle.numeric_build.specs.declared.Built.the-variants as built
 use Rattle.numeric_build.specs.Build.{buildOf}
-use Rattle.sheet_spec.specs.Line.{Said, plainly, naming, nothing, Parsed, says, no, lineOf}
+use Rattle.sheet_spec.specs.Line.{Token, literal, label, invalid, Parsed, says, no, lineOf}
 use Rattle.sheet_spec.specs.Spell.{numberAs}
 
-unfoldable pub numbersAs : (ℕ → ℕ) → List Said → Numbers
+unfoldable pub numbersAs : (ℕ → ℕ) → List Token → Numbers
 numbersAs f vs =
     record {
       count = length vs;
@@ -30,12 +30,12 @@ unfoldable pub madeOf : (ℕ → ℕ) → List ℕ → Built
 madeOf f line = madeAs f (lineOf line)
 
 -- `@` names an instruction line
-abbrev pub names : ℕ → Said → Bool
-names n (plainly negative k) = true
-names n (naming k) = leb 1 k && leb k n
-names n nothing = true
+abbrev pub names : ℕ → Token → Bool
+names n (literal negative k) = true
+names n (label k) = leb 1 k && leb k n
+names n invalid = true
 
-abbrev pub namesAll : ℕ → List Said → Bool
+abbrev pub namesAll : ℕ → List Token → Bool
 namesAll n [] = true
 namesAll n (v ∷ vs) = names n v && namesAll n vs
 

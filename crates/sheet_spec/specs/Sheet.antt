@@ -60,12 +60,12 @@ abbrev pub startOf : List ℕ → Start
 startOf line = startFields (fields line)
 
 -- a line of a sheet of n lines: 7, then 8, then as `size` refuses it with `@` as 0
-abbrev pub turned : ℕ → Measured
-turned k = record { size = 0; number = k; detail = 0; value = pos 0 }
+abbrev pub refusedLine : ℕ → Measured
+refusedLine k = record { size = 0; number = k; detail = 0; value = pos 0 }
 
 abbrev pub sizedAs : Built → Bool → Measured
-sizedAs (built.Instruction i) named = cond named (sizeOf i) (turned 8)
-sizedAs built.NotInForm named = turned 7
+sizedAs (built.Instruction i) named = cond named (sizeOf i) (refusedLine 8)
+sizedAs built.NotInForm named = refusedLine 7
 
 unfoldable pub sizedOf : ℕ → List ℕ → Measured
 sizedOf n line = sizedAs (madeOf (λ k. 0) line) (namesIn n (lineOf line))

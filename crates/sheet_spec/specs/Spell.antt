@@ -14,25 +14,25 @@ use Rattle.sheet_spec.specs.declared.Kind.{Kind}
 use Rattle.sheet_spec.specs.declared.Kind.the-variants as kind
 use Rattle.sheet_spec.specs.Names.{bytes, namesOf}
 use Rattle.sheet_spec.specs.Grammar.{fieldsOf}
-use Rattle.sheet_spec.specs.Line.{Said, plainly, naming, nothing}
+use Rattle.sheet_spec.specs.Line.{Token, literal, label, invalid}
 
 abbrev pub signText : Bool → List ℕ
 signText true = 45 ∷ []
 signText false = []
 
 -- a number, and `@` before a line's number
-abbrev pub numberText : Said → List ℕ
-numberText (plainly negative n) = signText negative ++ decimalOf n
-numberText (naming n) = 64 ∷ decimalOf n
-numberText nothing = []
+abbrev pub numberText : Token → List ℕ
+numberText (literal negative n) = signText negative ++ decimalOf n
+numberText (label n) = 64 ∷ decimalOf n
+numberText invalid = []
 
 -- a variant's name
-abbrev pub nameText : Kind → Said → List ℕ
-nameText k (plainly negative n) = getD (map bytes (namesOf k)) n []
-nameText k (naming n) = []
-nameText k nothing = []
+abbrev pub nameText : Kind → Token → List ℕ
+nameText k (literal negative n) = getD (map bytes (namesOf k)) n []
+nameText k (label n) = []
+nameText k invalid = []
 
-abbrev pub spelled : Kind → Said → List ℕ
+abbrev pub spelled : Kind → Token → List ℕ
 spelled kind.Number v = numberText v
 spelled kind.Target v = numberText v
 spelled kind.Place v = numberText v
@@ -52,29 +52,29 @@ spelled kind.Operand v = nameText kind.Operand v
 spelled kind.Instruction v = nameText kind.Instruction v
 
 -- what may stand in a field of a kind: a number below 2^64, -0 excepted; a line's number; the place of a name
-abbrev pub Written : Said → Type 0
-Written (plainly true n) = (0 < n) × (n < 2 ^ 64)
-Written (plainly false n) = n < 2 ^ 64
-Written (naming n) = ⊥
-Written nothing = ⊥
+abbrev pub Written : Token → Type 0
+Written (literal true n) = (0 < n) × (n < 2 ^ 64)
+Written (literal false n) = n < 2 ^ 64
+Written (label n) = ⊥
+Written invalid = ⊥
 
-abbrev pub Named : Said → Type 0
-Named (plainly negative n) = ⊥
-Named (naming n) = Unit {0}
-Named nothing = ⊥
+abbrev pub Named : Token → Type 0
+Named (literal negative n) = ⊥
+Named (label n) = Unit {0}
+Named invalid = ⊥
 
-abbrev pub Either : Said → Type 0
-Either (plainly negative n) = Written (plainly negative n)
-Either (naming n) = Unit {0}
-Either nothing = ⊥
+abbrev pub Either : Token → Type 0
+Either (literal negative n) = Written (literal negative n)
+Either (label n) = Unit {0}
+Either invalid = ⊥
 
-abbrev pub Variant : Kind → Said → Type 0
-Variant k (plainly true n) = ⊥
-Variant k (plainly false n) = (n < length (namesOf k)) × (0 < length (getD (map bytes (namesOf k)) n []))
-Variant k (naming n) = ⊥
-Variant k nothing = ⊥
+abbrev pub Variant : Kind → Token → Type 0
+Variant k (literal true n) = ⊥
+Variant k (literal false n) = (n < length (namesOf k)) × (0 < length (getD (map bytes (namesOf k)) n []))
+Variant k (label n) = ⊥
+Variant k invalid = ⊥
 
-abbrev pub Suits : Kind → Said → Type 0
+abbrev pub Suits : Kind → Token → Type 0
 Suits kind.Number v = Written v
 Suits kind.Target v = Named v
 Suits kind.Place v = Either v
@@ -94,19 +94,19 @@ Suits kind.Operand v = Variant kind.Operand v
 Suits kind.Instruction v = Variant kind.Instruction v
 
 -- the fields that come next
-abbrev pub nextKinds : Kind → Said → List Kind
-nextKinds k (plainly negative n) = fieldsOf k n
-nextKinds k (naming n) = []
-nextKinds k nothing = []
+abbrev pub nextKinds : Kind → Token → List Kind
+nextKinds k (literal negative n) = fieldsOf k n
+nextKinds k (label n) = []
+nextKinds k invalid = []
 
 -- entries that suit the grammar, and their fields
-abbrev pub Fits : List Kind → List Said → Type 0
+abbrev pub Fits : List Kind → List Token → Type 0
 Fits [] [] = Unit {0}
 Fits [] (v ∷ vs) = ⊥
 Fits (k ∷ ks) [] = ⊥
 Fits (k ∷ ks) (v ∷ vs) = Suits k v × Fits (nextKinds k v ++ ks) vs
 
-abbrev pub fieldsFrom : List Kind → List Said → List (List ℕ)
+abbrev pub fieldsFrom : List Kind → List Token → List (List ℕ)
 fieldsFrom [] [] = []
 fieldsFrom [] (v ∷ vs) = []
 fieldsFrom (k ∷ ks) [] = []
@@ -118,18 +118,18 @@ joined [] = []
 joined (f ∷ []) = f
 joined (f ∷ (g ∷ fs)) = f ++ (9 ∷ joined (g ∷ fs))
 
-unfoldable pub spell : List Said → List ℕ
+unfoldable pub spell : List Token → List ℕ
 spell vs = joined (fieldsFrom (kind.Instruction ∷ []) vs)
 
 -- the numbers of a line, each line's name made a number
-abbrev pub numberAs : (ℕ → ℕ) → Said → ℤ
-numberAs f (plainly true n) = minus n
-numberAs f (plainly false n) = pos n
-numberAs f (naming n) = pos (f n)
-numberAs f nothing = pos 0
+abbrev pub numberAs : (ℕ → ℕ) → Token → ℤ
+numberAs f (literal true n) = minus n
+numberAs f (literal false n) = pos n
+numberAs f (label n) = pos (f n)
+numberAs f invalid = pos 0
 
 -- a line: an instruction, with 0 for each target that a line's name stands for
-pub record Line (vs : List Said) (i : Instruction) : Type 0 where
+pub record Line (vs : List Token) (i : Instruction) : Type 0 where
   pub grammar : Fits (kind.Instruction ∷ []) vs
   pub numbers : map (numberAs (λ n. 0)) vs ≡ numbersOf i
   pub inside : Inside (formOf i)

@@ -16,15 +16,15 @@ use Rattle.sheet_spec.specs.Sheet.{feeds, last, isSheet, startLine, linesIn}
 use Rattle.sheet_spec.specs.Translate.{countIn}
 
 -- ---- what a sheet is, place by place
-pub record Shape (text : List ℕ) : Type 0 where
+pub record Outline (text : List ℕ) : Type 0 where
   pub some : 1 ≤ length text
   pub bytes : length text ≤ 65536
   pub final : last text ≡ 10
   pub least : 2 ≤ feeds text
   pub most : feeds text ≤ 4097
 
-pub shape : (text : List ℕ) → isSheet text ≡ true → Shape text
-shape text e =
+pub outline : (text : List ℕ) → isSheet text ≡ true → Outline text
+outline text e =
     let p = and-true (leb 1 (length text) && leb (length text) 65536 && eqb (last text) 10 && leb 2 (feeds text)) (leb (feeds text) 4097) e in
     let q = and-true (leb 1 (length text) && leb (length text) 65536 && eqb (last text) 10) (leb 2 (feeds text)) (p .0) in
     let r = and-true (leb 1 (length text) && leb (length text) 65536) (eqb (last text) 10) (q .0) in
@@ -62,11 +62,11 @@ lines-feeds (b ∷ (d ∷ bs)) e = go (eqb b 10) (lines-feeds (d ∷ bs) e)
 
 -- the instruction lines of a sheet are one fewer than its line feeds
 pub count-feeds : (text : List ℕ) → isSheet text ≡ true → countIn text ≡ feeds text - 1
-count-feeds text e = rw (length-drop 1 (linesOf text), lines-feeds text (shape text e .final))
+count-feeds text e = rw (length-drop 1 (linesOf text), lines-feeds text (outline text e .final))
 
 -- at most 4,096
 pub count-most : (text : List ℕ) → isSheet text ≡ true → countIn text ≤ 4096
-count-most text e = omega (arith, count-feeds text e, shape text e .most)
+count-most text e = omega (arith, count-feeds text e, outline text e .most)
 
 -- ---- the first line, and the others
 pub start-line : (text : List ℕ) (e : ℕ) → e ≡ partEnd 10 text 0 → startLine text ≡ take e text

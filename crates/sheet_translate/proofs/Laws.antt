@@ -12,17 +12,17 @@ use lib.Seq.{drop-cons, set-at}
 use borrow.Author.Tests.{eq-eqb, ne-eqb, le-leb, lt-leb}
 use Rattle.sheet_start.specs.declared.StartAt.{StartAt}
 use Rattle.sheet_start.specs.StartLine.{startAt}
-use Rattle.sheet_start.specs.SheetLaws.{shape, count-feeds, count-most, lines-after}
+use Rattle.sheet_start.specs.SheetLaws.{outline, count-feeds, count-most, lines-after}
 use Rattle.sheet_spec.specs.declared.Listed.{Listed}
 use Rattle.sheet_spec.specs.Sheet.{feeds, isSheet, startLine, linesIn, Start, at, notInForm, startOf, total}
-use Rattle.sheet_spec.specs.Translate.{Verdict, fine, refused, orElse, unless, startVerdict, startNumber, asVerdict, sizesVerdict, startIn, countIn, needIn, addressesIn, imageIn, verdictOf, listedAs, over}
+use Rattle.sheet_spec.specs.Translate.{Outcome, passed, refused, andThen, require, startOutcome, startNumber, asOutcome, sizesOutcome, startIn, countIn, needIn, addressesIn, imageIn, outcomeOf, listedAs, over}
 use Rattle.sheet_laws.specs.Demand3.{image-counts}
-use Rattle.sheet_laws.specs.Verdicts.{accepted}
+use Rattle.sheet_laws.specs.Outcomes.{accepted}
 use Rattle.sheet_passes.specs.declared.Passed.{Passed}
 use Rattle.sheet_passes.specs.Passes.{passedOf, filledOf, linesAt, Placed, rangesAt, imageAt}
 use Rattle.sheet_passes.specs.PassLaws.{total-most, filled-addresses}
-use Rattle.sheet_translate.specs.Translated.{Translated, numberIn, openingOf, sizesIn, closingOf, rangesIn, Sized}
-use Rattle.sheet_translate.specs.VerdictLaws.{Sound, sizes-sound, ranges-sound}
+use Rattle.sheet_translate.specs.Translated.{Translated, refusalNumber, openingOf, sizesIn, closingOf, rangesIn, SizedSheet}
+use Rattle.sheet_translate.specs.OutcomeLaws.{Sound, sizes-sound, ranges-sound}
 use Rattle.sheet_translate.specs.StageLaws.{stages, opening-outside, closing-outside, as-fine, as-refused, Opened, opened, Closed, closed, by-verdict, turned-away}
 use Rattle.sheet_translate.specs.PlaceLaws.{over-length, over-take, over-same, addresses-length, addresses-first, filled-length, from-over}
 
@@ -35,15 +35,15 @@ zero-more p i g = rw (add-one, drop-cons p i 0 g, set-at (replicate i 0) (getD p
     rep (suc n) l = ap (λ (x : List ℕ). 0 ∷ x) (rep n l)
 
 -- ---- the opening
-start-no : (t : Start) (v : Verdict) → startAt t .ok ≡ false → numberIn (orElse (startVerdict t) v) ≡ 7
+start-no : (t : Start) (v : Outcome) → startAt t .ok ≡ false → refusalNumber (andThen (startOutcome t) v) ≡ 7
 start-no (at n) v e = absurd (true≢false e)
 start-no notInForm v e = refl
 
-start-odd : (t : Start) (v : Verdict) → startAt t .ok ≡ true → (startAt t .address % 2 ≡ 0 → ⊥) → numberIn (orElse (startVerdict t) v) ≡ 9
+start-odd : (t : Start) (v : Outcome) → startAt t .ok ≡ true → (startAt t .address % 2 ≡ 0 → ⊥) → refusalNumber (andThen (startOutcome t) v) ≡ 9
 start-odd (at n) v e h = rw (ne-eqb (n % 2) 0 h)
 start-odd notInForm v e h = absurd (false≢true e)
 
-start-even : (t : Start) (v : Verdict) → startAt t .ok ≡ true → startAt t .address % 2 ≡ 0 → orElse (startVerdict t) v ≡ v
+start-even : (t : Start) (v : Outcome) → startAt t .ok ≡ true → startAt t .address % 2 ≡ 0 → andThen (startOutcome t) v ≡ v
 start-even (at n) v e h = rw (eq-eqb (n % 2) 0 h)
 start-even notInForm v e h = absurd (false≢true e)
 
@@ -51,72 +51,72 @@ module _ (text : List ℕ) (places : ℕ) where
   abbrev start : Start
   start = startOf (startLine text)
 
-  abbrev scratch : Verdict
-  scratch = unless (leb (countIn text) places) 11
+  abbrev scratch : Outcome
+  scratch = require (leb (countIn text) places) 11
 
-  by-shape : (b : Bool) → isSheet text ≡ b → openingOf text places ≡ orElse (unless b 10) (orElse (startVerdict start) scratch)
-  by-shape b e = ap (λ (t : Bool). orElse (unless t 10) (orElse (startVerdict start) scratch)) e
+  by-outline : (b : Bool) → isSheet text ≡ b → openingOf text places ≡ andThen (require b 10) (andThen (startOutcome start) scratch)
+  by-outline b e = ap (λ (t : Bool). andThen (require t 10) (andThen (startOutcome start) scratch)) e
 
-  pub open-10 : isSheet text ≡ false → numberIn (openingOf text places) ≡ 10
-  open-10 e = ap numberIn (by-shape false e)
+  pub open-10 : isSheet text ≡ false → refusalNumber (openingOf text places) ≡ 10
+  open-10 e = ap refusalNumber (by-outline false e)
 
   module _ (e : isSheet text ≡ true) (s : StartAt) (f : s ≡ startAt start) where
-    pub open-7 : s .ok ≡ false → numberIn (openingOf text places) ≡ 7
-    open-7 g = ap numberIn (by-shape true e) ∙ start-no start scratch (ap (λ (t : StartAt). t .ok) (sym f) ∙ g)
+    pub open-7 : s .ok ≡ false → refusalNumber (openingOf text places) ≡ 7
+    open-7 g = ap refusalNumber (by-outline true e) ∙ start-no start scratch (ap (λ (t : StartAt). t .ok) (sym f) ∙ g)
 
     module _ (g : s .ok ≡ true) where
       ok : startAt start .ok ≡ true
       ok = ap (λ (t : StartAt). t .ok) (sym f) ∙ g
 
-      pub open-9 : (s .address % 2 ≡ 0 → ⊥) → numberIn (openingOf text places) ≡ 9
-      open-9 h = ap numberIn (by-shape true e) ∙ start-odd start scratch ok (λ z. h (ap (λ (t : StartAt). t .address % 2) f ∙ z))
+      pub open-9 : (s .address % 2 ≡ 0 → ⊥) → refusalNumber (openingOf text places) ≡ 9
+      open-9 h = ap refusalNumber (by-outline true e) ∙ start-odd start scratch ok (λ z. h (ap (λ (t : StartAt). t .address % 2) f ∙ z))
 
       module _ (h : s .address % 2 ≡ 0) where
         rest : openingOf text places ≡ scratch
-        rest = by-shape true e ∙ start-even start scratch ok (ap (λ (t : StartAt). t .address % 2) (sym f) ∙ h)
+        rest = by-outline true e ∙ start-even start scratch ok (ap (λ (t : StartAt). t .address % 2) (sym f) ∙ h)
 
-        pub open-11 : places < feeds text - 1 → numberIn (openingOf text places) ≡ 11
-        open-11 k = ap numberIn rest ∙ rw (lt-leb (countIn text) places (omega (arith, count-feeds text e)))
+        pub open-11 : places < feeds text - 1 → refusalNumber (openingOf text places) ≡ 11
+        open-11 k = ap refusalNumber rest ∙ rw (lt-leb (countIn text) places (omega (arith, count-feeds text e)))
 
-        pub open-0 : feeds text - 1 ≤ places → numberIn (openingOf text places) ≡ 0
-        open-0 k = ap numberIn rest ∙ rw (le-leb (countIn text) places (omega (arith, count-feeds text e)))
+        pub open-0 : feeds text - 1 ≤ places → refusalNumber (openingOf text places) ≡ 0
+        open-0 k = ap refusalNumber rest ∙ rw (le-leb (countIn text) places (omega (arith, count-feeds text e)))
 
-module _ (text : List ℕ) (places k : ℕ) (e : k ≡ numberIn (openingOf text places)) where
-  opening-is : openingOf text places ≡ asVerdict 0 k 0 (pos 0)
-  opening-is = opening-outside text places ∙ ap (λ (x : ℕ). asVerdict 0 x 0 (pos 0)) (sym e)
+module _ (text : List ℕ) (places k : ℕ) (e : k ≡ refusalNumber (openingOf text places)) where
+  opening-is : openingOf text places ≡ asOutcome 0 k 0 (pos 0)
+  opening-is = opening-outside text places ∙ ap (λ (x : ℕ). asOutcome 0 x 0 (pos 0)) (sym e)
 
-  pub opening-fine : k ≡ 0 → openingOf text places ≡ fine
+  pub opening-fine : k ≡ 0 → openingOf text places ≡ passed
   opening-fine h = opening-is ∙ as-fine 0 k 0 (pos 0) h
 
-pub refused-opening : (text v s : List ℕ) (k : ℕ) → k ≡ numberIn (openingOf text (length s)) → (k ≡ 0 → ⊥)
+pub refused-opening : (text v s : List ℕ) (k : ℕ) → k ≡ refusalNumber (openingOf text (length s)) → (k ≡ 0 → ⊥)
     → (s′ : List ℕ) (r : Listed) → r ≡ listedAs (refused k 0 0 (pos 0)) 0 0 → s′ ≡ replicate (length s) 0 → Translated text v s v s′ r
 refused-opening text v s k e h s′ r f g =
     turned-away text v s k 0 0 (pos 0)
     (stages text (length s) (length v)
-    ∙ ap (λ (x : Verdict). orElse x (orElse (sizesIn text) (orElse (closingOf (startIn text) (needIn text) (length v)) (rangesIn text))))
+    ∙ ap (λ (x : Outcome). andThen x (andThen (sizesIn text) (andThen (closingOf (startIn text) (needIn text) (length v)) (rangesIn text))))
     (opening-is text (length s) k e ∙ as-refused 0 k 0 (pos 0) h)) s′ r f g
 
 -- ---- the closing
 module _ (start words room : ℕ) where
-  pub close-9 : 2 ^ 32 < start + 2 * words → numberIn (closingOf start words room) ≡ 9
+  pub close-9 : 2 ^ 32 < start + 2 * words → refusalNumber (closingOf start words room) ≡ 9
   close-9 h = rw (lt-leb (start + 2 * words) (2 ^ 32) h)
 
-  pub close-11 : start + 2 * words ≤ 2 ^ 32 → room < words → numberIn (closingOf start words room) ≡ 11
+  pub close-11 : start + 2 * words ≤ 2 ^ 32 → room < words → refusalNumber (closingOf start words room) ≡ 11
   close-11 h g = rw (le-leb (start + 2 * words) (2 ^ 32) h, lt-leb words room g)
 
-  pub close-0 : start + 2 * words ≤ 2 ^ 32 → words ≤ room → numberIn (closingOf start words room) ≡ 0
+  pub close-0 : start + 2 * words ≤ 2 ^ 32 → words ≤ room → refusalNumber (closingOf start words room) ≡ 0
   close-0 h g = rw (le-leb (start + 2 * words) (2 ^ 32) h, le-leb words room g)
 
 -- ---- what a pass says
-pub as-passed : (v : Verdict) → Sound v → (w : ℕ) (r : Passed) → r ≡ passedOf v w → v ≡ asVerdict (r .line) (r .number) (r .detail) (r .value)
-as-passed fine s w r e = rw e
+pub as-passed : (v : Outcome) → Sound v → (w : ℕ) (r : Passed) → r ≡ passedOf v w → v ≡ asOutcome (r .line) (r .number) (r .detail) (r .value)
+as-passed passed s w r e = rw e
 as-passed (refused number line detail value) s w r e = rw (e, ne-eqb number 0 s)
 
-pub passed-words : (v : Verdict) (w : ℕ) (r : Passed) → r ≡ passedOf v w → v ≡ fine → r .words ≡ w
+pub passed-words : (v : Outcome) (w : ℕ) (r : Passed) → r ≡ passedOf v w → v ≡ passed → r .words ≡ w
 passed-words v w r e f = rw (e, f)
 
 -- ---- the lines at their addresses
-module _ {text : List ℕ} {from lines words : ℕ} {v s : List ℕ} (z : Sized text from lines words v s) where
+module _ {text : List ℕ} {from lines words : ℕ} {v s : List ℕ} (z : SizedSheet text from lines words v s) where
   first : getD (addressesIn text) 0 0 ≡ startIn text
   first = addresses-first (countIn text) (startIn text) (linesIn text) (omega (arith, z .least, z .counted))
 
@@ -135,10 +135,10 @@ module _ {text : List ℕ} {from lines words : ℕ} {v s : List ℕ} (z : Sized 
   image-is = rw (z .addresses, z .begin, first)
 
   module _ (p : Passed) (e : p ≡ passedOf (rangesAt (take lines s) (linesAt text from)) 0) where
-    ranged : rangesIn text ≡ asVerdict (p .line) (p .number) (p .detail) (p .value)
+    ranged : rangesIn text ≡ asOutcome (p .line) (p .number) (p .detail) (p .value)
     ranged =
         let f : rangesAt (take lines s) (linesAt text from) ≡ rangesIn text = rw (z .addresses, z .begin, first) in
-        as-passed (rangesIn text) (ranges-sound (addressesIn text) (countIn text) 1 (startIn text) (linesIn text)) 0 p (e ∙ ap (λ (w : Verdict). passedOf w 0) f)
+        as-passed (rangesIn text) (ranges-sound (addressesIn text) (countIn text) 1 (startIn text) (linesIn text)) 0 p (e ∙ ap (λ (w : Outcome). passedOf w 0) f)
 
     pub refused-range : (p .number ≡ 0 → ⊥) → (s′ : List ℕ) (r : Listed) → r ≡ listedAs (refused (p .number) (p .line) (p .detail) (p .value)) 0 0
         → s′ ≡ replicate (length s) 0 → Translated text v s v s′ r
@@ -147,16 +147,16 @@ module _ {text : List ℕ} {from lines words : ℕ} {v s : List ℕ} (z : Sized 
         (z .verdict ∙ ranged ∙ as-refused (p .line) (p .number) (p .detail) (p .value) h) s′ r f g
 
     module _ (h : p .number ≡ 0) where
-      is-fine : verdictOf text (length s) (length v) ≡ fine
+      is-fine : outcomeOf text (length s) (length v) ≡ passed
       is-fine = z .verdict ∙ ranged ∙ as-fine (p .line) (p .number) (p .detail) (p .value) h
 
       pub image-fits : length (imageAt (take lines s) (linesAt text from)) ≤ length v
       image-fits =
           omega (arith, ap length image-is, image-counts text (length s) (length v) is-fine, accepted text (length s) (length v) is-fine .image)
 
-      pub laid : (v′ : List ℕ) → v′ ≡ over (imageAt (take lines s) (linesAt text from)) v → Translated text v s v′ s (listedAs fine lines words)
+      pub laid : (v′ : List ℕ) → v′ ≡ over (imageAt (take lines s) (linesAt text from)) v → Translated text v s v′ s (listedAs passed lines words)
       laid v′ f =
-          by-verdict text v s fine is-fine v′ s (listedAs fine lines words) (rw (z .counted, z .needed))
+          by-verdict text v s passed is-fine v′ s (listedAs passed lines words) (rw (z .counted, z .needed))
           (f ∙ ap (λ (ws : List ℕ). over ws v) image-is) (sym (over-same lines (addressesIn text) s (z .addresses) (z .places)))
 
 -- ---- the lines of a sheet whose opening is in order
@@ -164,12 +164,12 @@ address-is : (t : Start) → startAt t .address ≡ startNumber t
 address-is (at n) = refl
 address-is notInForm = refl
 
-module _ (text v s : List ℕ) (o : openingOf text (length s) ≡ fine) (n : ℕ) (en : n ≡ feeds text) where
+module _ (text v s : List ℕ) (o : openingOf text (length s) ≡ passed) (n : ℕ) (en : n ≡ feeds text) where
   begun : Opened text (length s)
   begun = opened text (length s) o
 
   pub feeds-some : 1 ≤ n
-  feeds-some = omega (arith, shape text (begun .sheet) .least)
+  feeds-some = omega (arith, outline text (begun .sheet) .least)
 
   counted : n - 1 ≡ countIn text
   counted = ap (λ (k : ℕ). k - 1) en ∙ sym (count-feeds text (begun .sheet))
@@ -189,7 +189,7 @@ module _ (text v s : List ℕ) (o : openingOf text (length s) ≡ fine) (n : ℕ
       start-is = ap (λ (x : StartAt). x .address) et ∙ address-is (startOf (startLine text))
 
       module _ (p : Passed) (s₁ : List ℕ)
-          (ep : p ≡ passedOf (sizesVerdict (n - 1) 1 (linesAt text from)) (total (n - 1) (linesAt text from)))
+          (ep : p ≡ passedOf (sizesOutcome (n - 1) 1 (linesAt text from)) (total (n - 1) (linesAt text from)))
           (es : s₁ ≡ over (filledOf (n - 1) (t .address) (linesAt text from)) s) where
         passed : p ≡ passedOf (sizesIn text) (needIn text)
         passed = ep ∙ rw (counted, begin)
@@ -202,15 +202,15 @@ module _ (text v s : List ℕ) (o : openingOf text (length s) ≡ fine) (n : ℕ
             ap length filled
             ∙ over-length (filledOf (countIn text) (startIn text) (linesIn text)) s (omega (arith, filled-length (countIn text) (startIn text) (linesIn text), begun .scratch))
 
-        measured : sizesIn text ≡ asVerdict (p .line) (p .number) (p .detail) (p .value)
+        measured : sizesIn text ≡ asOutcome (p .line) (p .number) (p .detail) (p .value)
         measured = as-passed (sizesIn text) (sizes-sound (countIn text) 1 (linesIn text)) (needIn text) p passed
 
-        after : (w : Verdict) → sizesIn text ≡ w
-            → verdictOf text (length s) (length v) ≡ orElse w (orElse (closingOf (startIn text) (needIn text) (length v)) (rangesIn text))
+        after : (w : Outcome) → sizesIn text ≡ w
+            → outcomeOf text (length s) (length v) ≡ andThen w (andThen (closingOf (startIn text) (needIn text) (length v)) (rangesIn text))
         after w e =
             stages text (length s) (length v)
-            ∙ ap (λ (x : Verdict). orElse x (orElse (sizesIn text) (orElse (closingOf (startIn text) (needIn text) (length v)) (rangesIn text)))) o
-            ∙ ap (λ (x : Verdict). orElse x (orElse (closingOf (startIn text) (needIn text) (length v)) (rangesIn text))) e
+            ∙ ap (λ (x : Outcome). andThen x (andThen (sizesIn text) (andThen (closingOf (startIn text) (needIn text) (length v)) (rangesIn text)))) o
+            ∙ ap (λ (x : Outcome). andThen x (andThen (closingOf (startIn text) (needIn text) (length v)) (rangesIn text))) e
 
         zeroed : (s′ : List ℕ) → s′ ≡ replicate (length s₁) 0 → s′ ≡ replicate (length s) 0
         zeroed s′ e = e ∙ ap (λ (k : ℕ). replicate k 0) kept
@@ -222,7 +222,7 @@ module _ (text v s : List ℕ) (o : openingOf text (length s) ≡ fine) (n : ℕ
             (after (refused (p .number) (p .line) (p .detail) (p .value)) (measured ∙ as-refused (p .line) (p .number) (p .detail) (p .value) h)) s′ r f (zeroed s′ g)
 
         module _ (h : p .number ≡ 0) where
-          sizes-fine : sizesIn text ≡ fine
+          sizes-fine : sizesIn text ≡ passed
           sizes-fine = measured ∙ as-fine (p .line) (p .number) (p .detail) (p .value) h
 
           needed : p .words ≡ needIn text
@@ -231,17 +231,17 @@ module _ (text v s : List ℕ) (o : openingOf text (length s) ≡ fine) (n : ℕ
           pub words-most : p .words ≤ 45056
           words-most = omega (arith, needed, total-most (countIn text) (linesIn text), few, counted)
 
-          module _ (k : ℕ) (ek : k ≡ numberIn (closingOf (t .address) (p .words) (length v))) where
-            ended : closingOf (startIn text) (needIn text) (length v) ≡ asVerdict 0 k 0 (pos 0)
+          module _ (k : ℕ) (ek : k ≡ refusalNumber (closingOf (t .address) (p .words) (length v))) where
+            ended : closingOf (startIn text) (needIn text) (length v) ≡ asOutcome 0 k 0 (pos 0)
             ended =
-                let q : k ≡ numberIn (closingOf (startIn text) (needIn text) (length v)) = ek ∙ rw (start-is, needed) in
-                closing-outside (startIn text) (needIn text) (length v) ∙ ap (λ (x : ℕ). asVerdict 0 x 0 (pos 0)) (sym q)
+                let q : k ≡ refusalNumber (closingOf (startIn text) (needIn text) (length v)) = ek ∙ rw (start-is, needed) in
+                closing-outside (startIn text) (needIn text) (length v) ∙ ap (λ (x : ℕ). asOutcome 0 x 0 (pos 0)) (sym q)
 
             pub refused-end : (k ≡ 0 → ⊥) → (s′ : List ℕ) (r : Listed) → r ≡ listedAs (refused k 0 0 (pos 0)) 0 0
                 → s′ ≡ replicate (length s₁) 0 → Translated text v s v s′ r
             refused-end m s′ r f g =
                 turned-away text v s k 0 0 (pos 0)
-                (after fine sizes-fine ∙ ap (λ (x : Verdict). orElse x (rangesIn text)) (ended ∙ as-refused 0 k 0 (pos 0) m)) s′ r f (zeroed s′ g)
+                (after passed sizes-fine ∙ ap (λ (x : Outcome). andThen x (rangesIn text)) (ended ∙ as-refused 0 k 0 (pos 0) m)) s′ r f (zeroed s′ g)
 
             module _ (m : k ≡ 0) where
               close : Closed (startIn text) (needIn text) (length v)
@@ -251,18 +251,18 @@ module _ (text v s : List ℕ) (o : openingOf text (length s) ≡ fine) (n : ℕ
               addressed =
                   filled ∙ ap (λ (x : List ℕ). over x s) (filled-addresses (countIn text) 1 (startIn text) (linesIn text) sizes-fine (close .ends))
 
-              pub ready : Sized text from (n - 1) (p .words) v s₁
+              pub ready : SizedSheet text from (n - 1) (p .words) v s₁
               ready =
                   record {
                     begin = begin;
-                    least = omega (arith, shape text (begun .sheet) .least);
+                    least = omega (arith, outline text (begun .sheet) .least);
                     most = few;
                     counted = counted;
                     needed = needed;
                     places = omega (arith, kept, counted, begun .scratch);
                     addresses = rw addressed (over-take (addressesIn text) s (n - 1) (addresses-length (countIn text) (startIn text) (linesIn text) ∙ sym counted));
-                    verdict = ap (λ (x : ℕ). verdictOf text x (length v)) kept ∙ after fine sizes-fine
-                        ∙ ap (λ (x : Verdict). orElse x (rangesIn text)) (ended ∙ as-fine 0 k 0 (pos 0) m);
+                    verdict = ap (λ (x : ℕ). outcomeOf text x (length v)) kept ∙ after passed sizes-fine
+                        ∙ ap (λ (x : Outcome). andThen x (rangesIn text)) (ended ∙ as-fine 0 k 0 (pos 0) m);
                   }
 
               pub done : (v′ s′ : List ℕ) (r : Listed) → Translated text v s₁ v′ s′ r → Translated text v s v′ s′ r

@@ -1,5 +1,5 @@
 pub mod Translated
-pub mod VerdictLaws
+pub mod OutcomeLaws
 pub mod StageLaws
 pub mod PlaceLaws
 pub mod Stands

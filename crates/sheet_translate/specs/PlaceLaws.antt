@@ -9,8 +9,8 @@ use lib.ListN.{length, take, drop, getD, replicate, length-append, length-drop, 
 use lib.Seq.{drop-append-seam, take-at, drop-at}
 use Rattle.sheet_spec.specs.declared.Listed.{Listed}
 use Rattle.sheet_spec.specs.Sheet.{linesIn, sizedOf, counted, addressesFrom}
-use Rattle.sheet_spec.specs.Translate.{Verdict, fine, refused, startIn, countIn, addressesIn, needIn, imageIn, over, verdictOf, listedAs, listedOf, imageAs, imageOf, scratchAs, scratchOf}
-use Rattle.sheet_laws.specs.Verdicts.{accepted}
+use Rattle.sheet_spec.specs.Translate.{Outcome, passed, refused, startIn, countIn, addressesIn, needIn, imageIn, over, outcomeOf, listedAs, listedOf, imageAs, imageOf, scratchAs, scratchOf}
+use Rattle.sheet_laws.specs.Outcomes.{accepted}
 use Rattle.sheet_laws.specs.Demand3.{image-counts}
 use Rattle.sheet_passes.specs.Passes.{filledOf}
 use Rattle.sheet_translate.specs.Translated.{Translated}
@@ -55,29 +55,29 @@ filled-length n a (l ∷ ls) = go (eqb (sizedOf n l .number) 0) (filled-length n
 -- the scratch and the image keep their lengths
 pub scratch-length : (text s v : List ℕ) → length (scratchOf text s v) ≡ length s
 unfolding scratchOf
-scratch-length text s v = go (verdictOf text (length s) (length v)) refl
+scratch-length text s v = go (outcomeOf text (length s) (length v)) refl
   where
-    go : (w : Verdict) → verdictOf text (length s) (length v) ≡ w → length (scratchAs w (addressesIn text) s) ≡ length s
-    go fine e =
+    go : (w : Outcome) → outcomeOf text (length s) (length v) ≡ w → length (scratchAs w (addressesIn text) s) ≡ length s
+    go passed e =
         over-length (addressesIn text) s (omega (arith, addresses-length (countIn text) (startIn text) (linesIn text), accepted text (length s) (length v) e .scratch))
     go (refused number line detail value) e = length-replicate (length s) 0
 
 pub image-length : (text s v : List ℕ) → length (imageOf text s v) ≡ length v
 unfolding imageOf
-image-length text s v = go (verdictOf text (length s) (length v)) refl
+image-length text s v = go (outcomeOf text (length s) (length v)) refl
   where
-    go : (w : Verdict) → verdictOf text (length s) (length v) ≡ w → length (imageAs w (imageIn text) v) ≡ length v
-    go fine e =
+    go : (w : Outcome) → outcomeOf text (length s) (length v) ≡ w → length (imageAs w (imageIn text) v) ≡ length v
+    go passed e =
         over-length (imageIn text) v (omega (arith, image-counts text (length s) (length v) e, accepted text (length s) (length v) e .image))
     go (refused number line detail value) e = refl
 
 -- no more words are counted than there is room
 pub words-fit : (text : List ℕ) (places room : ℕ) → listedOf text places room .words ≤ room
 unfolding listedOf
-words-fit text places room = go (verdictOf text places room) refl
+words-fit text places room = go (outcomeOf text places room) refl
   where
-    go : (w : Verdict) → verdictOf text places room ≡ w → listedAs w (countIn text) (needIn text) .words ≤ room
-    go fine e = accepted text places room e .image
+    go : (w : Outcome) → outcomeOf text places room ≡ w → listedAs w (countIn text) (needIn text) .words ≤ room
+    go passed e = accepted text places room e .image
     go (refused number line detail value) e = omega arith
 
 -- a scratch that holds the addresses already is left as the one before would be
@@ -88,10 +88,10 @@ from-over text v s v′ s′ r h t =
     let n = over-length (addressesIn text) s h in
     record {
       listed = t .listed ∙ ap (λ (k : ℕ). listedOf text k (length v)) n;
-      image = t .image ∙ ap (λ (k : ℕ). imageAs (verdictOf text k (length v)) (imageIn text) v) n;
-      scratch = t .scratch ∙ ap (λ (k : ℕ). scratchAs (verdictOf text k (length v)) (addressesIn text) (over (addressesIn text) s)) n ∙ go (verdictOf text (length s) (length v));
+      image = t .image ∙ ap (λ (k : ℕ). imageAs (outcomeOf text k (length v)) (imageIn text) v) n;
+      scratch = t .scratch ∙ ap (λ (k : ℕ). scratchAs (outcomeOf text k (length v)) (addressesIn text) (over (addressesIn text) s)) n ∙ go (outcomeOf text (length s) (length v));
     }
   where
-    go : (w : Verdict) → scratchAs w (addressesIn text) (over (addressesIn text) s) ≡ scratchAs w (addressesIn text) s
-    go fine = over-over (addressesIn text) s
+    go : (w : Outcome) → scratchAs w (addressesIn text) (over (addressesIn text) s) ≡ scratchAs w (addressesIn text) s
+    go passed = over-over (addressesIn text) s
     go (refused number line detail value) = ap (λ (k : ℕ). replicate k 0) (over-length (addressesIn text) s h)

@@ -10,69 +10,69 @@ use lib.ListN.{length, replicate}
 use borrow.Author.Tests.{ne-eqb, leb-true}
 use Rattle.sheet_spec.specs.declared.Listed.{Listed}
 use Rattle.sheet_spec.specs.Sheet.{isSheet, startLine, Start, at, notInForm, startOf}
-use Rattle.sheet_spec.specs.Translate.{Verdict, fine, refused, orElse, unless, startVerdict, asVerdict, startIn, countIn, needIn, addressesIn, imageIn, verdictOf, listedAs, listedOf, imageAs, imageOf, scratchAs, scratchOf}
-use Rattle.sheet_translate.specs.Translated.{Translated, numberIn, openingOf, sizesIn, closingOf, rangesIn}
+use Rattle.sheet_spec.specs.Translate.{Outcome, passed, refused, andThen, require, startOutcome, asOutcome, startIn, countIn, needIn, addressesIn, imageIn, outcomeOf, listedAs, listedOf, imageAs, imageOf, scratchAs, scratchOf}
+use Rattle.sheet_translate.specs.Translated.{Translated, refusalNumber, openingOf, sizesIn, closingOf, rangesIn}
 
-or-three : (a b c d : Verdict) → orElse a (orElse b (orElse c d)) ≡ orElse (orElse a (orElse b c)) d
-or-three fine fine c d = refl
-or-three fine (refused number line detail value) c d = refl
+or-three : (a b c d : Outcome) → andThen a (andThen b (andThen c d)) ≡ andThen (andThen a (andThen b c)) d
+or-three passed passed c d = refl
+or-three passed (refused number line detail value) c d = refl
 or-three (refused number line detail value) b c d = refl
 
-or-two : (a b c : Verdict) → orElse a (orElse b c) ≡ orElse (orElse a b) c
-or-two fine b c = refl
+or-two : (a b c : Outcome) → andThen a (andThen b c) ≡ andThen (andThen a b) c
+or-two passed b c = refl
 or-two (refused number line detail value) b c = refl
 
 pub stages : (text : List ℕ) (places room : ℕ)
-    → verdictOf text places room ≡ orElse (openingOf text places) (orElse (sizesIn text) (orElse (closingOf (startIn text) (needIn text) room) (rangesIn text)))
-unfolding verdictOf
+    → outcomeOf text places room ≡ andThen (openingOf text places) (andThen (sizesIn text) (andThen (closingOf (startIn text) (needIn text) room) (rangesIn text)))
+unfolding outcomeOf
 stages text places room =
-    or-three (unless (isSheet text) 10) (startVerdict (startOf (startLine text))) (unless (leb (countIn text) places) 11) _
-    ∙ ap (λ (v : Verdict). orElse (openingOf text places) (orElse (sizesIn text) v))
-    (or-two (unless (leb (startIn text + 2 * needIn text) (2 ^ 32)) 9) (unless (leb (needIn text) room) 11) (rangesIn text))
+    or-three (require (isSheet text) 10) (startOutcome (startOf (startLine text))) (require (leb (countIn text) places) 11) _
+    ∙ ap (λ (v : Outcome). andThen (openingOf text places) (andThen (sizesIn text) v))
+    (or-two (require (leb (startIn text + 2 * needIn text) (2 ^ 32)) 9) (require (leb (needIn text) room) 11) (rangesIn text))
 
 -- ---- an opening or a closing is known by its number
-abbrev pub Outside : Verdict → Type 0
-Outside v = v ≡ asVerdict 0 (numberIn v) 0 (pos 0)
+abbrev pub Outside : Outcome → Type 0
+Outside v = v ≡ asOutcome 0 (refusalNumber v) 0 (pos 0)
 
-or-outside : (u v : Verdict) → Outside u → Outside v → Outside (orElse u v)
-or-outside fine v a b = b
+or-outside : (u v : Outcome) → Outside u → Outside v → Outside (andThen u v)
+or-outside passed v a b = b
 or-outside (refused number line detail value) v a b = a
 
-unless-outside : (b : Bool) (k : ℕ) → (k ≡ 0 → ⊥) → Outside (unless b k)
+unless-outside : (b : Bool) (k : ℕ) → (k ≡ 0 → ⊥) → Outside (require b k)
 unless-outside true k h = refl
 unless-outside false k h = rw (ne-eqb k 0 h)
 
-start-outside : (s : Start) → Outside (startVerdict s)
+start-outside : (s : Start) → Outside (startOutcome s)
 start-outside (at n) = unless-outside (eqb (n % 2) 0) 9 (λ e. omega arith)
 start-outside notInForm = refl
 
 pub opening-outside : (text : List ℕ) (places : ℕ) → Outside (openingOf text places)
 opening-outside text places =
-    or-outside (unless (isSheet text) 10) _ (unless-outside (isSheet text) 10 (λ e. omega arith))
-    (or-outside (startVerdict (startOf (startLine text))) _ (start-outside (startOf (startLine text)))
+    or-outside (require (isSheet text) 10) _ (unless-outside (isSheet text) 10 (λ e. omega arith))
+    (or-outside (startOutcome (startOf (startLine text))) _ (start-outside (startOf (startLine text)))
     (unless-outside (leb (countIn text) places) 11 (λ e. omega arith)))
 
 pub closing-outside : (start words room : ℕ) → Outside (closingOf start words room)
 closing-outside start words room =
-    or-outside (unless (leb (start + 2 * words) (2 ^ 32)) 9) _ (unless-outside (leb (start + 2 * words) (2 ^ 32)) 9 (λ e. omega arith))
+    or-outside (require (leb (start + 2 * words) (2 ^ 32)) 9) _ (unless-outside (leb (start + 2 * words) (2 ^ 32)) 9 (λ e. omega arith))
     (unless-outside (leb words room) 11 (λ e. omega arith))
 
 -- ---- a verdict by its number
-pub as-fine : (k number detail : ℕ) (value : ℤ) → number ≡ 0 → asVerdict k number detail value ≡ fine
+pub as-fine : (k number detail : ℕ) (value : ℤ) → number ≡ 0 → asOutcome k number detail value ≡ passed
 as-fine k number detail value e = rw e
 
-pub as-refused : (k number detail : ℕ) (value : ℤ) → (number ≡ 0 → ⊥) → asVerdict k number detail value ≡ refused number k detail value
+pub as-refused : (k number detail : ℕ) (value : ℤ) → (number ≡ 0 → ⊥) → asOutcome k number detail value ≡ refused number k detail value
 as-refused k number detail value e = rw (ne-eqb number 0 e)
 
 -- ---- what follows where nothing is refused
-refused-not : {C : Type 0} {number line detail : ℕ} {value : ℤ} → refused number line detail value ≡ fine → C
+refused-not : {C : Type 0} {number line detail : ℕ} {value : ℤ} → refused number line detail value ≡ passed → C
 refused-not e = let z : _≡_ {A = ℕ} 0 1 = cc in absurd (omega arith)
 
-both-fine : (u v : Verdict) → orElse u v ≡ fine → (u ≡ fine) × (v ≡ fine)
-both-fine fine v e = (refl, e)
+both-fine : (u v : Outcome) → andThen u v ≡ passed → (u ≡ passed) × (v ≡ passed)
+both-fine passed v e = (refl, e)
 both-fine (refused number line detail value) v e = refused-not e
 
-unless-true : (b : Bool) (k : ℕ) → unless b k ≡ fine → b ≡ true
+unless-true : (b : Bool) (k : ℕ) → require b k ≡ passed → b ≡ true
 unless-true true k e = refl
 unless-true false k e = refused-not e
 
@@ -80,10 +80,10 @@ pub record Opened (text : List ℕ) (places : ℕ) : Type 0 where
   pub sheet : isSheet text ≡ true
   pub scratch : countIn text ≤ places
 
-pub opened : (text : List ℕ) (places : ℕ) → openingOf text places ≡ fine → Opened text places
+pub opened : (text : List ℕ) (places : ℕ) → openingOf text places ≡ passed → Opened text places
 opened text places e =
-    let a = both-fine (unless (isSheet text) 10) _ e in
-    let b = both-fine (startVerdict (startOf (startLine text))) _ (a .1) in
+    let a = both-fine (require (isSheet text) 10) _ e in
+    let b = both-fine (startOutcome (startOf (startLine text))) _ (a .1) in
     record {
       sheet = unless-true (isSheet text) 10 (a .0);
       scratch = leb-true (countIn text) places (unless-true (leb (countIn text) places) 11 (b .1));
@@ -93,9 +93,9 @@ pub record Closed (start words room : ℕ) : Type 0 where
   pub ends : start + 2 * words ≤ 2 ^ 32
   pub image : words ≤ room
 
-pub closed : (start words room : ℕ) → closingOf start words room ≡ fine → Closed start words room
+pub closed : (start words room : ℕ) → closingOf start words room ≡ passed → Closed start words room
 closed start words room e =
-    let a = both-fine (unless (leb (start + 2 * words) (2 ^ 32)) 9) _ e in
+    let a = both-fine (require (leb (start + 2 * words) (2 ^ 32)) 9) _ e in
     record {
       ends = leb-true (start + 2 * words) (2 ^ 32) (unless-true (leb (start + 2 * words) (2 ^ 32)) 9 (a .0));
       image = leb-true words room (unless-true (leb words room) 11 (a .1));
@@ -103,19 +103,19 @@ closed start words room e =
 
 -- ---- what is returned and left, by the verdict
 module _ (text v s : List ℕ) where
-  pub by-verdict : (w : Verdict) → verdictOf text (length s) (length v) ≡ w → (v′ s′ : List ℕ) (r : Listed)
+  pub by-verdict : (w : Outcome) → outcomeOf text (length s) (length v) ≡ w → (v′ s′ : List ℕ) (r : Listed)
       → r ≡ listedAs w (countIn text) (needIn text) → v′ ≡ imageAs w (imageIn text) v → s′ ≡ scratchAs w (addressesIn text) s
       → Translated text v s v′ s′ r
   unfolding listedOf imageOf scratchOf
   by-verdict w e v′ s′ r a b c =
       record {
-        listed = a ∙ ap (λ (x : Verdict). listedAs x (countIn text) (needIn text)) (sym e);
-        image = b ∙ ap (λ (x : Verdict). imageAs x (imageIn text) v) (sym e);
-        scratch = c ∙ ap (λ (x : Verdict). scratchAs x (addressesIn text) s) (sym e);
+        listed = a ∙ ap (λ (x : Outcome). listedAs x (countIn text) (needIn text)) (sym e);
+        image = b ∙ ap (λ (x : Outcome). imageAs x (imageIn text) v) (sym e);
+        scratch = c ∙ ap (λ (x : Outcome). scratchAs x (addressesIn text) s) (sym e);
       }
 
   -- a refusal: the image unchanged, the scratch 0
-  pub turned-away : (number line detail : ℕ) (value : ℤ) → verdictOf text (length s) (length v) ≡ refused number line detail value
+  pub turned-away : (number line detail : ℕ) (value : ℤ) → outcomeOf text (length s) (length v) ≡ refused number line detail value
       → (s′ : List ℕ) (r : Listed) → r ≡ listedAs (refused number line detail value) 0 0 → s′ ≡ replicate (length s) 0
       → Translated text v s v s′ r
   turned-away number line detail value e s′ r a c = by-verdict (refused number line detail value) e v s′ r a refl c

@@ -9,12 +9,12 @@ use lib.Seq.{take-append-le, drop-append-le}
 use Rattle.read_spec.specs.declared.Reading.the-variants.{Read}
 use Rattle.sheet_spec.specs.declared.Listed.{Listed}
 use Rattle.sheet_spec.specs.Sheet.{linesIn, counted, total}
-use Rattle.sheet_spec.specs.Translate.{Verdict, fine, refused, startIn, countIn, addressesIn, needIn, imageIn, over, verdictOf, listedAs, listedOf, imageAs, imageOf, scratchAs, scratchOf}
+use Rattle.sheet_spec.specs.Translate.{Outcome, passed, refused, startIn, countIn, addressesIn, needIn, imageIn, over, outcomeOf, listedAs, listedOf, imageAs, imageOf, scratchAs, scratchOf}
 use Rattle.sheet_spec.specs.Follow.{Together, byLines, byWords, readingAt, plainLine, addressOf, countOf}
 use Rattle.sheet_laws.specs.Follows.{wordsAt, address-is}
 use Rattle.sheet_laws.specs.Demand3.{demand-3, each-line, each-stands, image-counts}
 use Rattle.sheet_translate.specs.Translated.{Translated}
-use Rattle.sheet_translate.specs.VerdictLaws.{Sound, verdict-sound}
+use Rattle.sheet_translate.specs.OutcomeLaws.{Sound, verdict-sound}
 use Rattle.sheet_translate.specs.PlaceLaws.{over-take, over-drop, addresses-length}
 
 -- no refusal: the counts; the followers of the lines and of the words left stay together after any choices; each line, reached or not, reads
@@ -33,14 +33,14 @@ pub record Stands (text v s v′ s′ : List ℕ) (r : Listed) : Type 0 where
   pub later-places : drop (r .lines) s′ ≡ drop (r .lines) s
 
 -- ---- an answer with no number is an accepted sheet's
-listed-fine : (w : Verdict) → Sound w → (lines words : ℕ) → listedAs w lines words .number ≡ 0 → w ≡ fine
-listed-fine fine s lines words e = refl
+listed-fine : (w : Outcome) → Sound w → (lines words : ℕ) → listedAs w lines words .number ≡ 0 → w ≡ passed
+listed-fine passed s lines words e = refl
 listed-fine (refused number line detail value) s lines words e = absurd (s e)
 
-pub number-fine : (text : List ℕ) (places room : ℕ) (r : Listed) → r ≡ listedOf text places room → r .number ≡ 0 → verdictOf text places room ≡ fine
+pub number-fine : (text : List ℕ) (places room : ℕ) (r : Listed) → r ≡ listedOf text places room → r .number ≡ 0 → outcomeOf text places room ≡ passed
 unfolding listedOf
 number-fine text places room r e h =
-    listed-fine (verdictOf text places room) (verdict-sound text places room) (countIn text) (needIn text) (ap (λ (x : Listed). x .number) (sym e) ∙ h)
+    listed-fine (outcomeOf text places room) (verdict-sound text places room) (countIn text) (needIn text) (ap (λ (x : Listed). x .number) (sym e) ∙ h)
 
 -- ---- where a line's words end
 total-at : (m : ℕ) (ls : List (List ℕ)) (n : ℕ) → n < length ls → total m (take n ls) + counted m (getD ls n []) ≤ total m ls
@@ -52,12 +52,12 @@ part-front : (x y : List ℕ) (at k : ℕ) → at + k ≤ length x → take k (d
 part-front x y at k h = rw (drop-append-le at x y (omega arith), take-append-le k (drop at x) y (rw length-drop (omega arith)))
 
 module _ (text v s v′ s′ : List ℕ) (r : Listed) (t : Translated text v s v′ s′ r) (h : r .number ≡ 0) where
-  accepts : verdictOf text (length s) (length v) ≡ fine
+  accepts : outcomeOf text (length s) (length v) ≡ passed
   accepts = number-fine text (length s) (length v) r (t .listed) h
 
-  answer : r ≡ listedAs fine (countIn text) (needIn text)
+  answer : r ≡ listedAs passed (countIn text) (needIn text)
   unfolding listedOf
-  answer = t .listed ∙ ap (λ (w : Verdict). listedAs w (countIn text) (needIn text)) accepts
+  answer = t .listed ∙ ap (λ (w : Outcome). listedAs w (countIn text) (needIn text)) accepts
 
   lines-are : r .lines ≡ countIn text
   lines-are = ap (λ (x : Listed). x .lines) answer
@@ -67,11 +67,11 @@ module _ (text v s v′ s′ : List ℕ) (r : Listed) (t : Translated text v s v
 
   image-left : v′ ≡ over (imageIn text) v
   unfolding imageOf
-  image-left = t .image ∙ ap (λ (w : Verdict). imageAs w (imageIn text) v) accepts
+  image-left = t .image ∙ ap (λ (w : Outcome). imageAs w (imageIn text) v) accepts
 
   scratch-left : s′ ≡ over (addressesIn text) s
   unfolding scratchOf
-  scratch-left = t .scratch ∙ ap (λ (w : Verdict). scratchAs w (addressesIn text) s) accepts
+  scratch-left = t .scratch ∙ ap (λ (w : Outcome). scratchAs w (addressesIn text) s) accepts
 
   places-are : length (addressesIn text) ≡ countIn text
   places-are = addresses-length (countIn text) (startIn text) (linesIn text)

@@ -7,7 +7,7 @@ use lib.ListN.{length, take, drop}
 use Rattle.base_text.specs.Lines.{linesOf}
 use Rattle.sheet_spec.specs.declared.Listed.{Listed}
 use Rattle.sheet_spec.specs.Sheet.{isSheet, startLine, linesIn, startOf}
-use Rattle.sheet_spec.specs.Translate.{Verdict, fine, refused, orElse, unless, startVerdict, sizesVerdict, rangesVerdict, startIn, countIn, addressesIn, needIn, verdictOf, listedOf, imageOf, scratchOf}
+use Rattle.sheet_spec.specs.Translate.{Outcome, passed, refused, andThen, require, startOutcome, sizesOutcome, rangesOutcome, startIn, countIn, addressesIn, needIn, outcomeOf, listedOf, imageOf, scratchOf}
 
 -- from a text, an image v and a scratch s: the answer r, the image v′ and the scratch s′
 pub record Translated (text v s v′ s′ : List ℕ) (r : Listed) : Type 0 where
@@ -16,29 +16,29 @@ pub record Translated (text v s v′ s′ : List ℕ) (r : Listed) : Type 0 wher
   pub scratch : s′ ≡ scratchOf text s v
 
 -- a refusal's number; 0 for none
-abbrev pub numberIn : Verdict → ℕ
-numberIn fine = 0
-numberIn (refused number line detail value) = number
+abbrev pub refusalNumber : Outcome → ℕ
+refusalNumber passed = 0
+refusalNumber (refused number line detail value) = number
 
 -- before the lines: the sheet's 10, START's 7 and 9, the scratch's 11
-abbrev pub openingOf : List ℕ → ℕ → Verdict
+abbrev pub openingOf : List ℕ → ℕ → Outcome
 openingOf text places =
-    orElse (unless (isSheet text) 10) (orElse (startVerdict (startOf (startLine text))) (unless (leb (countIn text) places) 11))
+    andThen (require (isSheet text) 10) (andThen (startOutcome (startOf (startLine text))) (require (leb (countIn text) places) 11))
 
 -- each line in turn: 7, 8, then 1, 2, 3
-abbrev pub sizesIn : List ℕ → Verdict
-sizesIn text = sizesVerdict (countIn text) 1 (linesIn text)
+abbrev pub sizesIn : List ℕ → Outcome
+sizesIn text = sizesOutcome (countIn text) 1 (linesIn text)
 
 -- after all lines: the end's 9, the image's 11
-abbrev pub closingOf : ℕ → ℕ → ℕ → Verdict
-closingOf start words room = orElse (unless (leb (start + 2 * words) (2 ^ 32)) 9) (unless (leb words room) 11)
+abbrev pub closingOf : ℕ → ℕ → ℕ → Outcome
+closingOf start words room = andThen (require (leb (start + 2 * words) (2 ^ 32)) 9) (require (leb words room) 11)
 
 -- each line in turn: 2
-abbrev pub rangesIn : List ℕ → Verdict
-rangesIn text = rangesVerdict (addressesIn text) (countIn text) 1 (startIn text) (linesIn text)
+abbrev pub rangesIn : List ℕ → Outcome
+rangesIn text = rangesOutcome (addressesIn text) (countIn text) 1 (startIn text) (linesIn text)
 
 -- the lines begin at `from` and are so many, of so many words; s holds their addresses, and their ranges are left to be looked at
-pub record Sized (text : List ℕ) (from lines words : ℕ) (v s : List ℕ) : Type 0 where
+pub record SizedSheet (text : List ℕ) (from lines words : ℕ) (v s : List ℕ) : Type 0 where
   pub begin : linesOf (drop from text) ≡ linesIn text
   pub least : 1 ≤ lines
   pub most : lines ≤ 4096
@@ -46,4 +46,4 @@ pub record Sized (text : List ℕ) (from lines words : ℕ) (v s : List ℕ) : T
   pub needed : words ≡ needIn text
   pub places : lines ≤ length s
   pub addresses : take lines s ≡ addressesIn text
-  pub verdict : verdictOf text (length s) (length v) ≡ rangesIn text
+  pub verdict : outcomeOf text (length s) (length v) ≡ rangesIn text

@@ -2,8 +2,8 @@
 ghost use mathlib.Core.Path.{_≡_};
 ghost use Prim.Native.Nat.{_≤_};
 ghost use lib.ListN.{length, replicate};
-ghost use Rattle.sheet_spec.specs.Translate.{fine, refused, listedAs};
-ghost use Rattle.sheet_translate.specs.Translated.{Translated, numberIn, openingOf, closingOf, Sized};
+ghost use Rattle.sheet_spec.specs.Translate.{passed, refused, listedAs};
+ghost use Rattle.sheet_translate.specs.Translated.{Translated, refusalNumber, openingOf, closingOf, SizedSheet};
 use sheet_spec::Listed;
 
 pub fn zero(s: &mut [u32])
@@ -33,7 +33,7 @@ fn refuse(scratch: &mut [u32], number: u8, line: usize, detail: u8, value: i64) 
 
 // Before the lines: the sheet's shape, START, the scratch. 0 where all are in order.
 fn opening(text: &[u8], places: usize) -> u8
-    ensures { λ r. ⌜ r ≡ numberIn (openingOf (now (text .entry)) places) ⌝ }
+    ensures { λ r. ⌜ r ≡ refusalNumber (openingOf (now (text .entry)) places) ⌝ }
 {
     if !sheet_start::is_sheet(text) {
         return 10;
@@ -54,7 +54,7 @@ fn opening(text: &[u8], places: usize) -> u8
 // After all lines: the end, the image's room. 0 where both are in order.
 fn closing(start: u32, words: usize, room: usize) -> u8
     requires { ⌜ words ≤ 45056 ⌝ }
-    ensures { λ r. ⌜ r ≡ numberIn (closingOf start words room) ⌝ }
+    ensures { λ r. ⌜ r ≡ refusalNumber (closingOf start words room) ⌝ }
 {
     if 4294967296 < start as usize + 2 * words {
         return 9;
@@ -74,7 +74,7 @@ fn lay_down(
     image: &mut [u16],
     scratch: &mut [u32],
 ) -> Listed
-    requires { ⌜ Sized (now text) from lines words (now image) (now scratch) ⌝ }
+    requires { ⌜ SizedSheet (now text) from lines words (now image) (now scratch) ⌝ }
     ensures { λ r. ⌜ Translated (now (text .entry)) (now (image .entry)) (now (scratch .entry)) (now (image .exit)) (now (scratch .exit)) r ⌝ }
 {
     let p = sheet_passes::ranges(text, from, &scratch[..lines]);
@@ -94,7 +94,7 @@ fn lay_down(
 
 // The lines of a sheet whose opening is in order.
 fn translate_lines(text: &[u8], image: &mut [u16], scratch: &mut [u32]) -> Listed
-    requires { ⌜ openingOf (now text) (length (now scratch)) ≡ fine ⌝ }
+    requires { ⌜ openingOf (now text) (length (now scratch)) ≡ passed ⌝ }
     ensures { λ r. ⌜ Translated (now (text .entry)) (now (image .entry)) (now (scratch .entry)) (now (image .exit)) (now (scratch .exit)) r ⌝ }
 {
     let lines = sheet_start::feeds(text) - 1;

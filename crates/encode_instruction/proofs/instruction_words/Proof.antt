@@ -206,8 +206,8 @@ raw-requires c κs = search needs
 enum-known-i-28 : tie.Need-enum-known-i-28
 enum-known-i-28 c = search needs
 
-plain-requires : tie.Need-plain-requires
-plain-requires c κs = search needs
+no-operand-requires : tie.Need-no-operand-requires
+no-operand-requires c κs = search needs
 
 enum-known-i-29 : tie.Need-enum-known-i-29
 enum-known-i-29 c = search needs
@@ -360,7 +360,7 @@ returns-27 : tie.Need-returns-27
 returns-27 c = rw (c .raw .ensures, c .before .before .i27 .given .1)
 
 returns-28 : tie.Need-returns-28
-returns-28 c = rw (c .plain .ensures, c .before .before .i28 .given .1)
+returns-28 c = rw (c .no-operand .ensures, c .before .before .i28 .given .1)
 
 returns-29 : tie.Need-returns-29
 returns-29 c = rw (c .rtd .ensures, c .before .before .i29 .given .1)
@@ -461,7 +461,7 @@ instruction-words-spec =
     enum-known-i-27
     raw-requires
     enum-known-i-28
-    plain-requires
+    no-operand-requires
     enum-known-i-29
     rtd-requires
     enum-known-i-30

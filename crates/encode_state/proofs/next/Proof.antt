@@ -2,7 +2,7 @@ use borrow.Author.Needs.{needs}
 use Rattle.encode_state.proofs.next.Statement.{statement}
 use Rattle.encode_state.proofs.next.Tie as tie
 use native.Mathlib.Omega.{arith}
-use Rattle.encode_state.specs.Encoder.{nextOf}
+use Rattle.encode_state.specs.Encoder.{nextAddress}
 
 cast-n : tie.Need-cast-n
 cast-n c = search needs
@@ -14,7 +14,7 @@ wrapping-add-u32-requires : tie.Need-wrapping-add-u32-requires
 wrapping-add-u32-requires c κs = search needs
 
 returns : tie.Need-returns
-unfolding nextOf
+unfolding nextAddress
 returns c = omega arith
 
 pub next-spec : {M : Type 1} → statement M

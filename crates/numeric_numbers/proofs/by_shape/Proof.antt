@@ -167,8 +167,8 @@ raw-requires c κs = search needs
 enum-known-instruction-28 : tie.Need-enum-known-instruction-28
 enum-known-instruction-28 c = search needs
 
-plain-requires : tie.Need-plain-requires
-plain-requires c κs = search needs
+no-operand-requires : tie.Need-no-operand-requires
+no-operand-requires c κs = search needs
 
 enum-known-instruction-29 : tie.Need-enum-known-instruction-29
 enum-known-instruction-29 c = search needs
@@ -306,7 +306,7 @@ returns-27 : tie.Need-returns-27
 returns-27 c = rw (c .raw .ensures, c .before .before .instruction27 .given .1)
 
 returns-28 : tie.Need-returns-28
-returns-28 c = rw (c .plain .ensures, c .before .before .instruction28 .given .1)
+returns-28 c = rw (c .no-operand .ensures, c .before .before .instruction28 .given .1)
 
 returns-29 : tie.Need-returns-29
 returns-29 c = rw (c .rtd .ensures, c .before .before .instruction29 .given .1)
@@ -394,7 +394,7 @@ by-shape-spec =
     enum-known-instruction-27
     raw-requires
     enum-known-instruction-28
-    plain-requires
+    no-operand-requires
     enum-known-instruction-29
     rtd-requires
     enum-known-instruction-30

@@ -28,7 +28,7 @@ returns-3 : tie.Need-returns-3
 returns-3 c = rw (c .before .enum-told3 .given .1, c .compare .ensures)
 
 instruction-of-requires : tie.Need-instruction-of-requires
-instruction-of-requires c κs = (c .before .pre .0, c .before .pre .1, c .before .pre .2, c .before .pre .3, forms (c .before .args .shape) (c .match .keys4))
+instruction-of-requires c κs = (c .before .pre .0, c .before .pre .1, c .before .pre .2, c .before .pre .3, forms (c .before .args .group) (c .match .keys4))
 
 read-requires : tie.Need-read-requires
 read-requires c κs = search needs

@@ -328,7 +328,7 @@ raw-requires-3 : tie.Need-raw-requires-3
 raw-requires-3 c κs = search needs
 
 returns-33 : tie.Need-returns-33
-returns-33 c = absurd (never (c .before .before .before .args .shape) (c .before .before .match .keys33) (c .before .before .before .pre .4))
+returns-33 c = absurd (never (c .before .before .before .args .group) (c .before .before .match .keys33) (c .before .before .before .pre .4))
 
 pub instruction-of-spec : {M : Type 1} → statement M
 instruction-of-spec =

@@ -16,8 +16,8 @@ cast-opmode c = search needs
 cast-ea : tie.Need-cast-ea
 cast-ea c = search needs
 
-shape-requires : tie.Need-shape-requires
-shape-requires c κs = search needs
+group-requires : tie.Need-group-requires
+group-requires c κs = search needs
 
 layout-requires : tie.Need-layout-requires
 layout-requires c κs = search needs
@@ -25,13 +25,13 @@ layout-requires c κs = search needs
 follow-requires : tie.Need-follow-requires
 follow-requires c κs = search needs
 
-formed-requires : tie.Need-formed-requires
-formed-requires c κs = search needs
+decoded-requires : tie.Need-decoded-requires
+decoded-requires c κs = search needs
 
 returns : tie.Need-returns
 unfolding followingAt
 returns c =
-    c .formed .ensures ∙ rw (c .before .follow .ensures, c .before .before .layout .ensures, c .before .before .before .shape .ensures)
+    c .decoded .ensures ∙ rw (c .before .follow .ensures, c .before .before .layout .ensures, c .before .before .before .group .ensures)
 
 pub read-word-spec : {M : Type 1} → statement M
 read-word-spec =
@@ -41,8 +41,8 @@ read-word-spec =
     cast-x
     cast-opmode
     cast-ea
-    shape-requires
+    group-requires
     layout-requires
     follow-requires
-    formed-requires
+    decoded-requires
     returns)

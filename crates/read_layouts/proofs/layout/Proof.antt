@@ -1,5 +1,5 @@
 use borrow.Author.Needs.{needs}
-use Rattle.read_layouts.proofs.Laws.{bare-shape}
+use Rattle.read_layouts.proofs.Laws.{bare-group}
 use Rattle.read_layouts.proofs.layout.Statement.{statement}
 use Rattle.read_layouts.proofs.layout.Tie as tie
 
@@ -343,7 +343,7 @@ returns-31 : tie.Need-returns-31
 returns-31 c = rw (c .bit-field-layout .ensures, c .before .bit-field-at .ensures, c .before .before .less3 .ensures, c .before .before .before .enum-told31 .given .1)
 
 returns-32 : tie.Need-returns-32
-returns-32 c = rw (c .bare .ensures) (bare-shape _ _ _ _ (c .before .before .args .shape) (c .before .match .keys32))
+returns-32 c = rw (c .bare .ensures) (bare-group _ _ _ _ (c .before .before .args .group) (c .before .match .keys32))
 
 pub layout-spec : {M : Type 1} → statement M
 layout-spec =

@@ -1,7 +1,7 @@
 use mathlib.Core.Path.{sym, _∙_}
 use native.Mathlib.Omega.{arith}
 use borrow.Author.Tests.{not-true, not-false}
-use Rattle.sheet_start.specs.SheetLaws.{shape}
+use Rattle.sheet_start.specs.SheetLaws.{outline}
 use Rattle.sheet_translate.proofs.Laws.{open-10, open-7, open-9, open-11, open-0}
 use borrow.Author.Needs.{needs}
 use Rattle.sheet_translate.proofs.opening.Statement.{statement}
@@ -34,7 +34,7 @@ feeds-requires : tie.Need-feeds-requires
 feeds-requires c κs = search needs
 
 sub-if4 : tie.Need-sub-if4
-sub-if4 c = omega (arith, shape (c .before .before .before .before .before .before .before .before .before .args .text .now) (sym (c .before .before .before .before .before .before .before .is-sheet .ensures) ∙ not-false _ (c .before .before .before .before .before .before .if1 .left)) .least)
+sub-if4 c = omega (arith, outline (c .before .before .before .before .before .before .before .before .before .args .text .now) (sym (c .before .before .before .before .before .before .before .is-sheet .ensures) ∙ not-false _ (c .before .before .before .before .before .before .if1 .left)) .least)
 
 returns-4 : tie.Need-returns-4
 returns-4 c =

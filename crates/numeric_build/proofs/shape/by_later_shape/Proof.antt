@@ -29,8 +29,8 @@ moveusp-at-requires c κs = search needs
 raw-at-requires : tie.Need-raw-at-requires
 raw-at-requires c κs = search needs
 
-plain-at-requires : tie.Need-plain-at-requires
-plain-at-requires c κs = search needs
+no-operand-at-requires : tie.Need-no-operand-at-requires
+no-operand-at-requires c κs = search needs
 
 rtd-at-requires : tie.Need-rtd-at-requires
 rtd-at-requires c κs = search needs
@@ -87,7 +87,7 @@ returns-8 : tie.Need-returns-8
 returns-8 c = rw (c .before .match .keys8, c .raw-at .ensures)
 
 returns-9 : tie.Need-returns-9
-returns-9 c = rw (c .before .match .keys9, c .plain-at .ensures)
+returns-9 c = rw (c .before .match .keys9, c .no-operand-at .ensures)
 
 returns-10 : tie.Need-returns-10
 returns-10 c = rw (c .before .match .keys10, c .rtd-at .ensures)
@@ -131,7 +131,7 @@ by-later-shape-spec =
     condition-code-at-requires
     moveusp-at-requires
     raw-at-requires
-    plain-at-requires
+    no-operand-at-requires
     rtd-at-requires
     movec-at-requires
     trapcc-at-requires

@@ -1,16 +1,23 @@
 use borrow.Author.Needs.{needs}
-use Rattle.read_spec.specs.Map.{groupOf, shapeOf, shapeAt, map}
-use Rattle.read_layouts.proofs.Laws.{by-rule}
+use lib.Dec.{ltb→lt}
+use Rattle.read_spec.specs.Map.{groupNumberOf, groupNumber, groupOf}
+use Rattle.read_layouts.proofs.Laws.{numbered}
 use Rattle.read_layouts.proofs.map.group.Statement.{statement}
 use Rattle.read_layouts.proofs.map.group.Tie as tie
 
-array-read-result : tie.Need-array-read-result
-array-read-result c = search needs
+group-number-requires : tie.Need-group-number-requires
+group-number-requires c κs = search needs
 
--- the test of the table, computed
+cast-i : tie.Need-cast-i
+cast-i c = search needs
+
+array-copy-out-result : tie.Need-array-copy-out-result
+unfolding groupNumberOf
+array-copy-out-result c = rw (c .group-number .ensures) (ltb→lt (groupNumber (groupOf (c .before .args .high))) 35 (numbered (groupOf (c .before .args .high)) .1))
+
 returns : tie.Need-returns
-unfolding groupOf shapeOf shapeAt map
-returns c = search (by-rule groupOf, c .pre)
+unfolding groupNumberOf
+returns c = rw (c .before .group-number .ensures) (numbered (groupOf (c .before .before .args .high)) .0)
 
 pub group-spec : {M : Type 1} → statement M
-group-spec = tie.close (tie.spec array-read-result returns)
+group-spec = tie.close (tie.spec group-number-requires cast-i array-copy-out-result returns)

@@ -9,7 +9,7 @@ use Rattle.isa.proofs.Operand.{the-type}
 use Rattle.isa.specs.declared.Operand.{Operand}
 use Rattle.isa.specs.declared.Operand.the-variants.{Immediate, Register, Indirect, PostIndirect, PreIndirect, IndirectDisplacement, IndirectIndex, PcDisplacement, PcIndex, Extended, Absolute}
 use Rattle.read_spec.specs.declared.Reading.the-variants.{Nothing}
-use Rattle.read_spec.specs.Formed.{movepFormed}
+use Rattle.read_spec.specs.Decoded.{movepDecoded}
 use Rattle.read_opcodes_0_7.specs.ReadAs.{readAs}
 use borrow.Author.Needs.{needs}
 use Rattle.read_opcodes_0_7.proofs.immediate.movep.Statement.{statement}
@@ -19,7 +19,7 @@ use Rattle.read_opcodes_0_7.proofs.immediate.movep.Tie as tie
 abbrev tags : List ℕ
 tags = 0 ∷ 1 ∷ 2 ∷ 3 ∷ 4 ∷ 6 ∷ 7 ∷ 8 ∷ 9 ∷ 10 ∷ []
 
-other : (x opmode n : ℕ) (o : Operand) → OneOf tags (tagOf the-type o) → Nothing ≡ readAs (movepFormed x opmode o) n
+other : (x opmode n : ℕ) (o : Operand) → OneOf tags (tagOf the-type o) → Nothing ≡ readAs (movepDecoded x opmode o) n
 other x m n (Immediate v) k = refl
 other x m n (Register r) k = refl
 other x m n (Indirect b) k = refl

@@ -7,14 +7,14 @@ use Rattle.isa.specs.declared.Size.{Size}
 use Rattle.isa.specs.declared.Operand.{Operand}
 use Rattle.isa.specs.declared.Operand.the-variants.{Immediate, Register, Indirect, PostIndirect, PreIndirect, IndirectDisplacement, IndirectIndex, PcDisplacement, PcIndex, Extended, Absolute}
 use Rattle.read_spec.specs.declared.Reading.the-variants.{Nothing}
-use Rattle.read_spec.specs.Formed.{cmpmFormed}
+use Rattle.read_spec.specs.Decoded.{cmpmDecoded}
 use Rattle.read_opcodes_0_7.specs.ReadAs.{readAs}
 use Rattle.read_opcodes_8_f.proofs.Laws.{tags}
 use borrow.Author.Needs.{needs}
 use Rattle.read_opcodes_8_f.proofs.arithmetic.cmpm.Statement.{statement}
 use Rattle.read_opcodes_8_f.proofs.arithmetic.cmpm.Tie as tie
 
-other : (s : Size) (d : Operand) (n : ℕ) (o : Operand) → OneOf tags (tagOf the-type o) → Nothing ≡ readAs (cmpmFormed s o d) n
+other : (s : Size) (d : Operand) (n : ℕ) (o : Operand) → OneOf tags (tagOf the-type o) → Nothing ≡ readAs (cmpmDecoded s o d) n
 other s d n (Immediate v) k = refl
 other s d n (Register r) k = refl
 other s d n (Indirect b) k = refl

@@ -7,7 +7,7 @@ use Rattle.isa.specs.declared.Size.{Size}
 use Rattle.isa.specs.declared.Operand.{Operand}
 use Rattle.isa.specs.declared.Operand.the-variants.{Immediate, Register, Indirect, PostIndirect, PreIndirect, IndirectDisplacement, IndirectIndex, PcDisplacement, PcIndex, Extended, Absolute}
 use Rattle.read_spec.specs.declared.Reading.the-variants.{Nothing}
-use Rattle.read_spec.specs.Formed.{cmpmTo}
+use Rattle.read_spec.specs.Decoded.{cmpmTo}
 use Rattle.read_opcodes_0_7.specs.ReadAs.{readAs}
 use Rattle.read_opcodes_8_f.proofs.Laws.{tags}
 use borrow.Author.Needs.{needs}

@@ -1,6 +1,6 @@
 use borrow.Author.Needs.{needs}
 use native.Mathlib.Omega.{arith}
-use Rattle.sheet_field.specs.Hash.{nameAt, startOf}
+use Rattle.sheet_field.specs.Hash.{nameAt, offsetOf}
 use Rattle.sheet_field.proofs.Hashed.{start-within, part-name}
 use Rattle.sheet_field.proofs.instructions.is_name.Statement.{statement}
 use Rattle.sheet_field.proofs.instructions.is_name.Tie as tie
@@ -37,7 +37,7 @@ is-part-requires c κs =
     (omega (arith, a, b, w), omega (arith, b, w))
 
 returns : tie.Need-returns
-unfolding startOf nameAt
+unfolding offsetOf nameAt
 returns c =
     let s = c .before .before .before .before .before in
     let a = c .before .before .before .start in

@@ -1,5 +1,5 @@
 use borrow.Author.Needs.{needs}
-use Rattle.sheet_field.specs.Hash.{startOf}
+use Rattle.sheet_field.specs.Hash.{offsetOf}
 use Rattle.sheet_field.proofs.Hashed.{by-rule}
 use Rattle.sheet_field.proofs.instructions.start.Statement.{statement}
 use Rattle.sheet_field.proofs.instructions.start.Tie as tie
@@ -11,8 +11,8 @@ array-read-result : tie.Need-array-read-result
 array-read-result c = search needs
 
 returns : tie.Need-returns
-unfolding startOf
-returns c = search (by-rule startOf 100, c .pre)
+unfolding offsetOf
+returns c = search (by-rule offsetOf 100, c .pre)
 
 pub start-spec : {M : Type 1} → statement M
 start-spec = tie.close (tie.spec mul-result array-read-result returns)

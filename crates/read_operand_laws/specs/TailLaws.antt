@@ -12,12 +12,12 @@ use Rattle.encode_spec.specs.Ea.{eaItems}
 use Rattle.read_spec.specs.declared.Specifier.{Specifier}
 use Rattle.read_spec.specs.declared.Specifier.the-variants as specifier
 use Rattle.read_spec.specs.declared.Layout.{Layout}
-use Rattle.read_spec.specs.declared.Fields.{Fields}
+use Rattle.read_spec.specs.declared.Tail.{Tail}
 use Rattle.read_spec.specs.Tree.{Tree, ret, more, got, run, bind, guard}
 use Rattle.read_spec.specs.Operand.{permitted, operandTree}
-use Rattle.read_spec.specs.Plain.{plainOperand, plainFields}
-use Rattle.read_spec.specs.Layout.{valid, oneWord, twoWords, specifierTree, accepts, fieldsTree}
-use Rattle.read_operand_laws.specs.Following.{specifierWords, OneStands, TwoStand, SpecifierStands, sourceAt, destinationAt, Following, followingWords}
+use Rattle.read_spec.specs.Plain.{plainOperand, plainTail}
+use Rattle.read_spec.specs.Layout.{valid, oneWord, twoWords, specifierTree, accepts, tailTree}
+use Rattle.read_operand_laws.specs.TailStands.{specifierWords, OneStands, TwoStand, SpecifierStands, sourceAt, destinationAt, TailStands, tailWords}
 use Rattle.read_operand_laws.specs.Facts.{and-true, words-count}
 use Rattle.read_operand_laws.specs.TreeLaws.{Words, rest-words, Alive, Clean, got-subst, short-no, guard-true, guard-then, guard-clean, guard-alive, bind-got, bind-then, bind-alive, bind-clean}
 use Rattle.read_operand_laws.specs.DisplacementLaws.{got-is}
@@ -117,16 +117,16 @@ specifier-clean specifier.Long = two-clean specifier.Long refl
 specifier-clean specifier.CompareTwo = two-clean specifier.CompareTwo refl
 
 -- ---- the parts of the whole
-abbrev made : ℕ → Operand → Operand → Fields
+abbrev made : ℕ → Operand → Operand → Tail
 made v o d = record { value = v; source = o; destination = d }
 
-abbrev lastPart : Layout → ℕ → Operand → Tree Fields
+abbrev lastPart : Layout → ℕ → Operand → Tree Tail
 lastPart l v o = bind (operandTree (l .size) (l .destination)) (λ d. ret (made v o d))
 
-abbrev operandPart : Layout → ℕ → Tree Fields
+abbrev operandPart : Layout → ℕ → Tree Tail
 operandPart l v = bind (operandTree (l .size) (l .source)) (λ o. lastPart l v o)
 
-abbrev wholePart : Layout → Tree Fields
+abbrev wholePart : Layout → Tree Tail
 wholePart l = bind (specifierTree (l .specifier)) (λ v. operandPart l v)
 
 following-length : (us vs ws : List ℕ) → length (us ++ (vs ++ ws)) ≡ length us + (length vs + length ws)
@@ -139,18 +139,18 @@ following-count us xs ys = omega (arith, following-length us (wordsIn xs) (words
 following-append : (us vs ws r : List ℕ) → (us ++ (vs ++ ws)) ++ r ≡ us ++ (vs ++ (ws ++ r))
 following-append us vs ws r = append-assoc us (vs ++ ws) r ∙ ap (λ (l : List ℕ). us ++ l) (append-assoc vs ws r)
 
-pub fields-complete : (a : ℕ) (l : Layout) (f : Fields) → Following a l f
+pub tail-complete : (a : ℕ) (l : Layout) (f : Tail) → TailStands a l f
     → (r : List ℕ)
-    → run (fieldsTree l) a 1 (followingWords a l f ++ r) ≡ got (plainFields f) (1 + length (followingWords a l f)) r
-fields-complete a l f h r =
+    → run (tailTree l) a 1 (tailWords a l f ++ r) ≡ got (plainTail f) (1 + length (tailWords a l f)) r
+tail-complete a l f h r =
     let us = specifierWords (l .specifier) (f .value) in
     let xs = eaItems (f .source) (l .size) (sourceAt a l f) in
     let ys = eaItems (f .destination) (l .size) (destinationAt a l f) in
     let n : ℕ = 1 + length us in
     let o = plainOperand (f .source) in
     let d = plainOperand (f .destination) in
-    ap (run (fieldsTree l) a 1) (following-append us (wordsIn xs) (wordsIn ys) r)
-    ∙ ap (λ (t : Tree Fields). run t a 1 (us ++ (wordsIn xs ++ (wordsIn ys ++ r)))) (guard-true (accepts l) (wholePart l) (h .0))
+    ap (run (tailTree l) a 1) (following-append us (wordsIn xs) (wordsIn ys) r)
+    ∙ ap (λ (t : Tree Tail). run t a 1 (us ++ (wordsIn xs ++ (wordsIn ys ++ r)))) (guard-true (accepts l) (wholePart l) (h .0))
     ∙ bind-got (specifierTree (l .specifier)) (λ v. operandPart l v) a 1 (us ++ (wordsIn xs ++ (wordsIn ys ++ r))) (f .value) n (wordsIn xs ++ (wordsIn ys ++ r))
     (specifier-complete (l .specifier) (f .value) (h .1) a 1 (wordsIn xs ++ (wordsIn ys ++ r)))
     ∙ bind-got (operandTree (l .size) (l .source)) (λ o. lastPart l (f .value) o) a n (wordsIn xs ++ (wordsIn ys ++ r)) o (n + countOf xs) (wordsIn ys ++ r)
@@ -159,23 +159,23 @@ fields-complete a l f h r =
     (operand-complete (l .size) a (n + countOf xs) (l .destination) (f .destination) (h .3) r)
     ∙ got-is r refl (following-count us xs ys)
 
-abbrev pub FieldsSound : ℕ → Layout → List ℕ → Fields → ℕ → List ℕ → Type 0
+abbrev pub FieldsSound : ℕ → Layout → List ℕ → Tail → ℕ → List ℕ → Type 0
 FieldsSound a l ws f m r =
-    Following a l f
-    × (plainFields f ≡ f)
-    × (ws ≡ followingWords a l f ++ r)
-    × (m ≡ 1 + length (followingWords a l f))
+    TailStands a l f
+    × (plainTail f ≡ f)
+    × (ws ≡ tailWords a l f ++ r)
+    × (m ≡ 1 + length (tailWords a l f))
 
 made-is : (v : ℕ) {o p d e : Operand} → o ≡ p → d ≡ e → made v o d ≡ made v p e
 made-is v p q = rw (p, q)
 
-pub fields-sound : (a : ℕ) (l : Layout) → l .source < 64 → l .destination < 64 → (ws : List ℕ) → Words ws → (f : Fields) (m : ℕ) (r : List ℕ)
-    → run (fieldsTree l) a 1 ws ≡ got f m r
-    → Following a l f
-    × (plainFields f ≡ f)
-    × (ws ≡ followingWords a l f ++ r)
-    × (m ≡ 1 + length (followingWords a l f))
-fields-sound a l hs hd ws h f m r e =
+pub tail-sound : (a : ℕ) (l : Layout) → l .source < 64 → l .destination < 64 → (ws : List ℕ) → Words ws → (f : Tail) (m : ℕ) (r : List ℕ)
+    → run (tailTree l) a 1 ws ≡ got f m r
+    → TailStands a l f
+    × (plainTail f ≡ f)
+    × (ws ≡ tailWords a l f ++ r)
+    × (m ≡ 1 + length (tailWords a l f))
+tail-sound a l hs hd ws h f m r e =
     let s = l .size in
     let g = guard-then (accepts l) (wholePart l) a 1 ws f m r e in
     bind-then (specifierTree (l .specifier)) (λ v. operandPart l v) a 1 ws f m r (g .1) (λ v i s1 e1 f1.
@@ -200,8 +200,8 @@ fields-sound a l hs hd ws h f m r e =
     ))))
 
 -- all that the operation word permits is completed by zeros
-pub fields-clean : (l : Layout) → Clean (fieldsTree l)
-fields-clean l =
+pub tail-clean : (l : Layout) → Clean (tailTree l)
+tail-clean l =
     guard-clean (accepts l) (wholePart l) (λ e.
     let c = and-true (l .accepted && permitted (l .readable) (l .source)) (permitted (l .writable) (l .destination)) e in
     let b = and-true (l .accepted) (permitted (l .readable) (l .source)) (c .0) in

@@ -9,7 +9,7 @@ use Rattle.encode_spec.specs.Ea.{eaItems}
 use Rattle.read_spec.specs.declared.Specifier.{Specifier}
 use Rattle.read_spec.specs.declared.Specifier.the-variants as specifier
 use Rattle.read_spec.specs.declared.Layout.{Layout}
-use Rattle.read_spec.specs.declared.Fields.{Fields}
+use Rattle.read_spec.specs.declared.Tail.{Tail}
 use Rattle.read_spec.specs.Layout.{valid, accepts}
 use Rattle.read_operand_laws.specs.Stands.{Stands}
 
@@ -45,21 +45,21 @@ SpecifierStands specifier.Long v = TwoStand specifier.Long v
 SpecifierStands specifier.CompareTwo v = TwoStand specifier.CompareTwo v
 
 -- where each operand's words begin; the operation word stands at a
-abbrev pub sourceAt : ℕ → Layout → Fields → ℕ
+abbrev pub sourceAt : ℕ → Layout → Tail → ℕ
 sourceAt a l f = placed a (1 + length (specifierWords (l .specifier) (f .value)))
 
-abbrev pub destinationAt : ℕ → Layout → Fields → ℕ
+abbrev pub destinationAt : ℕ → Layout → Tail → ℕ
 destinationAt a l f =
     placed a (1 + length (specifierWords (l .specifier) (f .value)) + countOf (eaItems (f .source) (l .size) (sourceAt a l f)))
 
-abbrev pub Following : ℕ → Layout → Fields → Type 0
-Following a l f =
+abbrev pub TailStands : ℕ → Layout → Tail → Type 0
+TailStands a l f =
     (accepts l ≡ true)
     × SpecifierStands (l .specifier) (f .value)
     × Stands (l .size) (sourceAt a l f) (l .source) (f .source)
     × Stands (l .size) (destinationAt a l f) (l .destination) (f .destination)
 
-abbrev pub followingWords : ℕ → Layout → Fields → List ℕ
-followingWords a l f =
+abbrev pub tailWords : ℕ → Layout → Tail → List ℕ
+tailWords a l f =
     specifierWords (l .specifier) (f .value)
     ++ (wordsIn (eaItems (f .source) (l .size) (sourceAt a l f)) ++ wordsIn (eaItems (f .destination) (l .size) (destinationAt a l f)))

@@ -1,6 +1,6 @@
 use borrow.Author.Needs.{needs}
-use Rattle.read_instruction.proofs.formed.Statement.{statement}
-use Rattle.read_instruction.proofs.formed.Tie as tie
+use Rattle.read_instruction.proofs.decoded.Statement.{statement}
+use Rattle.read_instruction.proofs.decoded.Tie as tie
 
 enum-known-read : tie.Need-enum-known-read
 enum-known-read c = search needs
@@ -29,8 +29,8 @@ returns-2 c = rw (c .enum-told .given .1)
 returns-3 : tie.Need-returns-3
 returns-3 c = rw (c .enum-told2 .given .1)
 
-pub formed-spec : {M : Type 1} → statement M
-formed-spec =
+pub decoded-spec : {M : Type 1} → statement M
+decoded-spec =
     tie.close
     (tie.spec
     enum-known-read

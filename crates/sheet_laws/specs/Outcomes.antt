@@ -19,18 +19,18 @@ use Rattle.sheet_spec.specs.Line.{equal}
 use Rattle.read_operand_laws.specs.Facts.{and-true, ltb-is, leb-is, eqb-eq}
 use Rattle.sheet_spec.specs.Sheet.{isSheet, feeds, last, startLine, linesIn, Start, at, notInForm, startAs, startOf, sizedOf, counted, total, lineEncoded}
 use Rattle.sheet_spec.specs.Sheet as sheet
-use Rattle.sheet_spec.specs.Translate.{Verdict, fine, refused, orElse, unless, startVerdict, startNumber, asVerdict, sizesVerdict, rangesVerdict, startIn, countIn, addressesIn, needIn, verdictOf}
+use Rattle.sheet_spec.specs.Translate.{Outcome, passed, refused, andThen, require, startOutcome, startNumber, asOutcome, sizesOutcome, rangesOutcome, startIn, countIn, addressesIn, needIn, outcomeOf}
 use Rattle.sheet_spec.specs.Follow.{lineAt, addressOf}
 use Rattle.sheet_laws.specs.Follows.{further}
 
-refused-not : {C : Type 0} {number line detail : ℕ} {value : ℤ} → refused number line detail value ≡ fine → C
+refused-not : {C : Type 0} {number line detail : ℕ} {value : ℤ} → refused number line detail value ≡ passed → C
 refused-not e = let z : _≡_ {A = ℕ} 0 1 = cc in absurd (omega arith)
 
-both-fine : (u v : Verdict) → orElse u v ≡ fine → (u ≡ fine) × (v ≡ fine)
-both-fine fine v e = (refl, e)
+both-fine : (u v : Outcome) → andThen u v ≡ passed → (u ≡ passed) × (v ≡ passed)
+both-fine passed v e = (refl, e)
 both-fine (refused number line detail value) v e = refused-not e
 
-unless-true : (b : Bool) (k : ℕ) → unless b k ≡ fine → b ≡ true
+unless-true : (b : Bool) (k : ℕ) → require b k ≡ passed → b ≡ true
 unless-true true k e = refl
 unless-true false k e = refused-not e
 
@@ -57,7 +57,7 @@ fields-low (f ∷ (g ∷ (h ∷ fs))) = omega arith
 pub start-low : (text : List ℕ) → startIn text < 2 ^ 32
 start-low text = fields-low (fields (startLine text))
 
-start-even : (s : Start) → startVerdict s ≡ fine → (s ≡ at (startNumber s)) × (startNumber s % 2 ≡ 0)
+start-even : (s : Start) → startOutcome s ≡ passed → (s ≡ at (startNumber s)) × (startNumber s % 2 ≡ 0)
 start-even (at n) e = (refl, eqb-eq (n % 2) 0 (unless-true (eqb (n % 2) 0) 9 e))
 start-even notInForm e = refused-not e
 
@@ -85,27 +85,27 @@ sheet-lines text e =
     drop-length (linesOf text) (omega (arith, leb-is 2 (feeds text) (q .1), feeds-lines text))
 
 -- ---- each line
-as-fine : (k number detail : ℕ) (value : ℤ) → asVerdict k number detail value ≡ fine → number ≡ 0
+as-fine : (k number detail : ℕ) (value : ℤ) → asOutcome k number detail value ≡ passed → number ≡ 0
 as-fine k number detail value e = go (eqb number 0) refl e
   where
-    go : (t : Bool) → eqb number 0 ≡ t → cond t fine (refused number k detail value) ≡ fine → number ≡ 0
+    go : (t : Bool) → eqb number 0 ≡ t → cond t passed (refused number k detail value) ≡ passed → number ≡ 0
     go true h e = eqb-eq number 0 h
     go false h e = refused-not e
 
-sizes-fine : (n k : ℕ) (ls : List (List ℕ)) → sizesVerdict n k ls ≡ fine → (j : ℕ) → j < length ls → sizedOf n (getD ls j []) .number ≡ 0
+sizes-fine : (n k : ℕ) (ls : List (List ℕ)) → sizesOutcome n k ls ≡ passed → (j : ℕ) → j < length ls → sizedOf n (getD ls j []) .number ≡ 0
 sizes-fine n k [] e j h = absurd (omega arith)
-sizes-fine n k (l ∷ ls) e zero h = as-fine k _ (sizedOf n l .detail) (sizedOf n l .value) (both-fine _ (sizesVerdict n (suc k) ls) e .0)
-sizes-fine n k (l ∷ ls) e (suc j) h = sizes-fine n (suc k) ls (both-fine (asVerdict k (sizedOf n l .number) (sizedOf n l .detail) (sizedOf n l .value)) _ e .1) j (omega arith)
+sizes-fine n k (l ∷ ls) e zero h = as-fine k _ (sizedOf n l .detail) (sizedOf n l .value) (both-fine _ (sizesOutcome n (suc k) ls) e .0)
+sizes-fine n k (l ∷ ls) e (suc j) h = sizes-fine n (suc k) ls (both-fine (asOutcome k (sizedOf n l .number) (sizedOf n l .detail) (sizedOf n l .value)) _ e .1) j (omega arith)
 
-ranges-fine : (A : List ℕ) (n k a : ℕ) (ls : List (List ℕ)) → rangesVerdict A n k a ls ≡ fine
+ranges-fine : (A : List ℕ) (n k a : ℕ) (ls : List (List ℕ)) → rangesOutcome A n k a ls ≡ passed
     → (j : ℕ) → j < length ls → lineEncoded A (getD ls j []) (a + 2 * total n (take j ls)) .number ≡ 0
 ranges-fine A n k a [] e j h = absurd (omega arith)
 ranges-fine A n k a (l ∷ ls) e zero h =
     ap (λ (x : ℕ). lineEncoded A l x .number) (add-zero a)
-    ∙ as-fine k _ (lineEncoded A l a .detail) (lineEncoded A l a .value) (both-fine _ (rangesVerdict A n (suc k) (a + 2 * counted n l) ls) e .0)
+    ∙ as-fine k _ (lineEncoded A l a .detail) (lineEncoded A l a .value) (both-fine _ (rangesOutcome A n (suc k) (a + 2 * counted n l) ls) e .0)
 ranges-fine A n k a (l ∷ ls) e (suc j) h =
     ap (λ (x : ℕ). lineEncoded A (getD ls j []) x .number) (sym (further a (counted n l) (total n (take j ls))))
-    ∙ ranges-fine A n (suc k) (a + 2 * counted n l) ls (both-fine (asVerdict k (lineEncoded A l a .number) (lineEncoded A l a .detail) (lineEncoded A l a .value)) _ e .1) j (omega arith)
+    ∙ ranges-fine A n (suc k) (a + 2 * counted n l) ls (both-fine (asOutcome k (lineEncoded A l a .number) (lineEncoded A l a .detail) (lineEncoded A l a .value)) _ e .1) j (omega arith)
 
 -- ---- an accepted sheet
 pub record Accepted (text : List ℕ) (places room : ℕ) : Type 0 where
@@ -119,15 +119,15 @@ pub record Accepted (text : List ℕ) (places room : ℕ) : Type 0 where
   pub image : needIn text ≤ room
   pub encoded : (n : ℕ) → 1 ≤ n → n ≤ countIn text → lineEncoded (addressesIn text) (lineAt text n) (addressOf text n) .number ≡ 0
 
-pub accepted : (text : List ℕ) (places room : ℕ) → verdictOf text places room ≡ fine → Accepted text places room
-unfolding verdictOf
+pub accepted : (text : List ℕ) (places room : ℕ) → outcomeOf text places room ≡ passed → Accepted text places room
+unfolding outcomeOf
 accepted text places room e =
-    let a = both-fine (unless (isSheet text) 10) _ e in
-    let b = both-fine (startVerdict (startOf (startLine text))) _ (a .1) in
-    let c = both-fine (unless (leb (countIn text) places) 11) _ (b .1) in
-    let d = both-fine (sizesVerdict (countIn text) 1 (linesIn text)) _ (c .1) in
-    let f = both-fine (unless (leb (startIn text + 2 * needIn text) (2 ^ 32)) 9) _ (d .1) in
-    let g = both-fine (unless (leb (needIn text) room) 11) _ (f .1) in
+    let a = both-fine (require (isSheet text) 10) _ e in
+    let b = both-fine (startOutcome (startOf (startLine text))) _ (a .1) in
+    let c = both-fine (require (leb (countIn text) places) 11) _ (b .1) in
+    let d = both-fine (sizesOutcome (countIn text) 1 (linesIn text)) _ (c .1) in
+    let f = both-fine (require (leb (startIn text + 2 * needIn text) (2 ^ 32)) 9) _ (d .1) in
+    let g = both-fine (require (leb (needIn text) room) 11) _ (f .1) in
     let s = unless-true (isSheet text) 10 (a .0) in
     let t = start-even (startOf (startLine text)) (b .0) in
     record {
@@ -143,38 +143,38 @@ accepted text places room e =
     }
 
 -- ---- no refusal comes otherwise
-unless-is : (b : Bool) (k : ℕ) → b ≡ true → unless b k ≡ fine
+unless-is : (b : Bool) (k : ℕ) → b ≡ true → require b k ≡ passed
 unless-is true k e = refl
 unless-is false k e = absurd (false≢true e)
 
-as-zero : (k number detail : ℕ) (value : ℤ) → number ≡ 0 → asVerdict k number detail value ≡ fine
+as-zero : (k number detail : ℕ) (value : ℤ) → number ≡ 0 → asOutcome k number detail value ≡ passed
 as-zero k number detail value e = rw (eq-eqb number 0 e)
 
-sizes-all : (n k : ℕ) (ls : List (List ℕ)) → ((j : ℕ) → j < length ls → sizedOf n (getD ls j []) .number ≡ 0) → sizesVerdict n k ls ≡ fine
+sizes-all : (n k : ℕ) (ls : List (List ℕ)) → ((j : ℕ) → j < length ls → sizedOf n (getD ls j []) .number ≡ 0) → sizesOutcome n k ls ≡ passed
 sizes-all n k [] h = refl
 sizes-all n k (l ∷ ls) h =
-    ap (λ v. orElse v (sizesVerdict n (suc k) ls)) (as-zero k (sizedOf n l .number) (sizedOf n l .detail) (sizedOf n l .value) (h 0 (omega arith)))
+    ap (λ v. andThen v (sizesOutcome n (suc k) ls)) (as-zero k (sizedOf n l .number) (sizedOf n l .detail) (sizedOf n l .value) (h 0 (omega arith)))
     ∙ sizes-all n (suc k) ls (λ j q. h (suc j) (omega arith))
 
 ranges-all : (A : List ℕ) (n k a : ℕ) (ls : List (List ℕ))
-    → ((j : ℕ) → j < length ls → lineEncoded A (getD ls j []) (a + 2 * total n (take j ls)) .number ≡ 0) → rangesVerdict A n k a ls ≡ fine
+    → ((j : ℕ) → j < length ls → lineEncoded A (getD ls j []) (a + 2 * total n (take j ls)) .number ≡ 0) → rangesOutcome A n k a ls ≡ passed
 ranges-all A n k a [] h = refl
 ranges-all A n k a (l ∷ ls) h =
     let first = ap (λ (x : ℕ). lineEncoded A l x .number) (sym (add-zero a)) ∙ h 0 (omega arith) in
-    ap (λ v. orElse v (rangesVerdict A n (suc k) (a + 2 * counted n l) ls)) (as-zero k (lineEncoded A l a .number) (lineEncoded A l a .detail) (lineEncoded A l a .value) first)
+    ap (λ v. andThen v (rangesOutcome A n (suc k) (a + 2 * counted n l) ls)) (as-zero k (lineEncoded A l a .number) (lineEncoded A l a .detail) (lineEncoded A l a .value) first)
     ∙ ranges-all A n (suc k) (a + 2 * counted n l) ls
     (λ j q. ap (λ (x : ℕ). lineEncoded A (getD ls j []) x .number) (further a (counted n l) (total n (take j ls))) ∙ h (suc j) (omega arith))
 
-and-fine : (u v : Verdict) → u ≡ fine → v ≡ fine → orElse u v ≡ fine
-and-fine u v p q = ap (λ w. orElse w v) p ∙ q
+and-fine : (u v : Outcome) → u ≡ passed → v ≡ passed → andThen u v ≡ passed
+and-fine u v p q = ap (λ w. andThen w v) p ∙ q
 
-pub not-otherwise : (text : List ℕ) (places room : ℕ) → Accepted text places room → verdictOf text places room ≡ fine
-unfolding verdictOf
+pub not-otherwise : (text : List ℕ) (places room : ℕ) → Accepted text places room → outcomeOf text places room ≡ passed
+unfolding outcomeOf
 not-otherwise text places room ok =
-    and-fine (unless (isSheet text) 10) _ (unless-is (isSheet text) 10 (ok .sheet))
-    (and-fine (startVerdict (startOf (startLine text))) _ (ap startVerdict (ok .start) ∙ unless-is (eqb (startIn text % 2) 0) 9 (eq-eqb (startIn text % 2) 0 (ok .even)))
-    (and-fine (unless (leb (countIn text) places) 11) _ (unless-is _ 11 (le-leb (countIn text) places (ok .scratch)))
-    (and-fine (sizesVerdict (countIn text) 1 (linesIn text)) _ (sizes-all (countIn text) 1 (linesIn text) (λ j q. ok .sized (suc j) (omega arith) (omega arith)))
-    (and-fine (unless (leb (startIn text + 2 * needIn text) (2 ^ 32)) 9) _ (unless-is _ 9 (le-leb (startIn text + 2 * needIn text) (2 ^ 32) (ok .ends)))
-    (and-fine (unless (leb (needIn text) room) 11) _ (unless-is _ 11 (le-leb (needIn text) room (ok .image)))
+    and-fine (require (isSheet text) 10) _ (unless-is (isSheet text) 10 (ok .sheet))
+    (and-fine (startOutcome (startOf (startLine text))) _ (ap startOutcome (ok .start) ∙ unless-is (eqb (startIn text % 2) 0) 9 (eq-eqb (startIn text % 2) 0 (ok .even)))
+    (and-fine (require (leb (countIn text) places) 11) _ (unless-is _ 11 (le-leb (countIn text) places (ok .scratch)))
+    (and-fine (sizesOutcome (countIn text) 1 (linesIn text)) _ (sizes-all (countIn text) 1 (linesIn text) (λ j q. ok .sized (suc j) (omega arith) (omega arith)))
+    (and-fine (require (leb (startIn text + 2 * needIn text) (2 ^ 32)) 9) _ (unless-is _ 9 (le-leb (startIn text + 2 * needIn text) (2 ^ 32) (ok .ends)))
+    (and-fine (require (leb (needIn text) room) 11) _ (unless-is _ 11 (le-leb (needIn text) room (ok .image)))
     (ranges-all (addressesIn text) (countIn text) 1 (startIn text) (linesIn text) (λ j q. ok .encoded (suc j) (omega arith) (omega arith))))))))

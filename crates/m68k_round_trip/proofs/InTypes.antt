@@ -9,15 +9,15 @@ use mir.Val.{Val}
 use Rattle.isa.specs.declared.Operand.{Operand}
 use Rattle.isa.specs.declared.Operand.the-variants.{Immediate, Register, Indirect, PostIndirect, PreIndirect, IndirectDisplacement, IndirectIndex, PcDisplacement, PcIndex, Extended, Absolute}
 use Rattle.isa.specs.declared.Instruction.{Instruction}
-use Rattle.isa.specs.declared.Instruction.the-variants.{IntoRegister, MOVEM, Transfer, Pair, Quick, MOVEQ, ImmediateInto, WordIntoData, SWAP, EXG, UnsizedIntoRegister, UnsizedOne, UnsizedPair, EXT, OneOperand, Bcc, Scc, DBcc, Branch, Link, UNLK, Shift, Vector, Status, ConditionCode, MOVEUSP, Raw, Plain, RTD, MOVEC, TRAPcc, MULL, Pack, CAS, CAS2, BF, DIVL}
+use Rattle.isa.specs.declared.Instruction.the-variants.{IntoRegister, MOVEM, Transfer, Pair, Quick, MOVEQ, ImmediateInto, WordIntoData, SWAP, EXG, UnsizedIntoRegister, UnsizedOne, UnsizedPair, EXT, OneOperand, Bcc, Scc, DBcc, Branch, Link, UNLK, Shift, Vector, Status, ConditionCode, MOVEUSP, Raw, NoOperand, RTD, MOVEC, TRAPcc, MULL, Pack, CAS, CAS2, BF, DIVL}
 use Rattle.isa.specs.declared.TrapOperand.{TrapOperand}
 use Rattle.isa.specs.declared.TrapOperand.the-variants as trap
 use Rattle.isa.proofs.TrapOperand as trap-type
 use Rattle.isa.proofs.Operand as operand
 use Rattle.isa.proofs.Instruction as instruction
 use Rattle.read_operand_laws.specs.Facts.{as-fits32, ltb-true}
-use Rattle.read_operand_laws.specs.Stands.{Fits32, Typed}
-use Rattle.read_laws.specs.Statements.{TypedInstruction, TypedTrap}
+use Rattle.read_operand_laws.specs.Stands.{Fits32, InTypes}
+use Rattle.read_laws.specs.Statements.{InstructionInTypes, TrapInTypes}
 
 extended-typed : (base w : ℕ) (z outer : ℤ) (vs : List Val) → Is (row operand.the-type) (Extended base w z outer) vs → (w < 65536) × Fits32 z × Fits32 outer
 extended-typed base w (pos m) (pos n) vs h = (omega (arith, h), as-fits32 (pos m) (ltb-true m _ (omega (arith, h))), as-fits32 (pos n) (ltb-true n _ (omega (arith, h))))
@@ -25,7 +25,7 @@ extended-typed base w (pos m) (negsuc n) vs h = (omega (arith, h), as-fits32 (po
 extended-typed base w (negsuc m) (pos n) vs h = (omega (arith, h), as-fits32 (negsuc m) (ltb-true m _ (omega (arith, h))), as-fits32 (pos n) (ltb-true n _ (omega (arith, h))))
 extended-typed base w (negsuc m) (negsuc n) vs h = (omega (arith, h), as-fits32 (negsuc m) (ltb-true m _ (omega (arith, h))), as-fits32 (negsuc n) (ltb-true n _ (omega (arith, h))))
 
-operand-typed : (o : Operand) (vs : List Val) → Is (row operand.the-type) o vs → Typed o
+operand-typed : (o : Operand) (vs : List Val) → Is (row operand.the-type) o vs → InTypes o
 operand-typed (Immediate v) vs h = tt
 operand-typed (Register r) vs h = tt
 operand-typed (Indirect n) vs h = tt
@@ -38,12 +38,12 @@ operand-typed (PcIndex t x) vs h = omega (arith, h)
 operand-typed (Extended base w z outer) vs h = extended-typed base w z outer vs h
 operand-typed (Absolute a width) vs h = omega (arith, h)
 
-trap-typed : (x : TrapOperand) (vs : List Val) → Is (row trap-type.the-type) x vs → TypedTrap x
+trap-typed : (x : TrapOperand) (vs : List Val) → Is (row trap-type.the-type) x vs → TrapInTypes x
 trap-typed trap.None vs h = tt
 trap-typed (trap.Word v) vs h = omega (arith, h)
 trap-typed (trap.Long v) vs h = omega (arith, h)
 
-pub instruction-typed : (i : Instruction) (vs : List Val) → Is (row instruction.the-type) i vs → TypedInstruction i
+pub instruction-typed : (i : Instruction) (vs : List Val) → Is (row instruction.the-type) i vs → InstructionInTypes i
 instruction-typed (IntoRegister op o r s) vs h = operand-typed o _ (h .1 .1 .1 .1 .1 .0)
 instruction-typed (MOVEM direction s mask o) vs h = (omega (arith, h), operand-typed o _ (h .1 .1 .1 .1 .1 .1 .1 .0))
 instruction-typed (Transfer op direction s r o) vs h = operand-typed o _ (h .1 .1 .1 .1 .1 .1 .1 .1 .0)
@@ -71,7 +71,7 @@ instruction-typed (Status op v) vs h = omega (arith, h)
 instruction-typed (ConditionCode op v) vs h = omega (arith, h)
 instruction-typed (MOVEUSP to r) vs h = tt
 instruction-typed (Raw op w) vs h = omega (arith, h)
-instruction-typed (Plain op) vs h = tt
+instruction-typed (NoOperand op) vs h = tt
 instruction-typed (RTD d) vs h = omega (arith, h)
 instruction-typed (MOVEC to control r) vs h = tt
 instruction-typed (TRAPcc condition x) vs h = trap-typed x _ (h .1 .1 .1 .1 .1 .0)

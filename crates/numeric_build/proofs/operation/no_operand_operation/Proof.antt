@@ -1,8 +1,8 @@
 use Prim.Native.Nat.{_≤_}
 use lib.ListN.{List·getD-eq-default}
 use Rattle.numeric_fields.proofs.Laws.{rest-le}
-use Rattle.numeric_build.proofs.operation.plain_operation.Statement.{statement}
-use Rattle.numeric_build.proofs.operation.plain_operation.Tie as tie
+use Rattle.numeric_build.proofs.operation.no_operand_operation.Statement.{statement}
+use Rattle.numeric_build.proofs.operation.no_operand_operation.Tie as tie
 
 returns : tie.Need-returns
 returns c = rw (c .match .keys1)
@@ -31,8 +31,8 @@ returns-8 c = rw (c .match .keys8)
 returns-9 : tie.Need-returns-9
 returns-9 c = let h : 8 ≤ c .before .args .place = rest-le 8 _ (c .match .rest) in rw (List·getD-eq-default)
 
-pub plain-operation-spec : {M : Type 1} → statement M
-plain-operation-spec =
+pub no-operand-operation-spec : {M : Type 1} → statement M
+no-operand-operation-spec =
     tie.close
     (tie.spec
     returns
