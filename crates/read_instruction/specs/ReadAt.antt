@@ -9,19 +9,19 @@ use Rattle.read_spec.specs.declared.Group.{Group}
 use Rattle.read_spec.specs.declared.Tail.{Tail}
 use Rattle.read_spec.specs.declared.Reading.{Reading}
 use Rattle.read_spec.specs.declared.Reading.the-variants.{Short, Nothing}
+use Rattle.read_spec.specs.Depth.{atOut, Within, depth-within, tail-depth}
 use Rattle.read_spec.specs.Tree.{Tree, ret, fail, more, run, Out, got, short, none, At, runAt}
 use Rattle.read_spec.specs.Map.{groupAt, groupOf}
 use Rattle.read_spec.specs.Layout.{tailTree}
 use Rattle.read_spec.specs.Layouts.{layoutOf}
 use Rattle.read_spec.specs.Decoded.{decoded}
 use Rattle.read_spec.specs.Read.{groupTree, readingOf, readOf}
-use Rattle.read_spec.specs.Depth.{Within, depth-within, tail-depth}
 use Rattle.read_operands.specs.declared.Followed.{Followed}
 use Rattle.read_operands.specs.declared.Followed.the-variants.{Got}
 use Rattle.read_operands.specs.declared.Followed.the-variants as follow
 use Rattle.read_operands.specs.Read.{followed}
 use Rattle.read_opcodes_0_7.specs.ReadAs.{readAs}
-use Rattle.read_operand_laws.specs.TreeLaws.{after, run-bind, run-at, atOf}
+use Rattle.read_operand_laws.specs.TreeLaws.{after, run-bind, run-at}
 use Rattle.read_laws.specs.DecodedLaws.{Flat, decoded-flat}
 
 -- at most 13 words are read, so a place modulo 16 is the place
@@ -48,7 +48,7 @@ module _ (a : ℕ) (s : Group) (line x opmode ea : ℕ) where
   decoded-tree : Tail → Tree Instruction
   decoded-tree f = decoded a s line x opmode ea (f .value) (f .source) (f .destination)
 
-  read-after : (o : Out Tail) → Within (atOf o) 13 → readingOf (after o a (λ f. decoded a s line x opmode ea (f .value) (f .source) (f .destination))) ≡ decodedAt a s line x opmode ea (atOf o)
+  read-after : (o : Out Tail) → Within (atOut o) 13 → readingOf (after o a (λ f. decoded a s line x opmode ea (f .value) (f .source) (f .destination))) ≡ decodedAt a s line x opmode ea (atOut o)
   read-after (got f m r) h = flat-read (decoded a s line x opmode ea (f .value) (f .source) (f .destination)) (decoded-flat a s line x opmode ea (f .value) (f .source) (f .destination)) a m r h
   read-after short h = refl
   read-after none h = refl
@@ -57,7 +57,7 @@ module _ (a : ℕ) (s : Group) (line x opmode ea : ℕ) where
   read-group w ws =
       let l = layoutOf s line x opmode ea in
       let t = tailTree l in
-      let p : runAt t a (w ∷ ws) 1 ≡ atOf (run t a 1 ws) = run-at t a (w ∷ ws) 1 (omega arith) in
+      let p : runAt t a (w ∷ ws) 1 ≡ atOut (run t a 1 ws) = run-at t a (w ∷ ws) 1 (omega arith) in
       let h : Within (runAt t a (w ∷ ws) 1) 13 = depth-within t 12 (tail-depth l) a (w ∷ ws) 1 in
       ap readingOf (run-bind t _ a 1 ws) ∙ read-after (run t a 1 ws) (rw p at h) ∙ ap (decodedAt a s line x opmode ea) (sym p)
 

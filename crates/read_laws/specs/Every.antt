@@ -1,8 +1,8 @@
--- Every instruction reads, what every group reads encodes, and both effective addresses of every layout are in six bits.
-use Prim.Native.Nat.{ℕ, _<_}
+-- Every instruction reads, and what every group reads encodes.
+use Prim.Native.Nat.{ℕ}
 use mathlib.Core.Path.{refl}
-use mathlib.Core.Bool.{false≢true}
 use native.Mathlib.Omega.{arith}
+use mathlib.Core.Bool.{false≢true}
 use Rattle.isa.specs.declared.RegisterOperation.the-variants.{ADDA, SUBA, CMPA, MOVEA, CMP, CHK2, CMP2}
 use Rattle.isa.specs.declared.TransferOperation.the-variants.{MOVEP, MOVES}
 use Rattle.isa.specs.declared.PairOperation.the-variants.{MOVE, ADD, SUB, ADDX, SUBX, CMPM, OR, AND, EOR}
@@ -15,40 +15,16 @@ use Rattle.isa.specs.declared.Instruction.{Instruction}
 use Rattle.isa.specs.declared.Instruction.the-variants.{IntoRegister, MOVEM, Transfer, Pair, Quick, MOVEQ, ImmediateInto, WordIntoData, SWAP, EXG, UnsizedIntoRegister, UnsizedOne, UnsizedPair, EXT, OneOperand, Bcc, Scc, DBcc, Branch, Link, UNLK, Shift, Vector, Status, ConditionCode, MOVEUSP, Raw, NoOperand, RTD, MOVEC, TRAPcc, MULL, Pack, CAS, CAS2, BF, DIVL}
 use Rattle.read_spec.specs.declared.Group.{Group}
 use Rattle.read_spec.specs.declared.Group.the-variants as group
-use Rattle.read_spec.specs.Layouts.{layoutOf}
-use Rattle.read_laws.specs.Statements.{Accepted, Reads, Sound, InSixBits}
-use Rattle.read_laws.specs.Arithmetic.{addx-reads, arithmetic-six, arithmetic-sound, subx-reads}
-use Rattle.read_laws.specs.Bit.{bit-reads, dynamic-bit-six, dynamic-bit-sound, static-bit-six, static-bit-sound}
-use Rattle.read_laws.specs.BitField.{bf-reads, bit-field-six, bit-field-sound}
-use Rattle.read_laws.specs.Bounds.{bounds-six, bounds-sound, chk2-reads, cmp2-reads}
-use Rattle.read_laws.specs.Branch.{bcc-reads, branch-reads, branch-six, branch-sound}
-use Rattle.read_laws.specs.Cas.{cas-reads, cas-six, cas-sound, cas2-reads}
-use Rattle.read_laws.specs.Compare.{cmpm-reads, compare-six, compare-sound, eor-reads}
-use Rattle.read_laws.specs.Conditional.{conditional-six, conditional-sound, dbcc-reads, scc-reads, trapcc-reads}
-use Rattle.read_laws.specs.Decimal.{abcd-reads, decimal-six, decimal-sound, sbcd-reads}
-use Rattle.read_laws.specs.Exchange.{exchange-six, exchange-sound, exg-reads}
-use Rattle.read_laws.specs.Ext.{ext-reads}
-use Rattle.read_laws.specs.ImmediateInto.{condition-code-reads, immediate-into-reads, immediate-into-six, immediate-into-sound, status-reads}
-use Rattle.read_laws.specs.IntoAddress.{adda-reads, cmpa-reads, into-address-six, into-address-sound, suba-reads}
-use Rattle.read_laws.specs.IntoData.{cmp-reads, into-data-six, into-data-sound}
-use Rattle.read_laws.specs.Move.{move-reads, move-six, move-sound, movea-reads}
-use Rattle.read_laws.specs.Movem.{movem-reads, movem-six, movem-sound}
-use Rattle.read_laws.specs.Movep.{movep-reads}
-use Rattle.read_laws.specs.Moveq.{moveq-reads, moveq-six, moveq-sound}
-use Rattle.read_laws.specs.Moves.{moves-reads, moves-six, moves-sound}
-use Rattle.read_laws.specs.MulDiv.{divl-reads, divl-six, divl-sound, mull-reads, mull-six, mull-sound}
-use Rattle.read_laws.specs.Nbcd.{linkl-reads, nbcd-six, nbcd-sound}
-use Rattle.read_laws.specs.OneOperand.{one-operand-reads, one-operand-six, one-operand-sound}
-use Rattle.read_laws.specs.Pack.{pack-reads, pack-six, pack-sound}
-use Rattle.read_laws.specs.Pairs.{add-reads, and-reads, or-reads, sub-reads}
-use Rattle.read_laws.specs.Pea.{bkpt-reads, pea-six, pea-sound, swap-reads}
-use Rattle.read_laws.specs.Quick.{quick-reads, quick-six, quick-sound}
-use Rattle.read_laws.specs.Raw.{line-a-six, line-a-sound, line-f-six, line-f-sound, raw-reads}
-use Rattle.read_laws.specs.Shift.{shift-memory-six, shift-memory-sound, shift-reads, shift-register-six, shift-register-sound}
-use Rattle.read_laws.specs.System.{link-reads, movec-reads, moveusp-reads, plain-reads, rtd-reads, stop-reads, system-six, system-sound, trap-reads, unlk-reads}
-use Rattle.read_laws.specs.UnsizedIntoRegister.{chk-six, chk-sound, lea-six, lea-sound, unsized-into-register-reads}
-use Rattle.read_laws.specs.UnsizedOne.{illegal-reads, unsized-one-reads, unsized-one-six, unsized-one-sound}
-use Rattle.read_laws.specs.WordIntoData.{word-into-data-reads, word-into-data-six, word-into-data-sound}
+use Rattle.read_laws.specs.Statements.{Accepted, Reads, Sound}
+use Rattle.read_laws.specs.FromData.{addx-reads, arithmetic-sound, subx-reads, cmpm-reads, compare-sound, eor-reads, abcd-reads, decimal-sound, sbcd-reads, exchange-sound, exg-reads, pack-reads, pack-sound, add-reads, and-reads, or-reads, sub-reads}
+use Rattle.read_laws.specs.Bits.{bit-reads, dynamic-bit-sound, static-bit-sound, condition-code-reads, immediate-into-reads, immediate-into-sound, status-reads, movep-reads}
+use Rattle.read_laws.specs.Shift.{bf-reads, bit-field-sound, shift-memory-sound, shift-reads, shift-register-sound}
+use Rattle.read_laws.specs.Extension.{bounds-sound, chk2-reads, cmp2-reads, cas-reads, cas-sound, cas2-reads, moves-reads, moves-sound, divl-reads, divl-sound, mull-reads, mull-sound}
+use Rattle.read_laws.specs.Control.{bcc-reads, branch-reads, branch-sound, conditional-sound, dbcc-reads, scc-reads, trapcc-reads, moveq-reads, moveq-sound, quick-reads, quick-sound}
+use Rattle.read_laws.specs.Miscellaneous.{ext-reads, movem-reads, movem-sound, linkl-reads, nbcd-sound, one-operand-reads, one-operand-sound, bkpt-reads, pea-sound, swap-reads, chk-sound, lea-sound, unsized-into-register-reads, illegal-reads, unsized-one-reads, unsized-one-sound}
+use Rattle.read_laws.specs.IntoRegister.{adda-reads, cmpa-reads, into-address-sound, suba-reads, cmp-reads, into-data-sound, word-into-data-reads, word-into-data-sound}
+use Rattle.read_laws.specs.Move.{move-reads, move-sound, movea-reads}
+use Rattle.read_laws.specs.System.{line-a-sound, line-f-sound, raw-reads, link-reads, movec-reads, moveusp-reads, plain-reads, rtd-reads, stop-reads, system-sound, trap-reads, unlk-reads}
 
 pub instruction-reads : (a : ℕ) (i : Instruction) → Accepted a i → Reads a i
 instruction-reads a (IntoRegister ADDA o r s) h = adda-reads a o r s h
@@ -80,10 +56,10 @@ instruction-reads a (UnsizedIntoRegister op o r) h = unsized-into-register-reads
 instruction-reads a (UnsizedOne op o) h = unsized-one-reads a op o h
 instruction-reads a (UnsizedPair ABCD o d) h = abcd-reads a o d h
 instruction-reads a (UnsizedPair SBCD o d) h = sbcd-reads a o d h
-instruction-reads a (UnsizedPair BTST o d) h = bit-reads a BTST o d refl h
-instruction-reads a (UnsizedPair BCLR o d) h = bit-reads a BCLR o d refl h
-instruction-reads a (UnsizedPair BSET o d) h = bit-reads a BSET o d refl h
-instruction-reads a (UnsizedPair BCHG o d) h = bit-reads a BCHG o d refl h
+instruction-reads a (UnsizedPair BTST o d) h = bit-reads a 0 (omega arith) o d h
+instruction-reads a (UnsizedPair BCLR o d) h = bit-reads a 2 (omega arith) o d h
+instruction-reads a (UnsizedPair BSET o d) h = bit-reads a 3 (omega arith) o d h
+instruction-reads a (UnsizedPair BCHG o d) h = bit-reads a 1 (omega arith) o d h
 instruction-reads a (EXT r from to) h = ext-reads a r from to h
 instruction-reads a (OneOperand op o s) h = one-operand-reads a op o s h
 instruction-reads a (Bcc t condition s) h = bcc-reads a t condition s h
@@ -157,40 +133,3 @@ group-sound group.ShiftMemory = shift-memory-sound
 group-sound group.BitField = bit-field-sound
 group-sound group.LineA = line-a-sound
 group-sound group.LineF = line-f-sound
-
-pub group-six : (s : Group) (line x opmode ea : ℕ) → x < 8 → opmode < 8 → ea < 64 → InSixBits (layoutOf s line x opmode ea)
-group-six group.Unused = λ line x opmode ea hx ho he. (omega arith, omega arith)
-group-six group.ImmediateInto = immediate-into-six
-group-six group.StaticBit = static-bit-six
-group-six group.DynamicBitMovep = dynamic-bit-six
-group-six group.MOVES = moves-six
-group-six group.Bounds = bounds-six
-group-six group.CAS = cas-six
-group-six group.MOVE = move-six
-group-six group.OneOperand = one-operand-six
-group-six group.UnsizedOne = unsized-one-six
-group-six group.NbcdLink = nbcd-six
-group-six group.PeaSwapBkpt = pea-six
-group-six group.MovemExt = movem-six
-group-six group.MULL = mull-six
-group-six group.DIVL = divl-six
-group-six group.System = system-six
-group-six group.LeaExtb = lea-six
-group-six group.CHK = chk-six
-group-six group.Quick = quick-six
-group-six group.Conditional = conditional-six
-group-six group.Branch = branch-six
-group-six group.MOVEQ = moveq-six
-group-six group.IntoData = into-data-six
-group-six group.ArithmeticExtended = arithmetic-six
-group-six group.LogicDecimal = decimal-six
-group-six group.LogicPack = pack-six
-group-six group.LogicExchange = exchange-six
-group-six group.LogicCompare = compare-six
-group-six group.WordIntoData = word-into-data-six
-group-six group.IntoAddress = into-address-six
-group-six group.ShiftRegister = shift-register-six
-group-six group.ShiftMemory = shift-memory-six
-group-six group.BitField = bit-field-six
-group-six group.LineA = line-a-six
-group-six group.LineF = line-f-six

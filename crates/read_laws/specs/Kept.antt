@@ -35,7 +35,8 @@ word-depth : (a line x opmode ea : ℕ) → Depth (wordTree a line x opmode ea) 
 word-depth a line x opmode ea =
     let s = groupAt line x opmode in
     let t = wordTree a line x opmode ea in
-    let h : Depth t 12 = bind-depth (tailTree (layoutOf s line x opmode ea)) _ 12 (tail-depth (layoutOf s line x opmode ea)) (λ f. decoded-flat a s line x opmode ea (f .value) (f .source) (f .destination)) in
+    let h : Depth t 12 = bind-depth (tailTree (layoutOf s line x opmode ea)) _ 12 (tail-depth (layoutOf s line x opmode ea))
+    (λ f. decoded-flat a s line x opmode ea (f .value) (f .source) (f .destination)) in
     deeper t 14 (deeper t 13 (deeper t 12 h))
 
 reader-depth : (a : ℕ) → Depth (reader a) 16

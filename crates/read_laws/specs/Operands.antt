@@ -1,5 +1,5 @@
--- Which operand a mode and a register number name.
-use Prim.Native.Nat.{ℕ, _<_}
+-- Registers in three bits and in four, and which operand a mode and a register number name.
+use Prim.Native.Nat.{ℕ, _<_, _+_, _*_, _/_, _%_}
 use mathlib.Core.Path.{_≡_, refl, ap}
 use mathlib.Core.Bool.{Bool, true, false, cond}
 use mathlib.Core.List.{[], _∷_}
@@ -11,15 +11,31 @@ use Rattle.isa.specs.declared.RegisterOperand.the-variants.{Address, Data}
 use Rattle.isa.specs.declared.Operand.{Operand}
 use Rattle.isa.specs.declared.Operand.the-variants.{Immediate, Register, Indirect, PostIndirect, PreIndirect, IndirectDisplacement, IndirectIndex, PcDisplacement, PcIndex, Extended, Absolute}
 use Rattle.isa.specs.declared.AddressWidth.the-variants as width
-use Rattle.encode_spec.specs.Item.{fine, dataVerdict}
-use Rattle.isa.specs.Code.{registerBits}
+use Rattle.encode_spec.specs.Item.{fine, dataVerdict, addressVerdict}
+use Rattle.isa.specs.Code.{registerBits, numberOfRegister, general}
 use Rattle.encode_spec.specs.Ea.{isRegister, isImmediate, modeOf, registerNumber}
-use Rattle.read_operand_laws.specs.Facts.{eqb-eq, number-lt, reason-not}
+use Rattle.read_operand_laws.specs.Facts.{eqb-eq, number-lt, reason-not, Lt, lt?, ltb-true, ltb-not, eqb-is}
+use Rattle.read_spec.specs.Operand.{generalOf}
+use Rattle.read_spec.specs.declared.Specifier.the-variants as specifier
+use Rattle.read_operand_laws.specs.IndexLaws.{general-lt}
+use Rattle.read_operand_laws.specs.TailStands.{SpecifierStands}
 
--- a register that is a data register
+-- a data register, or an address register, in three bits
 pub data-bits : (r : RegisterOperand) → dataVerdict r ≡ fine → Data (registerBits r) ≡ r
 data-bits (Address n) e = reason-not 1 e
 data-bits (Data n) e = ap Data (omega (arith, number-lt n e))
+
+pub address-bits : (r : RegisterOperand) → addressVerdict r ≡ fine → Address (registerBits r) ≡ r
+address-bits (Address n) e = let l = number-lt n e in ap Address (omega arith)
+address-bits (Data n) e = reason-not 2 e
+
+pub data-is : (r : RegisterOperand) → dataVerdict r ≡ fine → (n : ℕ) × (n < 8) × (r ≡ Data n)
+data-is (Address n) e = reason-not 1 e
+data-is (Data n) e = (n, number-lt n e, refl)
+
+pub address-is : (r : RegisterOperand) → addressVerdict r ≡ fine → (n : ℕ) × (n < 8) × (r ≡ Address n)
+address-is (Address n) e = (n, number-lt n e, refl)
+address-is (Data n) e = reason-not 2 e
 
 -- a Register operand, an Immediate or another
 pub by-kind : (P : Operand → Type 0) → ((r : RegisterOperand) → P (Register r)) → ((v : ℕ) → P (Immediate v))
@@ -66,3 +82,32 @@ pub simple-is : (m : ℕ) → m < 5 → (o : Operand) → eqb (modeOf o) m ≡ t
 simple-is m h o e =
     let q = eqb-eq (modeOf o) m e in
     rw q at (simple o (omega arith))
+
+-- ---- a register in four bits
+pub general-of : (r : RegisterOperand) → numberOfRegister r < 8 → generalOf (general r) ≡ r
+general-of (Address n) h = rw (ltb-not (8 + n % 8) 8 (omega arith)) (ap Address (omega arith))
+general-of (Data n) h = rw (ltb-true (n % 8) 8 (omega arith)) (ap Data (omega arith))
+
+-- the code of the register that four bits name, and its number
+pub of-general : (k : ℕ) → k < 16 → (general (generalOf k) ≡ k) × (numberOfRegister (generalOf k) < 8)
+of-general k h = go (lt? k 8)
+  where
+    go : Lt k 8 → (general (generalOf k) ≡ k) × (numberOfRegister (generalOf k) < 8)
+    go (Lt.less l e) = rw e (omega arith, l)
+    go (Lt.notLess l e) = rw e (omega arith, omega arith)
+
+-- a register and bit 11 in a word
+abbrev pub generalWord : RegisterOperand → ℕ → ℕ
+generalWord r b = general r * 4096 + b * 2048
+
+pub word-fields : (r : RegisterOperand) (b : ℕ) → b < 2
+    → (generalWord r b / 4096 % 16 ≡ general r) × (generalWord r b / 2048 % 2 ≡ b) × SpecifierStands specifier.General (generalWord r b)
+word-fields r b h =
+    let g = general-lt r in
+    (omega arith, omega arith, (omega arith, eqb-is (generalWord r b % 2048) 0 (omega arith)))
+
+pub fields-word : (v : ℕ) → SpecifierStands specifier.General v → generalWord (generalOf (v / 4096 % 16)) (v / 2048 % 2) ≡ v
+fields-word v (l, e) =
+    let g = of-general (v / 4096 % 16) (omega arith) .0 in
+    let z = eqb-eq (v % 2048) 0 e in
+    omega arith

@@ -1,7 +1,7 @@
 -- The reader and the encoder are each other's inverse: T1 to T5, from what is proved of each instruction and each group.
-use Prim.Native.Nat.{ℕ, zero, suc, _+_, _*_, _-_, _/_, _%_, _<_}
+use Prim.Native.Nat.{ℕ, zero, suc, _+_, _*_, _/_, _%_, _<_}
 use mathlib.Core.Path.{_≡_, refl, ap, sym, _∙_, subst}
-use mathlib.Core.List.{List, [], _∷_, _++_}
+use mathlib.Core.List.{List, [], _∷_, _++_, append-nil}
 use native.Mathlib.Omega.{arith}
 use lib.ListN.{length, take, replicate, length-append}
 use lib.Seq.{take-at}
@@ -21,8 +21,7 @@ use Rattle.read_operand_laws.specs.TreeLaws.{Words, words-append, short-no, non
 use Rattle.read_operand_laws.specs.TailStands.{tailWords}
 use Rattle.read_laws.specs.Statements.{Accepted, Reads, reads}
 use Rattle.read_operand_laws.specs.TailLaws.{tail-complete, tail-sound, tail-clean}
-use Rattle.read_laws.specs.Every.{instruction-reads, group-sound, group-six}
-use Rattle.read_laws.specs.Forms.{append-nil}
+use Rattle.read_laws.specs.Every.{instruction-reads, group-sound}
 use Rattle.read_laws.specs.DecodedLaws.{Flat, decoded-flat, flat-got, flat-short, live-is, decoded-live}
 use Rattle.read_laws.specs.WordLaws.{following-words, word-lt}
 use Rattle.isa.specs.declared.NoOperandOperation.the-variants.{NOP}
@@ -75,12 +74,14 @@ reader-sound a (w ∷ ws) h i n r e =
     let ea = w % 64 in
     let s = groupAt line x opmode in
     let l = layoutOf s line x opmode ea in
-    let six = group-six s line x opmode ea (omega arith) (omega arith) (omega arith) in
     bind-then (tailTree l) _ a 1 ws i n r e (λ f m t e1 e2.
-    let b = tail-sound a l (six .0) (six .1) ws (h .1) f m t e1 in
-    let g = flat-got (decoded a s line x opmode ea (f .value) (f .source) (f .destination)) (decoded-flat a s line x opmode ea (f .value) (f .source) (f .destination)) a m t i n r e2 in
+    let b = tail-sound a l ws (h .1) f m t e1 in
+    let g = flat-got (decoded a s line x opmode ea (f .value) (f .source) (f .destination))
+    (decoded-flat a s line x opmode ea (f .value) (f .source) (f .destination)) a m t i n r e2 in
     let c = group-sound s a line x opmode ea (omega (arith, h .0)) (omega arith) (omega arith) (omega arith) refl f (b .0) (b .1) i (g .0) in
-    let k : w ∷ ws ≡ wordsOf i a ++ r = ap (λ (v : ℕ). v ∷ ws) (word-is w) ∙ ap (λ (us : List ℕ). wordOf line x opmode ea ∷ us) (b .2 ∙ ap (λ (us : List ℕ). tailWords a l f ++ us) (g .2)) ∙ ap (λ (us : List ℕ). us ++ r) (sym (c .2)) in
+    let k : w ∷ ws ≡ wordsOf i a ++ r = ap (λ (v : ℕ). v ∷ ws) (word-is w)
+    ∙ ap (λ (us : List ℕ). wordOf line x opmode ea ∷ us) (b .2 ∙ ap (λ (us : List ℕ). tailWords a l f ++ us) (g .2))
+    ∙ ap (λ (us : List ℕ). us ++ r) (sym (c .2)) in
     (c .0, c .1, k, omega (arith, b .3, g .1, ap (λ (us : List ℕ). length us) (c .2))))
 
 -- ---- what an accepted instruction lays down are words
@@ -107,19 +108,26 @@ pub sound : (a : ℕ) (ws : List ℕ) (i : Instruction) (n : ℕ) → Words ws �
 unfolding readOf
 sound a ws i n h e =
     let g = from-read (run (reader a) a 0 ws) i n e in
-    let s = reader-sound a ws h i (g .0) (g .1) (g .2) in
-    (s .0, s .1, omega (arith, g .3, s .3), sym (ap (λ (l : List ℕ). take (length (wordsOf i a)) l) (s .2) ∙ take-at (wordsOf i a) (g .1) (length (wordsOf i a)) refl))
+    let s = reader-sound a ws h i (g .0) (g .1) (g .2) in (
+      s .0,
+      s .1,
+      omega (arith, g .3, s .3),
+      sym (ap (λ (l : List ℕ). take (length (wordsOf i a)) l) (s .2)
+          ∙ take-at (wordsOf i a) (g .1) (length (wordsOf i a)) refl),
+    )
 
 -- ---- the plain form is accepted, lays down the same words, and is its own plain form
 pub plain-words : (a : ℕ) (i : Instruction) → Accepted a i → Accepted a (plain i) × (plain (plain i) ≡ plain i) × (wordsOf (plain i) a ≡ wordsOf i a)
 plain-words a i h =
-    let s = reader-sound a (wordsOf i a ++ []) (subst Words (sym (append-nil (wordsOf i a))) (accepted-words a i h)) (plain i) (length (wordsOf i a)) [] (reader-complete a i h []) in
+    let s = reader-sound a (wordsOf i a ++ []) (subst Words (sym (append-nil (wordsOf i a))) (accepted-words a i h)) (plain i) (length (wordsOf i a)) []
+    (reader-complete a i h []) in
     (s .0, s .1, sym (append-nil (wordsOf (plain i) a)) ∙ sym (s .2) ∙ append-nil (wordsOf i a))
 
 -- ---- one: equal words have equal plain forms
 pub one : (a : ℕ) (i j : Instruction) → Accepted a i → Accepted a j → wordsOf i a ≡ wordsOf j a → plain i ≡ plain j
 one a i j h g e =
-    let x : got (plain i) (length (wordsOf i a)) [] ≡ got (plain j) (length (wordsOf j a)) [] = sym (reader-complete a i h []) ∙ ap (λ (l : List ℕ). run (reader a) a 0 (l ++ [])) e ∙ reader-complete a j g [] in
+    let x : got (plain i) (length (wordsOf i a)) [] ≡ got (plain j) (length (wordsOf j a)) [] = sym (reader-complete a i h [])
+    ∙ ap (λ (l : List ℕ). run (reader a) a 0 (l ++ [])) e ∙ reader-complete a j g [] in
     cc
 
 -- ---- nothing: where the answer is 6, no run beginning with the words reads, and no beginning of them does
@@ -134,7 +142,8 @@ unfolding readOf
 nothing a ws e i h r =
     let n = from-none (run (reader a) a 0 ws) e in (
       (λ p. none-no (sym n ∙ ap (λ (l : List ℕ). run (reader a) a 0 l) p ∙ reader-complete a i h r)),
-      (λ p. none-no (sym (longer-none (reader a) a 0 (ws ++ r) [] (longer-none (reader a) a 0 ws r n)) ∙ ap (λ (l : List ℕ). run (reader a) a 0 (l ++ [])) (sym p) ∙ reader-complete a i h [])),
+      (λ p. none-no (sym (longer-none (reader a) a 0 (ws ++ r) [] (longer-none (reader a) a 0 ws r n))
+          ∙ ap (λ (l : List ℕ). run (reader a) a 0 (l ++ [])) (sym p) ∙ reader-complete a i h [])),
     )
 
 -- the same of readings: a longer run is refused alike, and a beginning does not read
@@ -176,13 +185,14 @@ word-longer a w ws h e =
     let s = groupAt line x opmode in
     let l = layoutOf s line x opmode ea in
     let k : Tail → Tree Instruction = λ f. decoded a s line x opmode ea (f .value) (f .source) (f .destination) in
-    let six = group-six s line x opmode ea (omega arith) (omega arith) (omega arith) in
-    let q = fields-short a (run (tailTree l) a 1 ws) k (λ f. decoded-flat a s line x opmode ea (f .value) (f .source) (f .destination)) (sym (run-bind (tailTree l) k a 1 ws) ∙ e) in
+    let q = fields-short a (run (tailTree l) a 1 ws) k (λ f. decoded-flat a s line x opmode ea (f .value) (f .source) (f .destination))
+    (sym (run-bind (tailTree l) k a 1 ws) ∙ e) in
     let c = completed (tailTree l) (tail-clean l) a 1 ws q in
     let z = words-append ws (0 ∷ replicate (c .0) 0) (h .1) (omega arith, zero-words (c .0)) in
-    let b = tail-sound a l (six .0) (six .1) (ws ++ (0 ∷ replicate (c .0) 0)) z (c .1) (c .2) [] (c .3) in
+    let b = tail-sound a l (ws ++ (0 ∷ replicate (c .0) 0)) z (c .1) (c .2) [] (c .3) in
     let v = live-is (k (c .1)) (decoded-live a s line x opmode ea (c .1) (omega arith) (b .0)) in
-    let g : run (reader a) a 0 ((w ∷ ws) ++ (0 ∷ replicate (c .0) 0)) ≡ got (v .0) (c .2) [] = bind-got (tailTree l) k a 1 (ws ++ (0 ∷ replicate (c .0) 0)) (c .1) (c .2) [] (c .3) ∙ ap (λ (t : Tree Instruction). run t a (c .2) []) (v .1) in
+    let g : run (reader a) a 0 ((w ∷ ws) ++ (0 ∷ replicate (c .0) 0)) ≡ got (v .0) (c .2) [] = bind-got (tailTree l) k a 1 (ws ++ (0 ∷ replicate (c .0) 0))
+    (c .1) (c .2) [] (c .3) ∙ ap (λ (t : Tree Instruction). run t a (c .2) []) (v .1) in
     let r = reader-sound a ((w ∷ ws) ++ (0 ∷ replicate (c .0) 0)) (h .0, z) (v .0) (c .2) [] g in
     (0, replicate (c .0) 0, v .0, r .0, sym (r .2 ∙ append-nil (wordsOf (v .0) a)))
 

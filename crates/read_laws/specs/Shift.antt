@@ -1,10 +1,10 @@
--- ASd LSd ROXd ROd, of a data register and in memory.
-use Prim.Native.Nat.{ℕ, _+_, _*_, _/_, _%_, _<_, _≤_}
-use mathlib.Core.Path.{_≡_, refl, ap, sym, _∙_}
+-- Line 1110: ASd LSd ROXd ROd, of a data register and in memory; the bit-field instructions.
+use Prim.Native.Nat.{ℕ, _+_, _*_, _/_, _%_, _<_, _-_}
+use mathlib.Core.Path.{_≡_, refl, ap, _∙_}
 use mathlib.Core.Bool.{Bool, true, false, _&&_, false≢true, cond}
-use mathlib.Core.List.{List, [], _∷_}
+use mathlib.Core.List.{List, [], _∷_, append-nil}
 use native.Mathlib.Omega.{arith}
-use lib.Dec.{ltb, leb, eqb}
+use lib.Dec.{leb, eqb}
 use lib.IntN.{pos}
 use Rattle.isa.specs.declared.Size.{Size}
 use Rattle.isa.specs.declared.Size.the-variants.{Byte, Word, Long}
@@ -18,29 +18,38 @@ use Rattle.isa.specs.declared.Field.the-variants as field
 use Rattle.isa.specs.declared.Operand.{Operand}
 use Rattle.isa.specs.declared.Operand.the-variants.{Immediate, Register}
 use Rattle.isa.specs.declared.Instruction.{Instruction}
-use Rattle.isa.specs.declared.Instruction.the-variants.{Shift}
-use Rattle.encode_spec.specs.Item.{fine, malformed, unless, failure, numberVerdict, dataVerdict}
+use Rattle.isa.specs.declared.Instruction.the-variants.{Shift, BF}
+use Rattle.encode_spec.specs.Item.{fine, numberVerdict, check, register, word, allow}
 use Rattle.isa.specs.Code.{sizeCode, isWord, registerBits, bit}
-use Rattle.encode_spec.specs.Ea.{memoryAlterable, isTyped, isRegister}
+use Rattle.encode_spec.specs.Ea.{memoryAlterable, isRegister, bitFieldRead, bitFieldWritten, typed, single}
 use Rattle.encode_spec.specs.Logic.{shiftKind, leftBit, countBits, countItems, isOne, shiftRegisterParts, shiftMemoryParts, shiftParts}
 use Rattle.read_spec.specs.declared.Group.the-variants as group
 use Rattle.read_spec.specs.declared.Specifier.the-variants as specifier
 use Rattle.read_spec.specs.Tree.{ret}
 use Rattle.read_spec.specs.Map.{groupAt, map}
-use Rattle.read_spec.specs.Operation.{sizeAt, shiftAt, directionAt, shiftCount, countAt}
-use Rattle.read_spec.specs.Layouts.{layoutOf}
+use Rattle.read_spec.specs.Operation.{sizeAt, shiftAt, directionAt, shiftCount, countAt, bitFieldAt, valueAt}
 use Rattle.read_spec.specs.Decoded.{dataOperand, shiftDecoded, wordOf}
-use Rattle.read_operand_laws.specs.Facts.{below, and-true, true-and, Eq, eq?, ltb-true, ltb-is, leb-true, leb-is, eqb-eq, eqb-not, lt-number, fine-both, both-fine, range-holds, holds-range, count-holds, reason-not}
-use Rattle.read_laws.specs.Statements.{Accepted, Reads, Encodes, Sound, InSixBits}
-use Rattle.read_laws.specs.MapLaws.{in-group}
-use Rattle.read_laws.specs.Forms.{append-nil, one-back, source-plain}
-use Rattle.read_laws.specs.Groups.{of-group}
-use Rattle.read_laws.specs.Among.{among, each}
-use Rattle.read_laws.specs.Operands.{by-kind, by-register, data-bits}
+use Rattle.read_operand_laws.specs.Facts.{below, and-true, true-and, ltb-is, eqb-eq, lt-number, count-holds, reason-not, eqb-is, number-lt, unless-range, true-unless, unless-reason}
+use Rattle.isa.specs.Field.{holds}
+use Rattle.read_laws.specs.Control.{count-eight}
 use Rattle.read_laws.specs.FromData.{memory-not}
-use Rattle.read_laws.specs.Lays.{LaysOne, lays-as, lays-allow, lays-typed-two, lays-single, lays-reads, lays-encodes, plain-reads, plain-encodes, word-as, decoded-as}
+use native.Mathlib.Nat.{div-div-eq-div-mul}
+use Rattle.isa.specs.declared.FieldValue.{FieldValue}
+use Rattle.isa.specs.declared.FieldValue.the-variants as value
+use Rattle.isa.specs.declared.BitField.{BitField}
+use Rattle.isa.specs.declared.BitFieldOperation.{BitFieldOperation}
+use Rattle.isa.specs.declared.BitFieldOperation.the-variants.{Test, ExtractUnsigned, Change, ExtractSigned, Clear, FindFirstOne, Set, Insert}
+use Rattle.encode_spec.specs.Bits.{bitFieldCode, writes, valueBits, valueHolds, valueNumber, larger, bitFieldVerdict, bitFieldParts}
+use Rattle.read_spec.specs.Layout.{valuePart, valid}
+use Rattle.read_operand_laws.specs.TailStands.{SpecifierStands}
+use Rattle.encode_spec.specs.Encode.{itemsOf}
+use Rattle.read_laws.specs.Statements.{Accepted, Reads, Encodes, Sound}
+use Rattle.read_laws.specs.Tests.{equal, yes, among, implies, facts-below}
+use Rattle.read_laws.specs.MapLaws.{At, at-code, at-upto, at-among, in-group}
+use Rattle.read_laws.specs.Forms.{Passing, passed, checked, one-back, Form, form-as, form-reads, form-encodes, decoded-as, word-as, alone-reads, alone-encodes, form-word, form-behind}
+use Rattle.read_laws.specs.Operands.{by-kind, by-register, data-bits}
 
--- ---- the fields
+-- ---- the fields of a shift
 kind-at : (op : ShiftOperation) → (shiftKind op < 4) × (shiftAt (shiftKind op) ≡ op)
 kind-at ASd = (omega arith, refl)
 kind-at ROd = (omega arith, refl)
@@ -53,16 +62,14 @@ at-kind k h = eqb-eq (shiftKind (shiftAt k)) k (below (λ k. eqb (shiftKind (shi
 -- ---- the count: in a data register, or 1 to 8
 data Count : Operand → Type 0 where
   inRegister : (m : ℕ) → m < 8 → Count (Register (Data m))
-  number : (v : ℕ) → 1 ≤ v → v ≤ 8 → Count (Immediate v)
+  number : (v : ℕ) → holds field.Count (pos v) ≡ true → Count (Immediate v)
 
-count-back : (count : Operand) → failure true (countItems count) ≡ fine → Count count
+count-back : (count : Operand) → Passing (countItems count) → Count count
 count-back =
-    by-kind (λ count. failure true (countItems count) ≡ fine → Count count)
-    (λ r e. let q = fine-both (dataVerdict r) _ e .0 in rw (← data-bits r q) (inRegister (registerBits r) (omega arith)))
-    (λ v e.
-    let h = and-true (leb 1 v) _ (sym (count-holds v) ∙ range-holds field.Count (pos v) (fine-both _ fine e .0)) in
-    number v (leb-is 1 v (h .0)) (leb-is v 8 (h .1)))
-    (λ o e i h. reason-not 63 (rw (e, i) at h))
+    by-kind (λ count. Passing (countItems count) → Count count)
+    (λ r c. rw (← data-bits r (c .0)) (inRegister (registerBits r) (omega arith)))
+    (λ v c. number v (c .0))
+    (λ o e i c. reason-not 63 ((rw (e, i) at c) .0))
 
 -- ---- of a data register
 abbrev shiftField : ShiftOperation → Operand → ℕ → ℕ
@@ -72,29 +79,22 @@ register-encodes : (a : ℕ) (op : ShiftOperation) (count : Operand) (n : ℕ) (
     → Encodes a (Shift op count (dataOperand n) direction s) (wordOf 14 (countBits count) (4 * leftBit direction + sizeCode s) (shiftField op count n) ∷ [])
 unfolding shiftParts shiftRegisterParts
 register-encodes a op count n direction s (inRegister m h) hn =
-    (((tt, tt), both-fine (numberVerdict n) _ (lt-number n hn) (both-fine (numberVerdict m) _ (lt-number m h) refl), refl), refl, refl)
-register-encodes a op count n direction s (number v l u) hn =
-    let h = holds-range field.Count (pos v) (count-holds v ∙ true-and _ _ (leb-true 1 v l) (leb-true v 8 u)) in
-    (((tt, tt), both-fine (numberVerdict n) _ (lt-number n hn) (both-fine _ _ h refl), refl), refl, refl)
+    (((tt, tt), passed (itemsOf (Shift op count (dataOperand n) direction s) a) (refl, (refl, (lt-number n hn, (lt-number m h, tt)))), refl), refl, refl)
+register-encodes a op count n direction s (number v h) hn =
+    (((tt, tt), passed (itemsOf (Shift op count (dataOperand n) direction s) a) (refl, (refl, (lt-number n hn, (h, tt)))), refl), refl, refl)
 
 -- the count that bits 11 to 9 name, and i/r
 abbrev Counted : Operand → ℕ → Bool → Type 0
 Counted count x b = Count count × (countBits count ≡ x) × (isRegister count ≡ b)
 
 count-at : (ea x : ℕ) → x < 8 → Counted (shiftCount ea x) x (eqb (ea / 32) 1)
-count-at ea x h = go (eqb (ea / 32) 1) (eq? x 0)
+count-at ea x h = go (eqb (ea / 32) 1)
   where
-    go : (b : Bool) → Eq x 0 → Counted (cond b (Register (Data x)) (Immediate (countAt x))) x b
-    go true e = (inRegister x h, omega arith, refl)
-    go false (Eq.same p g) = rw g (number 8 (omega arith) (omega arith), sym p, refl)
-    go false (Eq.other p g) = rw g (number x (omega arith) (omega arith), omega arith, refl)
-
-abbrev opmodes : List ℕ
-opmodes = 0 ∷ 1 ∷ 2 ∷ 4 ∷ 5 ∷ 6 ∷ []
-
-opmode-at : (opmode : ℕ) → among opmodes opmode ≡ true → 4 * leftBit (directionAt (opmode / 4)) + sizeCode (sizeAt (opmode % 4)) ≡ opmode
-opmode-at =
-    each (λ o. 4 * leftBit (directionAt (o / 4)) + sizeCode (sizeAt (o % 4)) ≡ o) opmodes (refl, (refl, (refl, (refl, (refl, (refl, tt))))))
+    go : (b : Bool) → Counted (cond b (Register (Data x)) (Immediate (countAt x))) x b
+    go true = (inRegister x h, omega arith, refl)
+    go false =
+        let (t, (u, z)) = facts-below 8 (λ x. yes (leb 1 (countAt x) && leb (countAt x) 8) ∷ equal (countAt x % 8) x ∷ []) refl x h in
+        (number (countAt x) (count-holds (countAt x) ∙ t), u, refl)
 
 field-at : (ea : ℕ) → ea < 64 → 32 * bit (eqb (ea / 32) 1) + 8 * shiftKind (shiftAt (ea / 8 % 4)) + ea % 8 % 8 ≡ ea
 field-at ea h = eqb-eq _ ea (below (λ ea. eqb (32 * bit (eqb (ea / 32) 1) + 8 * shiftKind (shiftAt (ea / 8 % 4)) + ea % 8 % 8) ea) 64 refl ea h)
@@ -102,11 +102,12 @@ field-at ea h = eqb-eq _ ea (below (λ ea. eqb (32 * bit (eqb (ea / 32) 1) + 8 *
 same-word : {x y o p e f : ℕ} → x ≡ y → o ≡ p → e ≡ f → wordOf 14 x o e ≡ wordOf 14 y p f
 same-word p q r = rw (p, q, r)
 
-shifted-encodes : (a x opmode ea : ℕ) → among opmodes opmode ≡ true → x < 8 → ea < 64 → Encodes a (shiftDecoded x opmode ea) (wordOf 14 x opmode ea ∷ [])
+shifted-encodes : (a x opmode ea : ℕ) → 4 * leftBit (directionAt (opmode / 4)) + sizeCode (sizeAt (opmode % 4)) ≡ opmode → x < 8 → ea < 64
+    → Encodes a (shiftDecoded x opmode ea) (wordOf 14 x opmode ea ∷ [])
 shifted-encodes a x opmode ea t hx he =
     let c = count-at ea x hx in
     word-as a (shiftDecoded x opmode ea) _ _ []
-    (same-word (c .1) (opmode-at opmode t) (rw (c .2) (field-at ea he)))
+    (same-word (c .1) t (rw (c .2) (field-at ea he)))
     (register-encodes a (shiftAt (ea / 8 % 4)) (shiftCount ea x) (ea % 8) (directionAt (opmode / 4)) (sizeAt (opmode % 4)) (c .0) (omega arith))
 
 -- what encodes so is what its fields name
@@ -114,23 +115,22 @@ count-is : (ea : ℕ) (count : Operand) → Count count → ea / 32 ≡ bit (isR
 count-is ea count (inRegister m h) e =
     let q : m % 8 ≡ m = omega arith in
     rw (e, q)
-count-is ea count (number v l u) e = rw e (ap Immediate (go (eq? v 8)))
-  where
-    go : Eq v 8 → countAt (v % 8) ≡ v
-    go (Eq.same p g) = rw p
-    go (Eq.other p g) = let q : v % 8 ≡ v = omega arith in rw (q, eqb-not v 0 (omega arith))
+count-is ea count (number v h) e = rw e (ap Immediate (count-eight v h))
+
+abbrev opmodes : List ℕ
+opmodes = 0 ∷ 1 ∷ 2 ∷ 4 ∷ 5 ∷ 6 ∷ []
 
 abbrev opmodeOf : ShiftDirection → Size → ℕ
 opmodeOf direction s = 4 * leftBit direction + sizeCode s
 
 opmode-is : (direction : ShiftDirection) (s : Size)
-    → (among opmodes (opmodeOf direction s) ≡ true) × (opmodeOf direction s < 8) × (directionAt (opmodeOf direction s / 4) ≡ direction) × (sizeAt (opmodeOf direction s % 4) ≡ s)
-opmode-is Right Byte = (refl, omega arith, refl, refl)
-opmode-is Right Word = (refl, omega arith, refl, refl)
-opmode-is Right Long = (refl, omega arith, refl, refl)
-opmode-is Left Byte = (refl, omega arith, refl, refl)
-opmode-is Left Word = (refl, omega arith, refl, refl)
-opmode-is Left Long = (refl, omega arith, refl, refl)
+    → (among opmodes (opmodeOf direction s) ≡ true) × (directionAt (opmodeOf direction s / 4) ≡ direction) × (sizeAt (opmodeOf direction s % 4) ≡ s)
+opmode-is Right Byte = (refl, refl, refl)
+opmode-is Right Word = (refl, refl, refl)
+opmode-is Right Long = (refl, refl, refl)
+opmode-is Left Byte = (refl, refl, refl)
+opmode-is Left Word = (refl, refl, refl)
+opmode-is Left Long = (refl, refl, refl)
 
 bit-lt : (b : Bool) → bit b < 2
 bit-lt true = omega arith
@@ -145,57 +145,39 @@ register-is op count n direction s c h =
     let i = count-is (shiftField op count n) count c (omega (arith, k .0)) in
     let p : shiftField op count n / 8 % 4 ≡ shiftKind op = omega (arith, k .0) in
     let q : shiftField op count n % 8 ≡ n = omega arith in
-    rw (p, q, k .1, i, o .2, o .3)
-
-abbrev fieldsIn : ℕ → ℕ → ℕ → Bool
-fieldsIn l x o = eqb l 14 && among opmodes o
-
-of-fields : (line x opmode : ℕ) → line < 16 → x < 8 → opmode < 8 → fieldsIn line x opmode ≡ true → groupAt line x opmode ≡ group.ShiftRegister
-unfolding groupAt map
-of-fields = of-group group.ShiftRegister fieldsIn refl
-
-in-fields : (line x opmode : ℕ) → line < 16 → x < 8 → opmode < 8 → groupAt line x opmode ≡ group.ShiftRegister → fieldsIn line x opmode ≡ true
-unfolding groupAt map
-in-fields = in-group group.ShiftRegister fieldsIn refl
+    rw (p, q, k .1, i, o .1, o .2)
 
 count-lt : (count : Operand) → Count count → countBits count < 8
 count-lt count (inRegister m h) = omega arith
-count-lt count (number v l u) = omega arith
+count-lt count (number v h) = omega arith
 
 data-reads : (a : ℕ) (op : ShiftOperation) (count : Operand) (n : ℕ) (direction : ShiftDirection) (s : Size) → Count count → n < 8
     → Reads a (Shift op count (dataOperand n) direction s)
+unfolding groupAt map
 data-reads a op count n direction s c h =
     let b = bit-lt (isRegister count) in
     let k = kind-at op in
-    let x = count-lt count c in
-    let o = opmode-is direction s in
-    plain-reads a (Shift op count (dataOperand n) direction s) group.ShiftRegister 14 (countBits count) (opmodeOf direction s) (shiftField op count n) specifier.Nothing 0
-    (omega arith) x (o .1) (omega (arith, k .0)) (of-fields 14 (countBits count) (opmodeOf direction s) (omega arith) x (o .1) (o .0))
+    alone-reads a (Shift op count (dataOperand n) direction s) (shiftField op count n) specifier.Nothing 0
+    (at-among group.ShiftRegister (14 ∷ []) opmodes refl 14 (opmodeOf direction s) (countBits count) refl (opmode-is direction s .0) (count-lt count c))
+    (omega (arith, k .0))
     refl refl (ap (λ (i : Instruction). ret i) (register-is op count n direction s c h)) (register-encodes a op count n direction s c h)
 
 register-reads : (a : ℕ) (op : ShiftOperation) (count : Operand) (r : RegisterOperand) (direction : ShiftDirection) (s : Size)
     → Accepted a (Shift op count (Register r) direction s) → Reads a (Shift op count (Register r) direction s)
 unfolding shiftParts shiftRegisterParts
-register-reads a op count r direction s (n, e, l) =
-    let t = fine-both (unless (isTyped count) malformed) _ e in
-    let u = fine-both (dataVerdict r) _ (t .1) in
-    let c = count-back count (rw (append-nil (countItems count)) at (u .1)) in
-    rw (← data-bits r (u .0)) (data-reads a op count (registerBits r) direction s c (omega arith))
+register-reads a op count r direction s h =
+    let (t, (u, (d, c))) = checked a (Shift op count (Register r) direction s) h in
+    rw (← data-bits r d) (data-reads a op count (registerBits r) direction s (count-back count (rw (append-nil (countItems count)) at c)) (omega arith))
 
 pub shift-register-sound : Sound group.ShiftRegister
+unfolding map
 shift-register-sound a line x opmode ea hl hx ho he e f h p i r =
-    let t = and-true (eqb line 14) _ (in-fields line x opmode hl hx ho e) in
-    let w : wordOf 14 x opmode ea ≡ wordOf line x opmode ea = rw (eqb-eq line 14 (t .0)) in
-    decoded-as a i (shiftDecoded x opmode ea) _ _ _ r w
-    (plain-encodes a (shiftDecoded x opmode ea) (wordOf 14 x opmode ea) specifier.Nothing f h (shifted-encodes a x opmode ea (t .1) hx he))
-
-pub shift-register-six : (line x opmode ea : ℕ) → x < 8 → opmode < 8 → ea < 64 → InSixBits (layoutOf group.ShiftRegister line x opmode ea)
-shift-register-six line x opmode ea hx ho he = (omega arith, omega arith)
+    let (l, (t, u)) = in-group group.ShiftRegister (λ l x o. equal l 14 ∷ equal (4 * leftBit (directionAt (o / 4)) + sizeCode (sizeAt (o % 4))) o ∷ []) refl
+    line x opmode e in
+    decoded-as a i (shiftDecoded x opmode ea) _ _ _ r (omega arith) (alone-encodes a (shiftDecoded x opmode ea) (wordOf 14 x opmode ea) specifier.Nothing f h
+    (shifted-encodes a x opmode ea t hx he))
 
 -- ---- in memory
-abbrev ByOne : Operand → Size → Type 0
-ByOne count s = (isTyped count ≡ true) × (isOne count && isWord s ≡ true)
-
 word-is : (s : Size) → isWord s ≡ true → s ≡ Word
 word-is Byte e = absurd (false≢true e)
 word-is Word e = refl
@@ -208,44 +190,27 @@ one-is =
     (λ v e. ap Immediate (eqb-eq v 1 e))
     (λ o e i h. absurd (false≢true (rw i at h)))
 
-lays-memory : (op : ShiftOperation) (count o : Operand) (direction : ShiftDirection) (s : Size) → isRegister o ≡ false
-    → LaysOne (Shift op count o direction s) 14 (shiftKind op) (4 * leftBit direction + 3) specifier.Nothing Word memoryAlterable 0 o (ByOne count s)
-unfolding shiftParts shiftMemoryParts
-lays-memory op count o direction s e =
-    rw e
-    (lays-as (lays-typed-two count o (lays-allow (isOne count && isWord s) 64 (lays-single 14 (shiftKind op) (4 * leftBit direction + 3) o Word memoryAlterable 65)))
-    (λ p c. (c .1, (c .0, c .2 .0), c .2 .1)) (λ p c. (c .1 .0, c .0, (c .1 .1, c .2))))
+memory-form : (a : ℕ) (op : ShiftOperation) (count o : Operand) (direction : ShiftDirection) (s : Size) (v : ℕ) → isRegister o ≡ false
+    → Form a (Shift op count o direction s) 14 (shiftKind op) (4 * leftBit direction + 3) specifier.Nothing Word memoryAlterable v o
+    (Passing (typed count ∷ allow (isOne count && isWord s) 64 ∷ []))
+unfolding shiftParts shiftMemoryParts single
+memory-form a op count o direction s v e =
+    form-behind (typed count ∷ []) (allow (isOne count && isWord s) 64 ∷ []) [] 65 (rw e) refl refl
 
-abbrev memoryOpmodes : List ℕ
-memoryOpmodes = 3 ∷ 7 ∷ []
-
-abbrev memoryFields : ℕ → ℕ → ℕ → Bool
-memoryFields l x o = eqb l 14 && (ltb x 4 && among memoryOpmodes o)
-
-of-memory : (line x opmode : ℕ) → line < 16 → x < 8 → opmode < 8 → memoryFields line x opmode ≡ true → groupAt line x opmode ≡ group.ShiftMemory
+memory-at : (direction : ShiftDirection)
+    → ((x : ℕ) → x < 4 → At group.ShiftMemory 14 x (4 * leftBit direction + 3)) × (directionAt ((4 * leftBit direction + 3) / 4) ≡ direction)
 unfolding groupAt map
-of-memory = of-group group.ShiftMemory memoryFields refl
-
-in-memory : (line x opmode : ℕ) → line < 16 → x < 8 → opmode < 8 → groupAt line x opmode ≡ group.ShiftMemory → memoryFields line x opmode ≡ true
-unfolding groupAt map
-in-memory = in-group group.ShiftMemory memoryFields refl
-
-memory-opmode : (direction : ShiftDirection)
-    → (4 * leftBit direction + 3 < 8) × (among memoryOpmodes (4 * leftBit direction + 3) ≡ true) × (directionAt ((4 * leftBit direction + 3) / 4) ≡ direction)
-memory-opmode Right = (omega arith, refl, refl)
-memory-opmode Left = (omega arith, refl, refl)
+memory-at Right = (at-upto group.ShiftMemory 14 3 4 refl, refl)
+memory-at Left = (at-upto group.ShiftMemory 14 7 4 refl, refl)
 
 memory-reads : (a : ℕ) (op : ShiftOperation) (count o : Operand) (direction : ShiftDirection) (s : Size) → isRegister o ≡ false
     → Accepted a (Shift op count o direction s) → Reads a (Shift op count o direction s)
 memory-reads a op count o direction s e (n, f, l) =
     let k = kind-at op in
-    let x : shiftKind op < 8 = omega (arith, k .0) in
-    let d = memory-opmode direction in
-    lays-reads a (Shift op count o direction s) 14 (shiftKind op) (4 * leftBit direction + 3) specifier.Nothing Word memoryAlterable (ByOne count s)
-    group.ShiftMemory 0 o (lays-memory op count o direction s e) (omega arith) x (d .0)
-    (of-memory 14 (shiftKind op) (4 * leftBit direction + 3) (omega arith) x (d .0) (true-and _ _ (ltb-true (shiftKind op) 4 (k .0)) (d .1)))
-    refl refl (n .1) f
-    (λ c. let t = and-true (isOne count) _ (c .1) in rw (one-is count (t .0), word-is s (t .1), k .1, d .2))
+    let d = memory-at direction in
+    form-reads (memory-form a op count o direction s 0 e) (d .0 (shiftKind op) (k .0)) f (n .1) (λ c m.
+    let t = and-true (isOne count) _ (unless-reason (isOne count && isWord s) 64 (c .1 .0)) in
+    (refl, refl, rw (one-is count (t .0), word-is s (t .1), k .1, d .1)))
 
 pub shift-reads : (a : ℕ) (op : ShiftOperation) (count o : Operand) (direction : ShiftDirection) (s : Size)
     → Accepted a (Shift op count o direction s) → Reads a (Shift op count o direction s)
@@ -254,18 +219,120 @@ shift-reads a op count o direction s =
     (λ r. register-reads a op count r direction s) (λ o e. memory-reads a op count o direction s e) o
 
 pub shift-memory-sound : Sound group.ShiftMemory
+unfolding map
 shift-memory-sound a line x opmode ea hl hx ho he e f h p i r =
-    let t = and-true (eqb line 14) _ (in-memory line x opmode hl hx ho e) in
-    let u = and-true (ltb x 4) _ (t .1) in
-    let op = shiftAt x in
+    let (w, u) = in-group group.ShiftMemory (λ l x o. equal (wordOf 14 (shiftKind (shiftAt x)) (4 * leftBit (directionAt (o / 4)) + 3) 0) (wordOf l x o 0) ∷ [])
+    refl line x opmode e in
+    let n = memory-not (f .source) (one-back a specifier.Nothing Word ea memoryAlterable f h .0 .0) in
     let direction = directionAt (opmode / 4) in
-    let k = at-kind x (ltb-is x 4 (u .0)) in
-    let d : 4 * leftBit direction + 3 ≡ opmode = each (λ o. 4 * leftBit (directionAt (o / 4)) + 3 ≡ o) memoryOpmodes (refl, (refl, tt)) opmode (u .1) in
-    let b = one-back a specifier.Nothing Word ea memoryAlterable f h in
-    decoded-as a i (Shift op (Immediate 1) (f .source) direction Word) _ _ _ r (rw (k, d, eqb-eq line 14 (t .0)))
-    (lays-encodes a (Shift op (Immediate 1) (f .source) direction Word) 14 (shiftKind op) (4 * leftBit direction + 3) specifier.Nothing Word memoryAlterable
-    (ByOne (Immediate 1) Word) ea f (lays-memory op (Immediate 1) (f .source) direction Word (memory-not (f .source) (b .1 .0))) (refl, refl)
-    (tt, b .3) refl (ap (λ o. Shift op (Immediate 1) o direction Word) (source-plain f p)) h)
+    decoded-as a i (Shift (shiftAt x) (Immediate 1) (f .source) direction Word) _ _ _ r (omega (arith, w))
+    (form-encodes ea f (memory-form a (shiftAt x) (Immediate 1) (f .source) direction Word (f .value) n) (refl, (refl, tt)) h p (λ n. (tt, n)) refl (λ e. rw e))
 
-pub shift-memory-six : (line x opmode ea : ℕ) → x < 8 → opmode < 8 → ea < 64 → InSixBits (layoutOf group.ShiftMemory line x opmode ea)
-shift-memory-six line x opmode ea hx ho he = (he, omega arith)
+-- ---- the bit-field instructions: an offset or a width
+part-lt : (x : FieldValue) → valueBits x < 64
+part-lt (value.Immediate n) = omega arith
+part-lt (value.Register n) = omega arith
+
+value-part : (x : FieldValue) → valuePart (valueBits x) ≡ true
+value-part (value.Immediate n) = below (λ k. valuePart k) 32 refl (n % 32) (omega arith)
+value-part (value.Register n) = below (λ k. valuePart (32 + k)) 8 refl (n % 8) (omega arith)
+
+value-bits : (x : FieldValue) → valueHolds x ≡ true → valueAt (valueBits x) ≡ x
+value-bits (value.Immediate n) e =
+    let l = ltb-is n 32 e in
+    let m : n % 32 ≡ n = omega arith in
+    let z : n / 32 ≡ 0 = omega arith in
+    rw (m, z) (ap value.Immediate m)
+value-bits (value.Register n) e =
+    let l = ltb-is n 8 e in
+    let z : (32 + n % 8) / 32 ≡ 1 = omega arith in
+    rw z (ap value.Register (omega arith))
+
+bits-value : (n : ℕ) → n < 64 → valuePart n ≡ true → (valueBits (valueAt n) ≡ n) × (valueHolds (valueAt n) ≡ true)
+bits-value n h e =
+    let (t, (u, z)) = facts-below 64 (λ n. yes (implies (valuePart n) (eqb (valueBits (valueAt n)) n)) ∷ yes (valueHolds (valueAt n)) ∷ []) refl n h in
+    (eqb-eq (valueBits (valueAt n)) n (rw e at t), u)
+
+-- ---- the extension word
+abbrev wordIn : BitField → ℕ → ℕ
+wordIn f r = r % 8 * 4096 + valueBits (f .offset) * 64 + valueBits (f .width)
+
+word-fields : (f : BitField) (r : ℕ) → r < 8
+    → (wordIn f r < 32768) × (wordIn f r / 64 % 64 ≡ valueBits (f .offset)) × (wordIn f r % 64 ≡ valueBits (f .width)) × (wordIn f r / 4096 % 8 ≡ r)
+word-fields f r h =
+    let o = part-lt (f .offset) in
+    let w = part-lt (f .width) in
+    (omega arith, omega arith, omega arith, omega arith)
+
+word-stands : (f : BitField) (r : ℕ) → r < 8 → SpecifierStands specifier.BitField (wordIn f r)
+word-stands f r h =
+    let c = word-fields f r h in
+    (omega (arith, c .0), rw (c .1, c .2, eqb-is (wordIn f r / 32768) 0 (omega (arith, c .0)), value-part (f .offset), value-part (f .width)))
+
+-- ---- what the encoder checks
+abbrev Holding : BitField → ℕ → Type 0
+Holding f r = (valueHolds (f .offset) ≡ true) × (valueHolds (f .width) ≡ true) × (r < 8)
+
+holding-back : (f : BitField) (r : ℕ) → bitFieldVerdict f ≡ fine → numberVerdict r ≡ fine → Holding f r
+holding-back f r e n =
+    let t = and-true (valueHolds (f .offset)) _ (unless-range _ field.BitField (pos (larger (valueNumber (f .offset)) (valueNumber (f .width)))) e) in
+    (t .0, t .1, number-lt r n)
+
+abbrev codeX : BitFieldOperation → ℕ
+codeX op = 4 + bitFieldCode op / 2
+
+abbrev codeOpmode : BitFieldOperation → ℕ
+codeOpmode op = 4 * (bitFieldCode op % 2) + 3
+
+field-form : (a : ℕ) (op : BitFieldOperation) (o : Operand) (f : BitField) (r v : ℕ) → wordIn f r ≡ v
+    → Form a (BF op o f r) 14 (codeX op) (codeOpmode op) specifier.BitField Byte (cond (writes op) bitFieldWritten bitFieldRead) v o (Holding f r)
+unfolding bitFieldParts
+field-form a op o f r v e =
+    form-as
+    (form-word (check (bitFieldVerdict f) ∷ register r ∷ word (wordIn f r) ∷ []) (cond (writes op) 32 33) refl refl (ap (λ (w : ℕ). w ∷ []) e))
+    (λ c. holding-back f r (c .0) (c .1 .0)) (λ d. (true-unless _ _ (true-and _ _ (d .0) (d .1)), (lt-number r (d .2), tt)))
+
+abbrev operationAt : ℕ → ℕ → BitFieldOperation
+operationAt x opmode = bitFieldAt ((x - 4) * 2 + opmode / 4)
+
+code-is : (op : BitFieldOperation) → At group.BitField 14 (codeX op) (codeOpmode op) × (operationAt (codeX op) (codeOpmode op) ≡ op)
+unfolding groupAt map
+code-is Test = (at-code group.BitField 14 4 3 refl, refl)
+code-is ExtractUnsigned = (at-code group.BitField 14 4 7 refl, refl)
+code-is Change = (at-code group.BitField 14 5 3 refl, refl)
+code-is ExtractSigned = (at-code group.BitField 14 5 7 refl, refl)
+code-is Clear = (at-code group.BitField 14 6 3 refl, refl)
+code-is FindFirstOne = (at-code group.BitField 14 6 7 refl, refl)
+code-is Set = (at-code group.BitField 14 7 3 refl, refl)
+code-is Insert = (at-code group.BitField 14 7 7 refl, refl)
+
+pub bf-reads : (a : ℕ) (op : BitFieldOperation) (o : Operand) (f : BitField) (r : ℕ) → Accepted a (BF op o f r) → Reads a (BF op o f r)
+bf-reads a op o f r (n, e, l) =
+    let (t, c) = code-is op in
+    form-reads (field-form a op o f r (wordIn f r) refl) t e n (λ d m.
+    let w = word-fields f r (d .2) in
+    (rw c, word-stands f r (d .2), rw (c, w .1, w .2, w .3, value-bits (f .offset) (d .0), value-bits (f .width) (d .1))))
+
+abbrev fieldAt : ℕ → BitField
+fieldAt v = record { offset = valueAt (v / 64 % 64); width = valueAt (v % 64) }
+
+field-in : (v : ℕ) → valid specifier.BitField v ≡ true → Holding (fieldAt v) (v / 4096 % 8) × (wordIn (fieldAt v) (v / 4096 % 8) ≡ v)
+field-in v e =
+    let t = and-true (eqb (v / 32768) 0 && valuePart (v / 64 % 64)) _ e in
+    let u = and-true (eqb (v / 32768) 0) _ (t .0) in
+    let o = bits-value (v / 64 % 64) (omega arith) (u .1) in
+    let w = bits-value (v % 64) (omega arith) (t .1) in
+    let z = eqb-eq (v / 32768) 0 (u .0) in
+    let d : v / 64 / 64 ≡ v / 4096 = div-div-eq-div-mul v 64 64 in
+    ((o .1, w .1, omega arith), rw (o .0, w .0) (omega arith))
+
+pub bit-field-sound : Sound group.BitField
+unfolding map
+bit-field-sound a line x opmode ea hl hx ho he e f h p i r =
+    let (w, u) = in-group group.BitField (λ l x o. equal (wordOf 14 (codeX (operationAt x o)) (codeOpmode (operationAt x o)) 0) (wordOf l x o 0) ∷ []) refl line
+    x opmode e in
+    let op = operationAt x opmode in
+    let d = field-in (f .value) (h .1 .1) in
+    let n = f .value / 4096 % 8 in
+    decoded-as a i (BF op (f .source) (fieldAt (f .value)) n) _ _ _ r (omega (arith, w))
+    (form-encodes ea f (field-form a op (f .source) (fieldAt (f .value)) n (f .value) (d .1)) (d .0) h p (λ n. n) refl (λ e. rw e))

@@ -10,7 +10,6 @@ use Rattle.isa.specs.declared.Instruction.the-variants.{IntoRegister, MOVEM, Tr
 use Rattle.encode_spec.specs.Item.{fine}
 use Rattle.encode_spec.specs.Encode.{wordsOf, refusalOf}
 use Rattle.read_spec.specs.declared.Group.{Group}
-use Rattle.read_spec.specs.declared.Layout.{Layout}
 use Rattle.read_spec.specs.declared.Tail.{Tail}
 use Rattle.read_spec.specs.Tree.{ret}
 use Rattle.read_spec.specs.Plain.{plain, plainOperand, plainTail}
@@ -90,7 +89,3 @@ Sound s =
     → (f : Tail) → TailStands a (layoutOf s line x opmode ea) f → plainTail f ≡ f
     → (i : Instruction) → decoded a s line x opmode ea (f .value) (f .source) (f .destination) ≡ ret i
     → Encodes a i (wordOf line x opmode ea ∷ tailWords a (layoutOf s line x opmode ea) f)
-
--- both effective addresses of a layout are in six bits
-abbrev pub InSixBits : Layout → Type 0
-InSixBits l = (l .source < 64) × (l .destination < 64)

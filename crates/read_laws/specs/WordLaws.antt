@@ -10,14 +10,11 @@ use Rattle.isa.specs.declared.Size.the-variants.{Byte, Word, Long}
 use Rattle.isa.specs.declared.AddressWidth.the-variants as width
 use Rattle.isa.specs.declared.DisplacementSize.{DisplacementSize}
 use Rattle.isa.specs.declared.DisplacementSize.the-variants as displacement
-use Rattle.isa.specs.declared.RegisterOperand.{RegisterOperand}
-use Rattle.isa.specs.declared.RegisterOperand.the-variants.{Address, Data}
 use Rattle.isa.specs.declared.Field.{Field}
 use Rattle.isa.specs.declared.Field.the-variants as field
 use Rattle.isa.specs.declared.Operand.{Operand}
 use Rattle.isa.specs.declared.Operand.the-variants.{Immediate, Register, Indirect, PostIndirect, PreIndirect, IndirectDisplacement, IndirectIndex, PcDisplacement, PcIndex, Extended, Absolute}
 use Rattle.isa.specs.ExtensionWord.{isFull, baseSize, outerSize}
-use Rattle.isa.specs.Code.{general, longBit}
 use Rattle.encode_spec.specs.Item.{Item, fine, ranged, wordsIn}
 use Rattle.encode_spec.specs.Ea.{eaItems, displacementItems, baseDisplacement, fullItems, scaledItems, immediateWords}
 use Rattle.read_spec.specs.declared.Specifier.{Specifier}
@@ -28,16 +25,8 @@ use Rattle.read_spec.specs.Decoded.{wordOf}
 use Rattle.read_operand_laws.specs.Facts.{fine-both, range-holds, immediate-holds, ltb-is, words-in-append}
 use Rattle.read_operand_laws.specs.TreeLaws.{Words, words-append}
 use Rattle.read_operand_laws.specs.Stands.{Stands}
+use Rattle.read_operand_laws.specs.IndexLaws.{general-lt, long-lt}
 use Rattle.read_operand_laws.specs.TailStands.{specifierWords, SpecifierStands, sourceAt, destinationAt, TailStands, tailWords}
-
-general-lt : (r : RegisterOperand) → general r < 16
-general-lt (Address n) = omega arith
-general-lt (Data n) = omega arith
-
-long-lt : (s : Size) → longBit s < 2
-long-lt Byte = omega arith
-long-lt Word = omega arith
-long-lt Long = omega arith
 
 displacement-words : (k : DisplacementSize) (z : ℤ) (f : Field) → Words (wordsIn (displacementItems k z f))
 displacement-words displacement.Null z f = tt
@@ -62,7 +51,8 @@ full-words : (w : ℕ) (z outer : ℤ) → w < 65536 → Words (wordsIn (fullIte
 full-words w z outer h = (
   h,
   rw (words-in-append (displacementItems (baseSize w) z field.BaseDisplacement) (displacementItems (outerSize w) outer field.OuterDisplacement))
-      (words-append (wordsIn (displacementItems (baseSize w) z field.BaseDisplacement)) (wordsIn (displacementItems (outerSize w) outer field.OuterDisplacement))
+      (words-append (wordsIn (displacementItems (baseSize w) z field.BaseDisplacement))
+      (wordsIn (displacementItems (outerSize w) outer field.OuterDisplacement))
       (displacement-words (baseSize w) z field.BaseDisplacement) (displacement-words (outerSize w) outer field.OuterDisplacement)),
 )
 

@@ -39,11 +39,11 @@ briefWord x low = general (x .register) * 4096 + longBit (x .size) * 2048 + low
 abbrev pub Brief : ℕ → ℕ → IndexRegister → Type 0
 Brief w low x = (isFull w ≡ false) × (eqb (w / 512 % 4) 0 ≡ true) × (w % 256 ≡ low) × (indexOf w ≡ x)
 
-general-lt : (r : RegisterOperand) → general r < 16
+pub general-lt : (r : RegisterOperand) → general r < 16
 general-lt (Address n) = omega arith
 general-lt (Data n) = omega arith
 
-long-lt : (s : Size) → longBit s < 2
+pub long-lt : (s : Size) → longBit s < 2
 long-lt Byte = omega arith
 long-lt Word = omega arith
 long-lt Long = omega arith

@@ -405,7 +405,7 @@ operand-alive s modes ea e = go (lt? ea 56)
 low-mode : (m k : ℕ) → m < 7 → k < 8 → modeAt (m * 8 + k) ≡ m
 low-mode m k h g = rw (ltb-true (m * 8 + k) 56 (omega arith)) (omega arith)
 
-mode-field : (o : Operand) → isTyped o ≡ true → modeAt (eaField o) ≡ modeOf o
+pub mode-field : (o : Operand) → isTyped o ≡ true → modeAt (eaField o) ≡ modeOf o
 mode-field (Immediate v) i = refl
 mode-field (Register (Address k)) i = low-mode 1 (k % 8) (omega arith) (omega arith)
 mode-field (Register (Data k)) i = low-mode 0 (k % 8) (omega arith) (omega arith)
@@ -433,7 +433,7 @@ pick-lt : (b : Bool) (m n k : ℕ) → m < k → n < k → cond b m n < k
 pick-lt true m n k h g = h
 pick-lt false m n k h g = g
 
-mode-lt : (o : Operand) → modeOf o < 12
+pub mode-lt : (o : Operand) → modeOf o < 12
 mode-lt (Immediate v) = omega arith
 mode-lt (Register (Address k)) = omega arith
 mode-lt (Register (Data k)) = omega arith
@@ -454,7 +454,7 @@ permits-is modes s at ea o h =
     let p : modeAt ea ≡ modeOf o = ap modeAt (sym (h .3)) ∙ mode-field o (h .1) in
     rw (p, ltb-true (modeOf o) 12 (mode-lt o))
 
-field-lt : (o : Operand) → eaField o < 64
+pub field-lt : (o : Operand) → eaField o < 64
 field-lt (Immediate v) = omega arith
 field-lt (Register (Address k)) = omega arith
 field-lt (Register (Data k)) = omega arith
@@ -474,3 +474,11 @@ field-lt (Absolute v width.Long) = omega arith
 
 pub stands-lt : (s : Size) (at ea : ℕ) (o : Operand) → Stands s at ea o → ea < 64
 stands-lt s at ea o h = subst (λ (k : ℕ). k < 64) (h .3) (field-lt o)
+
+-- a mode that a set may have is in six bits
+pub permitted-lt : (modes ea : ℕ) → permitted modes ea ≡ true → ea < 64
+permitted-lt modes ea e = go (lt? ea 56) (ltb-is (modeAt ea) 12 (and-true (ltb (modeAt ea) 12) _ e .0))
+  where
+    go : Lt ea 56 → modeAt ea < 12 → ea < 64
+    go (Lt.less l g) h = omega arith
+    go (Lt.notLess l g) h = omega (arith, rw g at h)

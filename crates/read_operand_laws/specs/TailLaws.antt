@@ -21,7 +21,7 @@ use Rattle.read_operand_laws.specs.TailStands.{specifierWords, OneStands
 use Rattle.read_operand_laws.specs.Facts.{and-true, words-count}
 use Rattle.read_operand_laws.specs.TreeLaws.{Words, rest-words, Alive, Clean, got-subst, short-no, guard-true, guard-then, guard-clean, guard-alive, bind-got, bind-then, bind-alive, bind-clean}
 use Rattle.read_operand_laws.specs.DisplacementLaws.{got-is}
-use Rattle.read_operand_laws.specs.OperandLaws.{operand-complete, operand-sound, operand-clean, operand-alive}
+use Rattle.read_operand_laws.specs.OperandLaws.{operand-complete, operand-sound, operand-clean, operand-alive, permitted-lt}
 
 -- ---- the specifier
 one-complete : (k : Specifier) (v : ℕ) → OneStands k v → (a n : ℕ) (r : List ℕ) → run (oneWord k) a n (v ∷ r) ≡ got v (n + 1) r
@@ -169,15 +169,18 @@ FieldsSound a l ws f m r =
 made-is : (v : ℕ) {o p d e : Operand} → o ≡ p → d ≡ e → made v o d ≡ made v p e
 made-is v p q = rw (p, q)
 
-pub tail-sound : (a : ℕ) (l : Layout) → l .source < 64 → l .destination < 64 → (ws : List ℕ) → Words ws → (f : Tail) (m : ℕ) (r : List ℕ)
+pub tail-sound : (a : ℕ) (l : Layout) (ws : List ℕ) → Words ws → (f : Tail) (m : ℕ) (r : List ℕ)
     → run (tailTree l) a 1 ws ≡ got f m r
     → TailStands a l f
     × (plainTail f ≡ f)
     × (ws ≡ tailWords a l f ++ r)
     × (m ≡ 1 + length (tailWords a l f))
-tail-sound a l hs hd ws h f m r e =
+tail-sound a l ws h f m r e =
     let s = l .size in
     let g = guard-then (accepts l) (wholePart l) a 1 ws f m r e in
+    let t = and-true (l .accepted && permitted (l .readable) (l .source)) (permitted (l .writable) (l .destination)) (g .0) in
+    let hs = permitted-lt (l .readable) (l .source) (and-true (l .accepted) _ (t .0) .1) in
+    let hd = permitted-lt (l .writable) (l .destination) (t .1) in
     bind-then (specifierTree (l .specifier)) (λ v. operandPart l v) a 1 ws f m r (g .1) (λ v i s1 e1 f1.
     let c = specifier-sound (l .specifier) a 1 ws h v i s1 e1 in
     let us = specifierWords (l .specifier) v in

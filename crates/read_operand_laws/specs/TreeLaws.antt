@@ -8,7 +8,8 @@ use native.Mathlib.Omega.{arith}
 use lib.ListN.{length, replicate, drop, getD, drop-of-length-le}
 use lib.Seq.{drop-cons}
 use Rattle.encode_spec.specs.Item.{placed}
-use Rattle.read_spec.specs.Tree.{Tree, ret, fail, more, Out, got, short, none, run, guard, bind, At, found, ended, refused, runAt}
+use Rattle.read_spec.specs.Depth.{atOut}
+use Rattle.read_spec.specs.Tree.{Tree, ret, fail, more, Out, got, short, none, run, guard, bind, runAt}
 use Rattle.read_operand_laws.specs.Facts.{Lt, less, notLess, lt?}
 
 -- each is a word
@@ -112,11 +113,6 @@ module _ {A : Type 0} where
   guard-alive b t e l = rw e l
 
   -- ---- by place
-  abbrev pub atOf : Out A → At A
-  atOf (got x m r) = found x m
-  atOf short = ended
-  atOf none = refused
-
   step-more : (k : ℕ → ℕ → Tree A) (a n : ℕ) (ws : List ℕ) → n < length ws
       → run (more k) a n (drop n ws) ≡ run (k (placed a n) (getD ws n 0)) a (n + 1) (drop (n + 1) ws)
   step-more k a n ws h =
@@ -126,16 +122,16 @@ module _ {A : Type 0} where
   step-short : (k : ℕ → ℕ → Tree A) (a n : ℕ) (ws : List ℕ) → length ws ≤ n → run (more k) a n (drop n ws) ≡ short
   step-short k a n ws h = rw (drop-of-length-le ws h)
 
-  pub run-at : (t : Tree A) (a : ℕ) (ws : List ℕ) (n : ℕ) → n ≤ length ws → runAt t a ws n ≡ atOf (run t a n (drop n ws))
+  pub run-at : (t : Tree A) (a : ℕ) (ws : List ℕ) (n : ℕ) → n ≤ length ws → runAt t a ws n ≡ atOut (run t a n (drop n ws))
   run-at (ret x) a ws n h = refl
   run-at fail a ws n h = refl
   run-at (more k) a ws n h = go (run-at (k (placed a n) (getD ws n 0)) a ws (n + 1)) (lt? n (length ws))
     where
-      go : (n + 1 ≤ length ws → runAt (k (placed a n) (getD ws n 0)) a ws (n + 1) ≡ atOf (run (k (placed a n) (getD ws n 0)) a (n + 1) (drop (n + 1) ws)))
+      go : (n + 1 ≤ length ws → runAt (k (placed a n) (getD ws n 0)) a ws (n + 1) ≡ atOut (run (k (placed a n) (getD ws n 0)) a (n + 1) (drop (n + 1) ws)))
           → Lt n (length ws)
-          → runAt (more k) a ws n ≡ atOf (run (more k) a n (drop n ws))
-      go ih (less p e) = rw e (ih (omega arith) ∙ ap atOf (sym (step-more k a n ws p)))
-      go ih (notLess p e) = rw e (ap atOf (sym (step-short k a n ws p)))
+          → runAt (more k) a ws n ≡ atOut (run (more k) a n (drop n ws))
+      go ih (less p e) = rw e (ih (omega arith) ∙ ap atOut (sym (step-more k a n ws p)))
+      go ih (notLess p e) = rw e (ap atOut (sym (step-short k a n ws p)))
 
 -- ---- one tree after another
 module _ {A B : Type 0} where
