@@ -4,7 +4,7 @@ ghost use Prim.Native.Nat.{_<_};
 ghost use Rattle.encode_spec.specs.Item.{check};
 ghost use Rattle.encode_spec.specs.Item as item;
 ghost use Rattle.isa.specs.ExtensionWord.{isFull};
-ghost use Rattle.encode_spec.specs.Ea.{distance, wordItems, immediateWords, immediateItems, indexSizeVerdict, briefItems, displacementItems, fromPc, baseDisplacement, fullItems, briefField, scaledItems, extendedItems, absoluteItems, eaItems};
+ghost use Rattle.encode_spec.specs.Ea.{distance, wordItems, immediateWords, immediateItems, indexSizeVerdict, briefItems, displacementItems, baseDisplacement, fullItems, briefField, scaledItems, extendedItems, absoluteItems, eaItems};
 ghost use Rattle.encode_spec.specs.Ea as ea;
 ghost use Rattle.isa.specs.declared.Field.the-variants as field;
 ghost use mathlib.Core.List.{_∷_};
@@ -95,19 +95,12 @@ pub fn displacement(e: Encoder, size: DisplacementSize, z: i64, field: Field) ->
     }
 }
 
-// Whether the base displacement is measured from the extension word.
-pub fn from_pc(base: u8, word: u16) -> bool
-    ensures { λ r. ⌜ r ≡ fromPc base word ⌝ }
-{
-    (base == 8) & !ExtensionWord(word).base_suppressed()
-}
-
 // The base displacement as it is written.
 pub fn base_displacement(e: Encoder, base: u8, word: u16, displacement: i32) -> i64
     ensures { λ r. ⌜ r ≡ baseDisplacement base word displacement (nextAddress e) ⌝ }
 {
     let z = base_signed::wide(displacement);
-    if from_pc(base, word) {
+    if isa_operands::from_pc(base, word) {
         distance(e, base_signed::low32(z))
     } else {
         z

@@ -1,7 +1,7 @@
 // Data movement.
 ghost use mathlib.Core.Path.{_≡_};
 ghost use Prim.Native.Nat.{_<_};
-ghost use Rattle.encode_spec.specs.Movement.{moveParts, moveaParts, movemModes, movemReason, movemParts, movepItems, movepParts, moveqParts, isAddress, exgOpmode, exgParts, linkParts, linklParts, unlkParts};
+ghost use Rattle.encode_spec.specs.Movement.{moveParts, moveaParts, movemReason, movemParts, movepItems, movepParts, moveqParts, isAddress, exgOpmode, exgParts, linkParts, linklParts, unlkParts};
 ghost use Rattle.encode_state.specs.Encoder.{run, runParts};
 use encode_state::Encoder;
 use isa::Field;
@@ -45,16 +45,6 @@ pub fn movea(e: Encoder, source: Operand, register: RegisterOperand, size: Size)
     )
 }
 
-// The modes of MOVEM's operand.
-pub fn movem_modes(direction: TargetDirection) -> u16
-    ensures { λ r. ⌜ r ≡ movemModes direction ⌝ }
-{
-    match direction {
-        TargetDirection::ToMemory => isa_operands::MOVEM_TO_MEMORY,
-        TargetDirection::FromMemory => isa_operands::MOVEM_FROM_MEMORY,
-    }
-}
-
 // The refusal where its mode is another.
 pub fn movem_reason(direction: TargetDirection) -> u8
     ensures { λ r. ⌜ r ≡ movemReason direction ⌝ }
@@ -84,7 +74,7 @@ pub fn movem(
         e3,
         target,
         size,
-        movem_modes(direction),
+        isa_operands::movem_modes(direction),
         movem_reason(direction),
     )
 }

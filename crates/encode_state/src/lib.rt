@@ -4,12 +4,20 @@ ghost use Prim.Native.Nat.{_<_, _%_};
 ghost use Rattle.encode_state.specs.Encoder.{pushed, refused, marked, step, run, nextAddress, holding};
 ghost use mathlib.Core.List.{[]};
 ghost use Rattle.encode_spec.specs.Item as item;
-ghost use Rattle.isa.specs.Code.{sizeCode, moveCode, isByte, isWord, longBit, bit, numberOfRegister, registerBits, general, toMemory, fromMemory};
 ghost use Rattle.encode_spec.specs.Ea.{longItems};
 use isa::Field;
 use isa::RegisterOperand;
-use isa::Size;
-use isa::TargetDirection;
+pub use isa_values::code::bit;
+pub use isa_values::code::from_memory;
+pub use isa_values::code::general;
+pub use isa_values::code::is_byte;
+pub use isa_values::code::is_word;
+pub use isa_values::code::long_bit;
+pub use isa_values::code::move_size;
+pub use isa_values::code::number_in;
+pub use isa_values::code::register_bits;
+pub use isa_values::code::standard_size;
+pub use isa_values::code::to_memory;
 
 // The words of one instruction at an address. `size` does not check ranges.
 pub struct Encoder {
@@ -173,111 +181,5 @@ pub fn address_register(e: Encoder, r: RegisterOperand) -> Encoder
     match r {
         RegisterOperand::Data(_) => no_encoding(e, 2),
         RegisterOperand::Address(n) => register(e, n),
-    }
-}
-
-// The number of a register.
-pub fn number_in(r: RegisterOperand) -> u8
-    ensures { λ x. ⌜ x ≡ numberOfRegister r ⌝ }
-{
-    match r {
-        RegisterOperand::Data(n) => n,
-        RegisterOperand::Address(n) => n,
-    }
-}
-
-// Its three bits.
-pub fn register_bits(r: RegisterOperand) -> u16
-    ensures { λ x. ⌜ (x ≡ registerBits r) × (x < 8) ⌝ }
-{
-    (number_in(r) % 8) as u16
-}
-
-// D/A and the three bits.
-pub fn general(r: RegisterOperand) -> u16
-    ensures { λ x. ⌜ (x ≡ general r) × (x < 16) ⌝ }
-{
-    match r {
-        RegisterOperand::Data(n) => (n % 8) as u16,
-        RegisterOperand::Address(n) => 8 + (n % 8) as u16,
-    }
-}
-
-// The size in two bits: byte 00, word 01, long 10.
-pub fn standard_size(size: Size) -> u16
-    ensures { λ r. ⌜ (r ≡ sizeCode size) × (r < 3) ⌝ }
-{
-    match size {
-        Size::Byte => 0,
-        Size::Word => 1,
-        Size::Long => 2,
-    }
-}
-
-// The size of MOVE and MOVEA: byte 01, word 11, long 10.
-pub fn move_size(size: Size) -> u16
-    ensures { λ r. ⌜ (r ≡ moveCode size) × (r < 4) ⌝ }
-{
-    match size {
-        Size::Byte => 1,
-        Size::Word => 3,
-        Size::Long => 2,
-    }
-}
-
-pub fn is_byte(size: Size) -> bool
-    ensures { λ r. ⌜ r ≡ isByte size ⌝ }
-{
-    match size {
-        Size::Byte => true,
-        Size::Word => false,
-        Size::Long => false,
-    }
-}
-
-pub fn is_word(size: Size) -> bool
-    ensures { λ r. ⌜ r ≡ isWord size ⌝ }
-{
-    match size {
-        Size::Byte => false,
-        Size::Word => true,
-        Size::Long => false,
-    }
-}
-
-// The bit that says long.
-pub fn long_bit(size: Size) -> u16
-    ensures { λ r. ⌜ (r ≡ longBit size) × (r < 2) ⌝ }
-{
-    match size {
-        Size::Byte => 0,
-        Size::Word => 0,
-        Size::Long => 1,
-    }
-}
-
-pub fn bit(b: bool) -> u16
-    ensures { λ r. ⌜ (r ≡ bit b) × (r < 2) ⌝ }
-{
-    if b { 1 } else { 0 }
-}
-
-// The bit that says to memory.
-pub fn to_memory(direction: TargetDirection) -> u16
-    ensures { λ r. ⌜ (r ≡ toMemory direction) × (r < 2) ⌝ }
-{
-    match direction {
-        TargetDirection::ToMemory => 1,
-        TargetDirection::FromMemory => 0,
-    }
-}
-
-// The bit that says from memory.
-pub fn from_memory(direction: TargetDirection) -> u16
-    ensures { λ r. ⌜ (r ≡ fromMemory direction) × (r < 2) ⌝ }
-{
-    match direction {
-        TargetDirection::ToMemory => 0,
-        TargetDirection::FromMemory => 1,
     }
 }

@@ -1,7 +1,8 @@
 // What an operand is: its mode, its fields, and what it holds.
 ghost use mathlib.Core.Path.{_≡_};
 ghost use Prim.Native.Nat.{_<_};
-ghost use Rattle.encode_spec.specs.Ea.{registerMode, absoluteMode, extendedMode, modeOf, permits, byteOfAddress, extendedModeField, modeField, extendedRegisterField, absoluteRegisterField, registerField, eaField, isTyped, isRegister, isImmediate, registerIn, immediateIn, registerNumber, bothOf, paired, memoryBit};
+ghost use Rattle.encode_spec.specs.Ea.{registerMode, absoluteMode, extendedMode, modeOf, permits, byteOfAddress, extendedModeField, modeField, extendedRegisterField, absoluteRegisterField, registerField, eaField, fromPc, isTyped, isRegister, isImmediate, registerIn, immediateIn, registerNumber, bothOf, paired, memoryBit};
+ghost use Rattle.encode_spec.specs.Movement.{movemModes};
 ghost use mathlib.Core.Bool.{_&&_};
 ghost use lib.Dec.{leb};
 ghost use Rattle.isa.specs.ExtensionWord.{isCanonical};
@@ -9,6 +10,9 @@ use isa::AddressWidth;
 use isa::Operand;
 use isa::RegisterOperand;
 use isa::Size;
+use isa::TargetDirection;
+use isa_values::code;
+use isa_values::extension_word::ExtensionWord;
 
 // The sets of modes that operands are taken from, bit n for mode n (the manual, table 2-4).
 pub const ALL: u16 = 0b1111_1111_1111;
@@ -32,6 +36,16 @@ pub const MOVEM_FROM_MEMORY: u16 = 0b0111_1110_1100;
 pub const BIT_FIELD_READ: u16 = 0b0111_1110_0101;
 
 pub const BIT_FIELD_WRITTEN: u16 = 0b0001_1110_0101;
+
+// The modes of MOVEM's operand.
+pub fn movem_modes(direction: TargetDirection) -> u16
+    ensures { λ r. ⌜ r ≡ movemModes direction ⌝ }
+{
+    match direction {
+        TargetDirection::ToMemory => MOVEM_TO_MEMORY,
+        TargetDirection::FromMemory => MOVEM_FROM_MEMORY,
+    }
+}
 
 // The mode of a register.
 pub fn register_mode(r: RegisterOperand) -> u16
@@ -102,7 +116,14 @@ pub fn permitted(allowed: u16, operand: Operand) -> bool
 pub fn byte_of_address(size: Size, operand: Operand) -> bool
     ensures { λ r. ⌜ r ≡ byteOfAddress size operand ⌝ }
 {
-    encode_state::is_byte(size) & (mode_of(operand) == 1)
+    code::is_byte(size) & (mode_of(operand) == 1)
+}
+
+// Whether the base displacement of an Extended operand is measured from the extension word.
+pub fn from_pc(base: u8, word: u16) -> bool
+    ensures { λ r. ⌜ r ≡ fromPc base word ⌝ }
+{
+    (base == 8) & !ExtensionWord(word).base_suppressed()
 }
 
 // The mode field of an Extended operand.
@@ -169,16 +190,16 @@ pub fn register_field(operand: Operand) -> u16
 {
     match operand {
         Operand::Immediate(_) => 4,
-        Operand::Register(r) => encode_state::register_bits(r),
+        Operand::Register(r) => code::register_bits(r),
         Operand::Indirect(n) => (n % 8) as u16,
         Operand::PostIndirect(n) => (n % 8) as u16,
         Operand::PreIndirect(n) => (n % 8) as u16,
-        Operand::IndirectDisplacement { offset: _, base } => encode_state::register_bits(base),
+        Operand::IndirectDisplacement { offset: _, base } => code::register_bits(base),
         Operand::IndirectIndex {
             base,
             offset: _,
             index: _,
-        } => encode_state::register_bits(base),
+        } => code::register_bits(base),
         Operand::PcDisplacement { target: _ } => 2,
         Operand::PcIndex {
             target: _,
@@ -384,7 +405,7 @@ pub fn register_number(operand: Operand) -> u8
 {
     match operand {
         Operand::Immediate(_) => 0,
-        Operand::Register(r) => encode_state::number_in(r),
+        Operand::Register(r) => code::number_in(r),
         Operand::Indirect(n) => n,
         Operand::PostIndirect(n) => n,
         Operand::PreIndirect(n) => n,
@@ -430,5 +451,5 @@ pub fn paired(x: Operand, y: Operand) -> bool
 pub fn memory_bit(x: Operand) -> u16
     ensures { λ r. ⌜ (r ≡ memoryBit x) × (r < 2) ⌝ }
 {
-    encode_state::bit(mode_of(x) == 4)
+    code::bit(mode_of(x) == 4)
 }

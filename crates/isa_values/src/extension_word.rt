@@ -1,9 +1,11 @@
 // Extension words, and what they say.
 ghost use mathlib.Core.Path.{_≡_};
 ghost use Prim.Native.Nat.{_^_, _<_};
-ghost use Rattle.isa.specs.Code.{longBit, general, bit};
 ghost use Rattle.isa.specs.ExtensionWord.{isFull, baseSuppressed, indexSuppressed, baseSize, indirectionOf, outerSize, isCanonical};
 ghost use Rattle.isa_values.specs.ExtensionWord.{indexOperand, indexSize, indexRegister, scaleShift, index, extensionBytes, scaleCode, indexBits, indirectionCode, fullWord, indexReserved};
+use crate::code::bit;
+use crate::code::general;
+use crate::code::long_bit;
 use crate::displacement_size;
 use isa::DisplacementSize;
 use isa::IndexRegister;
@@ -208,27 +210,6 @@ impl ExtensionWord {
     }
 }
 
-// D/A and the number of a register.
-fn general(register: RegisterOperand) -> u16
-    ensures { λ r. ⌜ (r ≡ general register) × (r < 16) ⌝ }
-{
-    match register {
-        RegisterOperand::Address(number) => 8 + (number % 8) as u16,
-        RegisterOperand::Data(number) => (number % 8) as u16,
-    }
-}
-
-// W/L of an index.
-fn long_bit(size: Size) -> u16
-    ensures { λ r. ⌜ (r ≡ longBit size) × (r < 2) ⌝ }
-{
-    match size {
-        Size::Byte => 0,
-        Size::Word => 0,
-        Size::Long => 1,
-    }
-}
-
 // SCALE.
 fn scale_code(scale: u8) -> u16
     ensures { λ r. ⌜ (r ≡ scaleCode scale) × (r < 4) ⌝ }
@@ -239,13 +220,6 @@ fn scale_code(scale: u8) -> u16
         8 => 3,
         _ => 0,
     }
-}
-
-// A bool as one bit.
-fn bit(set: bool) -> u16
-    ensures { λ r. ⌜ (r ≡ bit set) × (r < 2) ⌝ }
-{
-    if set { 1 } else { 0 }
 }
 
 // I/IS.

@@ -1,5 +1,6 @@
 // The functions on the values of an instruction, as the Rust's encoded.rs has them: a module for each type.
 pub mod bit_field_operation;
+pub mod code;
 pub mod condition;
 pub mod control_register;
 pub mod displacement_size;

@@ -1,65 +1,76 @@
 -- The reading as the code does it, by place: what follows the operation word, and the instruction that it forms.
-use Prim.Native.Nat.{ℕ, _*_, _/_, _%_, _<_, _≤_}
-use mathlib.Core.Path.{_≡_, refl, ap, sym, _∙_}
+use Prim.Native.Nat.{ℕ, _+_, _/_, _%_, _<_, _≤_}
+use mathlib.Core.Path.{_≡_, refl}
 use mathlib.Core.List.{List, [], _∷_}
 use native.Mathlib.Omega.{arith}
-use lib.ListN.{getD, length}
+use native.Mathlib.Numerals.{add-one}
+use lib.ListN.{getD, length, drop, drop-of-length-le}
+use lib.Seq.{drop-cons}
 use Rattle.isa.specs.declared.Instruction.{Instruction}
+use Rattle.encode_spec.specs.Item.{placed}
+use Rattle.base_facts.specs.Tests.{Lt, less, past, lt?}
 use Rattle.read_spec.specs.declared.Group.{Group}
 use Rattle.read_spec.specs.declared.Tail.{Tail}
 use Rattle.read_spec.specs.declared.Reading.{Reading}
 use Rattle.read_spec.specs.declared.Reading.the-variants.{Short, Nothing}
-use Rattle.read_spec.specs.Depth.{atOut, Within, depth-within, tail-depth}
-use Rattle.read_spec.specs.Tree.{Tree, ret, fail, more, run, Out, got, short, none, At, runAt}
+use Rattle.read_spec.specs.Tree.{Tree, ret, fail, more, bind, run, At, found, ended, refused, runAt}
 use Rattle.read_spec.specs.Map.{groupAt, groupOf}
 use Rattle.read_spec.specs.Layout.{tailTree}
 use Rattle.read_spec.specs.Layouts.{layoutOf}
 use Rattle.read_spec.specs.Decoded.{decoded}
-use Rattle.read_spec.specs.Read.{groupTree, readingOf, readOf}
+use Rattle.read_spec.specs.Read.{readingOf, readOf}
+use Rattle.read_spec.specs.Depth.{Within, depth-within, tail-depth}
 use Rattle.read_operands.specs.declared.Followed.{Followed}
 use Rattle.read_operands.specs.declared.Followed.the-variants.{Got}
 use Rattle.read_operands.specs.declared.Followed.the-variants as follow
 use Rattle.read_operands.specs.Read.{followed}
-use Rattle.read_opcodes_0_7.specs.ReadAs.{readAs}
-use Rattle.read_operand_laws.specs.TreeLaws.{after, run-bind, run-at}
-use Rattle.read_laws.specs.DecodedLaws.{Flat, decoded-flat}
+
+-- r is what the tree reads after n words, whatever words are left
+abbrev pub Ends : Tree Instruction → ℕ → ℕ → Reading → Type 0
+Ends t a n r = (rest : List ℕ) → r ≡ readingOf (run t a n rest)
 
 -- at most 13 words are read, so a place modulo 16 is the place
-abbrev pub decodedAs : ℕ → Group → ℕ → ℕ → ℕ → ℕ → Followed → Reading
-decodedAs a s line x opmode ea (Got f n) = readAs (decoded a s line x opmode ea (f .value) (f .source) (f .destination)) (2 * (n % 16))
-decodedAs a s line x opmode ea follow.Short = Short
-decodedAs a s line x opmode ea follow.Nothing = Nothing
-
-abbrev pub decodedAt : ℕ → Group → ℕ → ℕ → ℕ → ℕ → At Tail → Reading
-decodedAt a s line x opmode ea r = decodedAs a s line x opmode ea (followed r)
+abbrev pub ReadsAs : ℕ → Group → ℕ → ℕ → ℕ → ℕ → Followed → Reading → Type 0
+ReadsAs a s line x opmode ea (Got f n) r = Ends (decoded a s line x opmode ea (f .value) (f .source) (f .destination)) a (n % 16) r
+ReadsAs a s line x opmode ea follow.Short r = r ≡ Short
+ReadsAs a s line x opmode ea follow.Nothing r = r ≡ Nothing
 
 -- the words behind the operation word w of a run
-unfoldable pub followingAt : ℕ → List ℕ → ℕ → Reading
-followingAt a ws w =
-    decodedAt a (groupOf (w / 64)) (w / 4096) (w / 512 % 8) (w / 64 % 8) (w % 64)
-    (runAt (tailTree (layoutOf (groupOf (w / 64)) (w / 4096) (w / 512 % 8) (w / 64 % 8) (w % 64))) a ws 1)
+abbrev pub FollowsAs : ℕ → List ℕ → ℕ → Reading → Type 0
+FollowsAs a ws w r =
+    ReadsAs a (groupOf (w / 64)) (w / 4096) (w / 512 % 8) (w / 64 % 8) (w % 64)
+    (followed (runAt (tailTree (layoutOf (groupOf (w / 64)) (w / 4096) (w / 512 % 8) (w / 64 % 8) (w % 64))) a ws 1)) r
 
-flat-read : (t : Tree Instruction) → Flat t → (a m : ℕ) (r : List ℕ) → m ≤ 13 → readingOf (run t a m r) ≡ readAs t (2 * (m % 16))
-flat-read (ret i) h a m r l = let e : m % 16 ≡ m = omega arith in rw e
-flat-read fail h a m r l = refl
-flat-read (more k) h a m r l = absurd h
+-- ---- one tree after another, the first run by place
+module _ {A : Type 0} (f : A → Tree Instruction) (a : ℕ) where
+  abbrev After : At A → Reading → Type 0
+  After (found y n) r = Ends (f y) a n r
+  After ended r = r ≡ Short
+  After refused r = r ≡ Nothing
 
+  then-read : (t : Tree A) (ws : List ℕ) (n : ℕ) (r : Reading) → After (runAt t a ws n) r → r ≡ readingOf (run (bind t f) a n (drop n ws))
+  then-read (ret y) ws n r h = h (drop n ws)
+  then-read fail ws n r h = h
+  then-read (more k) ws n r h = go (lt? n (length ws)) (then-read (k (placed a n) (getD ws n 0)) ws (n + 1) r)
+    where
+      go : Lt n (length ws) → (After (runAt (k (placed a n) (getD ws n 0)) a ws (n + 1)) r → r ≡ readingOf (run (bind (k (placed a n) (getD ws n 0)) f) a (n + 1) (drop (n + 1) ws))) → r ≡ readingOf (run (bind (more k) f) a n (drop n ws))
+      go (less p e) i =
+          let g : After (runAt (k (placed a n) (getD ws n 0)) a ws (n + 1)) r = rw e at h in
+          let d : drop n ws ≡ getD ws n 0 ∷ drop (n + 1) ws = rw add-one (drop-cons ws n 0 p) in
+          rw d (i g)
+      go (past p e) i =
+          let g : r ≡ Short = rw e at h in
+          rw (drop-of-length-le ws p) g
+
+-- ---- the fields, and the instruction that they form
 module _ (a : ℕ) (s : Group) (line x opmode ea : ℕ) where
-  decoded-tree : Tail → Tree Instruction
-  decoded-tree f = decoded a s line x opmode ea (f .value) (f .source) (f .destination)
+  abbrev formedOf : Tail → Tree Instruction
+  formedOf f = decoded a s line x opmode ea (f .value) (f .source) (f .destination)
 
-  read-after : (o : Out Tail) → Within (atOut o) 13 → readingOf (after o a (λ f. decoded a s line x opmode ea (f .value) (f .source) (f .destination))) ≡ decodedAt a s line x opmode ea (atOut o)
-  read-after (got f m r) h = flat-read (decoded a s line x opmode ea (f .value) (f .source) (f .destination)) (decoded-flat a s line x opmode ea (f .value) (f .source) (f .destination)) a m r h
-  read-after short h = refl
-  read-after none h = refl
-
-  read-group : (w : ℕ) (ws : List ℕ) → readingOf (run (groupTree a s line x opmode ea) a 1 ws) ≡ decodedAt a s line x opmode ea (runAt (tailTree (layoutOf s line x opmode ea)) a (w ∷ ws) 1)
-  read-group w ws =
-      let l = layoutOf s line x opmode ea in
-      let t = tailTree l in
-      let p : runAt t a (w ∷ ws) 1 ≡ atOut (run t a 1 ws) = run-at t a (w ∷ ws) 1 (omega arith) in
-      let h : Within (runAt t a (w ∷ ws) 1) 13 = depth-within t 12 (tail-depth l) a (w ∷ ws) 1 in
-      ap readingOf (run-bind t _ a 1 ws) ∙ read-after (run t a 1 ws) (rw p at h) ∙ ap (decodedAt a s line x opmode ea) (sym p)
+  within-read : (o : At Tail) (r : Reading) → Within o 13 → ReadsAs a s line x opmode ea (followed o) r → After formedOf a o r
+  within-read (found f n) r h g = let e : n % 16 ≡ n = omega arith in rw e at g
+  within-read ended r h g = g
+  within-read refused r h g = g
 
 group-same : (w : ℕ) → groupOf (w / 64) ≡ groupAt (w / 4096) (w / 512 % 8) (w / 64 % 8)
 unfolding groupOf
@@ -74,7 +85,11 @@ unfolding readOf
 read-none a [] h = refl
 read-none a (w ∷ ws) h = absurd (omega (arith, h))
 
-pub read-some : (a : ℕ) (ws : List ℕ) → 0 < length ws → readOf ws a ≡ followingAt a ws (getD ws 0 0)
-unfolding readOf followingAt
-read-some a [] h = absurd (omega arith)
-read-some a (w ∷ ws) h = rw (group-same w) (read-group a (groupAt (w / 4096) (w / 512 % 8) (w / 64 % 8)) (w / 4096) (w / 512 % 8) (w / 64 % 8) (w % 64) w ws)
+pub read-some : (a : ℕ) (ws : List ℕ) (r : Reading) → 0 < length ws → FollowsAs a ws (getD ws 0 0) r → r ≡ readOf ws a
+unfolding readOf
+read-some a [] r l h = absurd (omega arith)
+read-some a (w ∷ ws) r l h =
+    let s = groupAt (w / 4096) (w / 512 % 8) (w / 64 % 8) in
+    let t = tailTree (layoutOf s (w / 4096) (w / 512 % 8) (w / 64 % 8) (w % 64)) in
+    let d : Within (runAt t a (w ∷ ws) 1) 13 = depth-within t 12 (tail-depth (layoutOf s (w / 4096) (w / 512 % 8) (w / 64 % 8) (w % 64))) a (w ∷ ws) 1 in
+    then-read (formedOf a s (w / 4096) (w / 512 % 8) (w / 64 % 8) (w % 64)) a t (w ∷ ws) 1 r (within-read a s (w / 4096) (w / 512 % 8) (w / 64 % 8) (w % 64) (runAt t a (w ∷ ws) 1) r d (rw (group-same w) at h))

@@ -2,10 +2,12 @@
 ghost use mathlib.Core.Path.{_≡_};
 ghost use Prim.Native.Nat.{_<_};
 ghost use Rattle.read_spec.specs.Read.{readOf};
-ghost use Rattle.read_instruction.specs.ReadAt.{decodedAs, followingAt};
+ghost use Rattle.read_instruction.specs.ReadAt.{ReadsAs, FollowsAs};
 use read_operands::Followed;
 use read_spec::Group;
 use read_spec::Reading;
+
+pub mod forming; // the instruction of a group and its fields
 
 // The instruction that an operation word and what was read behind it form.
 fn decoded(
@@ -18,14 +20,13 @@ fn decoded(
     read: Followed,
 ) -> Reading
     requires { ⌜ (line < 16) × (x < 8) × (opmode < 8) × (ea < 64) ⌝ }
-    ensures { λ r. ⌜ r ≡ decodedAs address group line x opmode ea read ⌝ }
+    ensures { λ r. ⌜ ReadsAs address group line x opmode ea read r ⌝ }
 {
     match read {
         Followed::Got(fields, at) => {
             let source = fields.source;
             let destination = fields.destination;
-            let length = 2 * ((at % 16) as u32);
-            read_forming::form(
+            return forming::form(
                 group,
                 address,
                 line,
@@ -35,17 +36,17 @@ fn decoded(
                 fields.value,
                 source,
                 destination,
-                length,
-            )
+                (at % 16) as u32,
+            );
         }
-        Followed::Short => Reading::Short,
-        Followed::Nothing => Reading::Nothing,
+        Followed::Short => return Reading::Short,
+        Followed::Nothing => return Reading::Nothing,
     }
 }
 
 // The instruction whose operation word is w.
 fn read_word(words: &[u16], address: u32, w: u16) -> Reading
-    ensures { λ r. ⌜ r ≡ followingAt address (now (words .entry)) w ⌝ }
+    ensures { λ r. ⌜ FollowsAs address (now (words .entry)) w r ⌝ }
 {
     let line = (w / 4096) as u8;
     let x = (w / 512 % 8) as u8;
@@ -62,8 +63,7 @@ pub fn read(words: &[u16], address: u32) -> Reading
     ensures { λ r. ⌜ r ≡ readOf (now (words .entry)) address ⌝ }
 {
     if words.len() == 0 {
-        Reading::Short
-    } else {
-        read_word(words, address, words[0])
+        return Reading::Short;
     }
+    read_word(words, address, words[0])
 }

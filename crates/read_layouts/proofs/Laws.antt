@@ -1,12 +1,12 @@
 -- Laws of the tables. Assumes nothing.
-use Prim.Native.Nat.{ℕ, zero, suc, _+_, _≤_, _<_}
+use Prim.Native.Nat.{ℕ, zero, suc, _+_, _<_}
 use mathlib.Core.Path.{_≡_, refl, sym, ap, subst, _∙_}
 use mathlib.Core.Bool.{Bool, true, _&&_}
 use mathlib.Core.Logic.{inl, inr}
 use mathlib.Core.List.{List, [], _∷_}
 use native.Mathlib.Omega.{arith}
 use lib.Dec.{T, eqb, ltb, eqb→eq}
-use lib.ListN.{length, getD, List·getD-eq-default}
+use lib.ListN.{length, getD}
 use types.Run.{OneOf}
 use denote.Enum.Declared.{tagOf}
 use Rattle.isa_values.specs.Condition.{both}
@@ -17,15 +17,6 @@ use Rattle.read_spec.specs.declared.Layout.{Layout}
 use Rattle.read_spec.specs.Map.{groups, groupNumber}
 use Rattle.read_spec.specs.Layout.{bare}
 use Rattle.read_spec.specs.Layouts.{layoutOf}
-
--- in the list the default does not matter
-pub inside : {A : Type 0} (xs : List A) (k : ℕ) (d e : A) → k < length xs → getD xs k d ≡ getD xs k e
-inside [] k d e h = absurd (omega arith)
-inside (x ∷ xs) zero d e h = refl
-inside (x ∷ xs) (suc k) d e h = inside xs k d e (omega arith)
-
-pub outside : {A : Type 0} (xs : List A) (k : ℕ) (d : A) → length xs ≤ k → d ≡ getD xs k d
-outside xs k d h = sym (List·getD-eq-default xs d h)
 
 -- a test of each entry against a rule, counted from k
 abbrev pub follows : (ℕ → ℕ) → ℕ → List ℕ → Bool

@@ -5,19 +5,10 @@ ghost use mathlib.Core.Path.{_≡_};
 ghost use Prim.Native.Nat.{_<_};
 ghost use Rattle.isa.specs.declared.Size.the-variants.{Long, Word};
 ghost use Rattle.encode_spec.specs.Bits.{staticModes};
-ghost use Rattle.encode_spec.specs.Movement.{movemModes};
 ghost use Rattle.read_spec.specs.Layout.{two, one, alone, bare, noLayout};
-ghost use Rattle.read_spec.specs.Layouts.{readableModes, immediateSpecifier, immediateLayout, dynamicLayout, casLayout, moveaLayout, moveLayout, oneLayout, unsizedModes, unsizedSize, unsizedLayout, unsizedOneLayout, nbcdLayout, peaLayout, movemLayout, systemSpecifier, systemLayout, leaLayout, quickLayout, trapSpecifier, conditionalLayout, branchLayout, intoDataLayout, fromDataLayout, isExchange, exchangeLayout, compareLayout, bitFieldLayout, layoutOf};
-use crate::operation::bit_field_at;
-use crate::operation::less;
-use crate::operation::move_size;
-use crate::operation::size_at;
-use crate::operation::to_memory_at;
-use crate::operation::to_status;
-use crate::operation::unsized_at;
+ghost use Rattle.read_spec.specs.Layouts.{readableModes, immediateSpecifier, immediateLayout, dynamicLayout, casLayout, moveaLayout, moveLayout, oneLayout, unsizedModes, unsizedSize, unsizedLayout, unsizedOneLayout, nbcdLayout, peaLayout, movemLayout, systemSpecifier, systemLayout, leaLayout, quickLayout, trapSpecifier, conditionalLayout, branchLayout, intoDataLayout, fromDataLayout, exchangeLayout, compareLayout, bitFieldLayout, layoutOf};
 use isa::BitFieldOperation;
 use isa::Size;
-use isa::TargetDirection;
 use isa::UnsizedOneOperation;
 use isa_operands::ALL;
 use isa_operands::ALTERABLE;
@@ -28,15 +19,22 @@ use isa_operands::DATA;
 use isa_operands::DATA_ALTERABLE;
 use isa_operands::DATA_NOT_IMMEDIATE;
 use isa_operands::MEMORY_ALTERABLE;
-use isa_operands::MOVEM_FROM_MEMORY;
-use isa_operands::MOVEM_TO_MEMORY;
+use isa_operands::movem_modes;
 use isa_values::bit_field_operation;
+use isa_values::code::is_byte;
 use read_spec::Group;
 use read_spec::Layout;
 use read_spec::Specifier;
+use read_values::operation::bit_field_at;
+use read_values::operation::is_exchange;
+use read_values::operation::less;
+use read_values::operation::move_size;
+use read_values::operation::size_at;
+use read_values::operation::to_memory_at;
+use read_values::operation::to_status;
+use read_values::operation::unsized_at;
 
 pub mod map; // the group of an operation word
-pub mod operation; // what its fields name
 
 // A specifier and two operands.
 fn two(
@@ -114,7 +112,7 @@ fn long_if(test: bool) -> Size
 fn readable_modes(size: Size) -> u16
     ensures { λ r. ⌜ r ≡ readableModes size ⌝ }
 {
-    pick(encode_state::is_byte(size), DATA, ALL)
+    pick(is_byte(size), DATA, ALL)
 }
 
 // An immediate before the destination.
@@ -178,7 +176,7 @@ fn cas_layout(x: u8, ea: u8) -> Layout
 fn movea_layout(size: Size, ea: u8) -> Layout
     ensures { λ r. ⌜ r ≡ moveaLayout size ea ⌝ }
 {
-    if encode_state::is_byte(size) {
+    if is_byte(size) {
         no_layout()
     } else {
         one(Specifier::Nothing, size, ea, ALL)
@@ -289,15 +287,6 @@ fn pea_layout(ea: u8) -> Layout
     }
 }
 
-fn movem_modes(direction: TargetDirection) -> u16
-    ensures { λ r. ⌜ r ≡ movemModes direction ⌝ }
-{
-    match direction {
-        TargetDirection::ToMemory => MOVEM_TO_MEMORY,
-        TargetDirection::FromMemory => MOVEM_FROM_MEMORY,
-    }
-}
-
 // MOVEM, and EXT.
 fn movem_layout(x: u8, opmode: u8, ea: u8) -> Layout
     ensures { λ r. ⌜ r ≡ movemLayout x opmode ea ⌝ }
@@ -348,7 +337,7 @@ fn lea_layout(x: u8, ea: u8) -> Layout
 fn quick_layout(size: Size, ea: u8) -> Layout
     ensures { λ r. ⌜ r ≡ quickLayout size ea ⌝ }
 {
-    let modes = pick(encode_state::is_byte(size), DATA_ALTERABLE, ALTERABLE);
+    let modes = pick(is_byte(size), DATA_ALTERABLE, ALTERABLE);
     one(Specifier::Nothing, size, ea, modes)
 }
 
@@ -408,13 +397,6 @@ fn from_data_layout(specifier: Specifier, size: Size, ea: u8) -> Layout
     } else {
         one(Specifier::Nothing, size, ea, MEMORY_ALTERABLE)
     }
-}
-
-// EXG of two data registers, two address registers, or a data and an address register.
-pub fn is_exchange(opmode: u8, ea: u8) -> bool
-    ensures { λ r. ⌜ r ≡ isExchange opmode ea ⌝ }
-{
-    (ea < 16) & ((opmode == 5) | (8 <= ea))
 }
 
 fn exchange_layout(opmode: u8, ea: u8) -> Layout

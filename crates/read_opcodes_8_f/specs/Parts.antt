@@ -1,34 +1,15 @@
 -- Parts of the instructions.
 use mathlib.Core.Bool.{cond}
-use Prim.Native.Nat.{ℕ, _/_, _%_}
+use Prim.Native.Nat.{ℕ, _-_, _/_}
 use lib.Dec.{eqb}
-use Rattle.isa.specs.declared.Size.{Size}
-use Rattle.isa.specs.declared.Size.the-variants.{Word, Long}
-use Rattle.isa.specs.declared.RegisterOperand.{RegisterOperand}
-use Rattle.isa.specs.declared.RegisterOperand.the-variants.{Address, Data}
-use Rattle.isa.specs.declared.BitField.{BitField}
-use Rattle.isa.specs.declared.UnsizedPairOperation.{UnsizedPairOperation}
-use Rattle.isa.specs.declared.UnsizedPairOperation.the-variants.{ABCD, SBCD}
-use Rattle.isa.specs.declared.PackOperation.{PackOperation}
-use Rattle.isa.specs.declared.PackOperation.the-variants.{PACK, UNPK}
-use Rattle.isa.specs.declared.WordOperation.{WordOperation}
-use Rattle.isa.specs.declared.WordOperation.the-variants.{DIVx, MULx}
-use Rattle.read_spec.specs.Operation.{valueAt}
+use Rattle.isa.specs.declared.Operand.{Operand}
+use Rattle.isa.specs.declared.PairOperation.the-variants.{CMPM, EOR}
+use Rattle.isa.specs.declared.Instruction.{Instruction}
+use Rattle.isa.specs.declared.Instruction.the-variants.{Pair}
+use Rattle.read_spec.specs.Operation.{sizeAt}
+use Rattle.read_spec.specs.Decoded.{dataOperand}
 
-abbrev pub decimalAt : ℕ → UnsizedPairOperation
-decimalAt line = cond (eqb line 8) SBCD ABCD
-
-abbrev pub packAt : ℕ → PackOperation
-packAt opmode = cond (eqb opmode 5) PACK UNPK
-
-abbrev pub wordAt : ℕ → WordOperation
-wordAt line = cond (eqb line 8) DIVx MULx
-
-abbrev pub exchangedAt : ℕ → ℕ → RegisterOperand
-exchangedAt x opmode = cond (eqb opmode 5) (Address x) (Data x)
-
-abbrev pub longAt : ℕ → Size
-longAt opmode = cond (eqb opmode 7) Long Word
-
-abbrev pub fieldIn : ℕ → BitField
-fieldIn v = record { offset = valueAt (v / 64 % 64); width = valueAt (v % 64) }
+-- EOR, and CMPM of any operands
+abbrev pub compareInstruction : ℕ → ℕ → ℕ → Operand → Operand → Instruction
+compareInstruction x opmode ea o d =
+    cond (eqb (ea / 8) 1) (Pair CMPM o d (sizeAt (opmode - 4))) (Pair EOR (dataOperand x) o (sizeAt (opmode - 4)))

@@ -1,35 +1,31 @@
 // Lines 8, 9, B, C and D.
 ghost use mathlib.Core.Path.{_≡_};
-ghost use Rattle.read_opcodes_8_f.specs.Parts.{longAt};
-ghost use Rattle.read_opcodes_0_7.specs.ReadAs.{readAs};
+ghost use Rattle.read_values.specs.Named.{longAt};
+ghost use Rattle.read_opcodes_8_f.specs.Parts.{compareInstruction};
 ghost use Rattle.isa.specs.declared.Instruction.the-variants.{IntoRegister, Pair};
-ghost use Rattle.isa.specs.declared.Operand.the-variants.{PostIndirect};
-ghost use Rattle.isa.specs.declared.PairOperation.the-variants.{CMPM};
 ghost use Rattle.isa.specs.declared.RegisterOperand.the-variants.{Address};
-ghost use Rattle.read_spec.specs.Decoded.{dataOperand, intoDataDecoded, arithmeticDecoded, decimalDecoded, packDecoded, exchanged, exchangeDecoded, cmpmTo, cmpmDecoded, compareDecoded, wordDecoded};
+ghost use Rattle.read_spec.specs.Decoded.{dataOperand, intoDataDecoded, arithmeticDecoded, decimalDecoded, packDecoded, exchanged, exchangeDecoded, wordDecoded};
 ghost use Rattle.read_spec.specs.Operation.{addressAt};
-use crate::part::decimal_at;
-use crate::part::exchanged_at;
-use crate::part::is_exchange;
-use crate::part::long_at;
-use crate::part::pack_at;
-use crate::part::word_at;
 use isa::Instruction;
 use isa::Operand;
 use isa::PairOperation;
 use isa::RegisterOperand;
 use isa::RegisterOperation;
 use isa::Size;
-use read_layouts::operation::address_at;
-use read_layouts::operation::either_at;
-use read_layouts::operation::extend_at;
-use read_layouts::operation::less;
-use read_layouts::operation::pair_at;
-use read_layouts::operation::sign_at;
-use read_layouts::operation::size_at;
-use read_opcodes_0_7::part::data_operand;
-use read_opcodes_0_7::read;
-use read_spec::Reading;
+use read_values::operation::address_at;
+use read_values::operation::decimal_at;
+use read_values::operation::either_at;
+use read_values::operation::exchanged_at;
+use read_values::operation::extend_at;
+use read_values::operation::is_exchange;
+use read_values::operation::less;
+use read_values::operation::long_at;
+use read_values::operation::pack_at;
+use read_values::operation::pair_at;
+use read_values::operation::sign_at;
+use read_values::operation::size_at;
+use read_values::operation::word_at;
+use read_values::register::data_operand;
 
 // A data register into an operand.
 pub fn from_data(operation: PairOperation, x: u8, target: Operand, size: Size) -> Instruction
@@ -117,50 +113,15 @@ pub fn exchange(x: u8, opmode: u8, ea: u8, source: Operand) -> Instruction
     from_data(PairOperation::AND, x, source, size_at(less(opmode, 4)))
 }
 
-// CMPM, from (Ay)+ to (Ax)+.
-pub fn cmpm_of(size: Size, y: u8, x: u8) -> Instruction
-    ensures { λ r. ⌜ r ≡ Pair CMPM (PostIndirect y) (PostIndirect x) size ⌝ }
-{
-    let source = Operand::PostIndirect(y);
-    let destination = Operand::PostIndirect(x);
-    Instruction::Pair(PairOperation::CMPM, source, destination, size)
-}
-
-// CMPM takes two (An)+ only.
-pub fn cmpm_to(size: Size, y: u8, destination: Operand, length: u32) -> Reading
-    ensures { λ r. ⌜ r ≡ readAs (cmpmTo size y destination) length ⌝ }
-{
-    let Operand::PostIndirect(x) = destination else {
-        return Reading::Nothing;
-    };
-    read(cmpm_of(size, y, x), length)
-}
-
-pub fn cmpm(size: Size, source: Operand, destination: Operand, length: u32) -> Reading
-    ensures { λ r. ⌜ r ≡ readAs (cmpmDecoded size source destination) length ⌝ }
-{
-    let Operand::PostIndirect(y) = source else {
-        return Reading::Nothing;
-    };
-    cmpm_to(size, y, destination, length)
-}
-
 // EOR, and CMPM.
-pub fn compare(
-    x: u8,
-    opmode: u8,
-    ea: u8,
-    source: Operand,
-    destination: Operand,
-    length: u32,
-) -> Reading
-    ensures { λ r. ⌜ r ≡ readAs (compareDecoded x opmode ea source destination) length ⌝ }
+pub fn compare(x: u8, opmode: u8, ea: u8, source: Operand, destination: Operand) -> Instruction
+    ensures { λ r. ⌜ r ≡ compareInstruction x opmode ea source destination ⌝ }
 {
     let size = size_at(less(opmode, 4));
     if ea / 8 == 1 {
-        return cmpm(size, source, destination, length);
+        return Instruction::Pair(PairOperation::CMPM, source, destination, size);
     }
-    read(from_data(PairOperation::EOR, x, source, size), length)
+    from_data(PairOperation::EOR, x, source, size)
 }
 
 // DIVU, DIVS, MULU and MULS of words.

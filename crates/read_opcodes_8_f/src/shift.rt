@@ -6,18 +6,18 @@ ghost use Rattle.isa.specs.declared.Operand.the-variants.{Immediate};
 ghost use Rattle.isa.specs.declared.Size.the-variants.{Word};
 ghost use Rattle.read_spec.specs.Decoded.{shiftDecoded, bitFieldDecoded};
 ghost use Rattle.read_spec.specs.Operation.{shiftAt, directionAt};
-use crate::part::field_in;
 use isa::Instruction;
 use isa::Operand;
 use isa::RawOperation;
 use isa::Size;
-use read_layouts::operation::bit_field_at;
-use read_layouts::operation::direction_at;
-use read_layouts::operation::less;
-use read_layouts::operation::shift_at;
-use read_layouts::operation::shift_count;
-use read_layouts::operation::size_at;
-use read_opcodes_0_7::part::data_operand;
+use read_values::operation::bit_field_at;
+use read_values::operation::direction_at;
+use read_values::operation::field_in;
+use read_values::operation::less;
+use read_values::operation::shift_at;
+use read_values::operation::shift_count;
+use read_values::operation::size_at;
+use read_values::register::data_operand;
 
 // A shift of a data register.
 pub fn shift_register(x: u8, opmode: u8, ea: u8) -> Instruction

@@ -1,51 +1,20 @@
 -- Laws of the reader's parts. Assumes nothing.
 use Prim.Native.Nat.{ℕ, zero, suc, _+_, _*_, _-_, _/_, _%_, _<_, _≤_}
-use mathlib.Core.Path.{_≡_, refl, ap, sym, _∙_}
-use mathlib.Core.Bool.{Bool, true, false}
+use mathlib.Core.Path.{_≡_, ap, sym, _∙_}
 use mathlib.Core.List.{List}
 use lib.Dec.{ltb, eqb}
-use lib.IntN.{ℤ, negsuc}
 use lib.ListN.{getD}
 use native.Mathlib.Omega.{arith}
-use borrow.Author.Tests.{eq-eqb, ne-eqb, ltb-true, ltb-false}
+use borrow.Author.Tests.{eq-eqb, ne-eqb}
 use Rattle.isa.specs.declared.Size.{Size}
 use Rattle.isa.specs.declared.Size.the-variants as size
-use Rattle.base_signed.specs.Signed.{bitsOf}
+use Rattle.base_facts.specs.Tests.{Lt, less, past, lt?}
 use Rattle.isa_values.specs.ExtensionWord.{indexRegister, indexOperand}
 use Rattle.read_spec.specs.declared.Specifier.the-variants as specifier
 use Rattle.read_spec.specs.Tree.{Tree, fail, more, runAt}
 use Rattle.read_spec.specs.At.{afterAt, runAt-bind}
-use Rattle.read_spec.specs.Number.{reach}
 use Rattle.read_spec.specs.Operand.{indexOf, generalOf, immediateTree, specialTree, modeTree}
 use Rattle.read_spec.specs.Layout.{oneWord, twoWords}
-
--- ---- numbers
-pub negative : (h x : ℕ) → x < h + h → h ≤ x → negsuc (h - 1 - (x - h)) ≡ negsuc (h + h - 1 - x)
-negative h x p q = let e : h - 1 - (x - h) ≡ h + h - 1 - x = omega arith in ap negsuc e
-
-pub reach-low : (p : ℕ) (z : ℤ) → (p + bitsOf z % 4294967296) % 4294967296 ≡ reach p z
-reach-low p z = omega arith
-
--- ---- tests
-data Lt (a b : ℕ) : Type 0 where
-  less : a < b → ltb a b ≡ true → Lt a b
-  past : b ≤ a → ltb a b ≡ false → Lt a b
-
-lt? : (a b : ℕ) → Lt a b
-lt? a b = go (ltb a b) refl
-  where
-    go : (t : Bool) → ltb a b ≡ t → Lt a b
-    go true e = less (ltb-true a b e) e
-    go false e = past (ltb-false a b e) e
-
--- what is left after n numbers
-abbrev pub Rest : ℕ → ℕ → Type 0
-Rest zero k = Unit {0}
-Rest (suc n) k = Rest n k × (k ≡ n → ⊥)
-
-pub rest-le : (n k : ℕ) → Rest n k → n ≤ k
-rest-le zero k r = omega arith
-rest-le (suc n) k r = omega (arith, rest-le n k (r .0), r .1)
 
 -- ---- the index register of a word
 operand-is : (w : ℕ) → w < 65536 → Lt (w / 4096) 8 → indexOperand w ≡ generalOf (w / 4096)

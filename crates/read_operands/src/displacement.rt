@@ -1,18 +1,16 @@
 // The displacements of a full extension word.
 ghost use mathlib.Core.Path.{_≡_};
 ghost use Prim.Native.Nat.{ℕ};
-ghost use Rattle.encode_spec.specs.Ea.{fromPc};
 ghost use Rattle.isa.specs.declared.DisplacementSize.the-variants as size;
 ghost use Rattle.read_spec.specs.Tree.{runAt};
 ghost use Rattle.read_spec.specs.Operand.{displacementTree, landed};
 ghost use Rattle.read_operands.specs.Read.{displacementRead};
 use crate::DisplacementRead;
 use crate::NumberRead;
-use crate::number;
 use crate::specifier;
 use isa::DisplacementSize;
-use isa_values::extension_word::ExtensionWord;
 use read_spec::Specifier;
+use read_values::number;
 
 // A displacement of one word.
 fn word_displacement(words: &[u16], at: usize) -> DisplacementRead
@@ -46,13 +44,6 @@ pub fn displacement(words: &[u16], at: usize, size: DisplacementSize) -> Displac
         DisplacementSize::Word => word_displacement(words, at),
         DisplacementSize::Long => long_displacement(words, at),
     }
-}
-
-// Whether the displacement is measured from the extension word.
-pub fn from_pc(base: u8, word: u16) -> bool
-    ensures { λ r. ⌜ r ≡ fromPc base word ⌝ }
-{
-    (base == 8) & !ExtensionWord(word).base_suppressed()
 }
 
 // What an Extended operand holds of a displacement, its word at `place`.

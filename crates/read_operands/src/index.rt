@@ -2,17 +2,17 @@
 ghost use mathlib.Core.Path.{_≡_};
 ghost use Prim.Native.Nat.{ℕ};
 ghost use Rattle.read_spec.specs.Tree.{runAt};
-ghost use Rattle.read_spec.specs.Operand.{fullTree, indexOperand, scaledOperand, briefOperand, indexedTree};
+ghost use Rattle.read_spec.specs.Operand.{fullTree, indexOf, indexOperand, scaledOperand, briefOperand, indexedTree};
 ghost use Rattle.read_operands.specs.Read.{operandRead};
 ghost use Rattle.read_operands.specs.Part.{outerTree, baseTree};
 use crate::DisplacementRead;
 use crate::OperandRead;
 use crate::displacement;
-use crate::number;
-use crate::register;
+use isa::IndexRegister;
 use isa::Operand;
 use isa::RegisterOperand;
 use isa_values::extension_word::ExtensionWord;
+use read_values::number;
 
 // The outer displacement of a full word at `place`, after the base displacement z.
 fn with_outer(words: &[u16], at: usize, base: u8, place: u32, w: u16, z: i32) -> OperandRead
@@ -25,7 +25,7 @@ fn with_outer(words: &[u16], at: usize, base: u8, place: u32, w: u16, z: i32) ->
             Operand::Extended {
                 base,
                 word: w,
-                displacement: displacement::landed(displacement::from_pc(base, w), place, z),
+                displacement: displacement::landed(isa_operands::from_pc(base, w), place, z),
                 outer,
             },
             next,
@@ -59,11 +59,18 @@ fn full(words: &[u16], at: usize, base: u8, place: u32, w: u16) -> OperandRead
     }
 }
 
+// The index register of an extension word, and its width.
+fn index_of(w: u16) -> IndexRegister
+    ensures { λ r. ⌜ r ≡ indexOf w ⌝ }
+{
+    ExtensionWord(w).index_register()
+}
+
 // The MC68000's index.
 fn index_operand(base: u8, place: u32, w: u16, z: i32) -> Operand
     ensures { λ r. ⌜ r ≡ indexOperand base place w z ⌝ }
 {
-    let index = register::index_of(w);
+    let index = index_of(w);
     if base == 8 {
         Operand::PcIndex {
             target: number::reach(place, z),

@@ -9,8 +9,6 @@ use isa::Operand;
 use read_spec::Layout;
 use read_spec::Tail;
 
-pub mod number; // signed numbers and addresses
-pub mod register; // registers
 pub mod mode; // addressing modes
 pub mod specifier; // the words before those of the operands
 pub mod displacement; // the displacements of a full extension word

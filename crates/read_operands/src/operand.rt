@@ -8,13 +8,13 @@ ghost use Rattle.read_operands.specs.Part.{displacedTree, shortAddressTr
 use crate::NumberRead;
 use crate::OperandRead;
 use crate::index;
-use crate::number;
 use crate::specifier;
 use isa::AddressWidth;
 use isa::Operand;
 use isa::RegisterOperand;
 use isa::Size;
 use read_spec::Specifier;
+use read_values::number;
 
 // #<data>.
 pub fn immediate(words: &[u16], at: usize, size: Size) -> NumberRead
@@ -60,10 +60,9 @@ fn short_address(words: &[u16], at: usize) -> OperandRead
     ensures { λ r. ⌜ ((a : ℕ) → r ≡ operandRead (runAt shortAddressTree a (now (words .entry)) at)) ⌝ }
 {
     if at < words.len() {
-        let z = number::signed16(words[at]);
         OperandRead::Got(
             Operand::Absolute {
-                address: base_signed::low32(base_signed::wide(z)) as u64,
+                address: number::extended(words[at]) as u64,
                 width: AddressWidth::Word,
             },
             at + 1,

@@ -6,8 +6,8 @@ ghost use Rattle.read_spec.specs.Layout.{valuePart, valid, oneWord, twoWords, s
 ghost use Rattle.read_operands.specs.Read.{numberRead};
 ghost use Rattle.read_operands.specs.Part.{secondWord};
 use crate::NumberRead;
-use crate::number;
 use read_spec::Specifier;
+use read_values::number;
 
 // A bit-field's offset or width.
 fn value_part(n: u16) -> bool

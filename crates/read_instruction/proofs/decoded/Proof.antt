@@ -5,11 +5,8 @@ use Rattle.read_instruction.proofs.decoded.Tie as tie
 enum-known-read : tie.Need-enum-known-read
 enum-known-read c = search needs
 
-cast-length : tie.Need-cast-length
-cast-length c = search needs
-
-mul-length : tie.Need-mul-length
-mul-length c = search needs
+cast-form : tie.Need-cast-form
+cast-form c = search needs
 
 form-requires : tie.Need-form-requires
 form-requires c κs = search needs
@@ -34,11 +31,10 @@ decoded-spec =
     tie.close
     (tie.spec
     enum-known-read
-    cast-length
-    mul-length
+    cast-form
     form-requires
-    enum-told
-    enum-told-2
     returns
+    enum-told
     returns-2
+    enum-told-2
     returns-3)

@@ -1,5 +1,5 @@
 use borrow.Author.Needs.{needs}
-use mathlib.Core.Path.{sym, _∙_}
+use mathlib.Core.Path.{sym}
 use native.Mathlib.Omega.{arith}
 use denote.Ref.{now}
 use Rattle.read_instruction.specs.ReadAt.{read-none, read-some}
@@ -20,7 +20,7 @@ returns c =
 returns-2 : tie.Need-returns-2
 returns-2 c =
     let a = c .before .before .before .before .args in
-    c .read-word .ensures ∙ sym (read-some (a .address) (now (a .words)) (omega (arith, c .before .before .if1 .left)))
+    read-some (a .address) (now (a .words)) (c .read-word .result) (omega (arith, c .before .before .if1 .left)) (c .read-word .ensures)
 
 pub read-spec : {M : Type 1} → statement M
-read-spec = tie.close (tie.spec shared-slice-read-read-word read-word-requires returns returns-2)
+read-spec = tie.close (tie.spec returns shared-slice-read-read-word read-word-requires returns-2)

@@ -1,6 +1,4 @@
 use borrow.Author.Needs.{needs}
-use mathlib.Core.Path.{_∙_}
-use Rattle.read_instruction.specs.ReadAt.{followingAt}
 use Rattle.read_instruction.proofs.read_word.Statement.{statement}
 use Rattle.read_instruction.proofs.read_word.Tie as tie
 
@@ -29,9 +27,7 @@ decoded-requires : tie.Need-decoded-requires
 decoded-requires c κs = search needs
 
 returns : tie.Need-returns
-unfolding followingAt
-returns c =
-    c .decoded .ensures ∙ rw (c .before .follow .ensures, c .before .before .layout .ensures, c .before .before .before .group .ensures)
+returns c = rw (c .before .follow .ensures, c .before .before .layout .ensures, c .before .before .before .group .ensures) at (c .decoded .ensures)
 
 pub read-word-spec : {M : Type 1} → statement M
 read-word-spec =

@@ -9,29 +9,14 @@ less-requires c κs = search needs
 size-at-requires : tie.Need-size-at-requires
 size-at-requires c κs = search needs
 
-cmpm-requires : tie.Need-cmpm-requires
-cmpm-requires c κs = search needs
-
 returns : tie.Need-returns
-returns c = rw (c .cmpm .ensures, c .before .before .size-at .ensures, c .before .before .before .less .ensures, eq-eqb _ _ (c .before .if1 .taken))
+returns c = rw (c .before .size-at .ensures, c .before .before .less .ensures, eq-eqb _ _ (c .if1 .taken))
 
 from-data-requires : tie.Need-from-data-requires
 from-data-requires c κs = search needs
 
-read-requires : tie.Need-read-requires
-read-requires c κs = search needs
-
 returns-2 : tie.Need-returns-2
-returns-2 c = rw (c .read .ensures, c .before .from-data .ensures, c .before .before .before .size-at .ensures, c .before .before .before .before .less .ensures, ne-eqb _ _ (c .before .before .if1 .left))
+returns-2 c = rw (c .from-data .ensures, c .before .before .size-at .ensures, c .before .before .before .less .ensures, ne-eqb _ _ (c .before .if1 .left))
 
 pub compare-spec : {M : Type 1} → statement M
-compare-spec =
-    tie.close
-    (tie.spec
-    less-requires
-    size-at-requires
-    cmpm-requires
-    returns
-    from-data-requires
-    read-requires
-    returns-2)
+compare-spec = tie.close (tie.spec less-requires size-at-requires returns from-data-requires returns-2)

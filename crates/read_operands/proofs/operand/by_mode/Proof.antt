@@ -1,7 +1,8 @@
 use borrow.Author.Needs.{needs}
 use Rattle.read_operands.proofs.operand.by_mode.Statement.{statement}
 use Rattle.read_operands.proofs.operand.by_mode.Tie as tie
-use Rattle.read_operands.proofs.Laws.{rest-le, mode-past}
+use Rattle.read_operands.proofs.Laws.{mode-past}
+use Rattle.base_facts.specs.Numbers.{rest-le}
 
 displaced-requires : tie.Need-displaced-requires
 displaced-requires c κs = search needs

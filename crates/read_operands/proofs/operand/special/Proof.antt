@@ -1,7 +1,8 @@
 use borrow.Author.Needs.{needs}
 use Rattle.read_operands.proofs.operand.special.Statement.{statement}
 use Rattle.read_operands.proofs.operand.special.Tie as tie
-use Rattle.read_operands.proofs.Laws.{rest-le, special-past}
+use Rattle.read_operands.proofs.Laws.{special-past}
+use Rattle.base_facts.specs.Numbers.{rest-le}
 
 short-address-requires : tie.Need-short-address-requires
 short-address-requires c κs = search needs

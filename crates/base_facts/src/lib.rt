@@ -1,0 +1,1 @@
+// Laws only: general facts about lists, tests and numbers.

@@ -1,2 +1,0 @@
-pub mod ReadAs
-pub mod Parts
