@@ -30,11 +30,11 @@ value-more a [] x = refl
 value-more a (b ∷ bs) x = value-more (a * 10 + (b - 48)) bs x
 
 -- l is the digits of n, the first of them not 0
-record Digits (n : ℕ) (l : List ℕ) : Type 0 where
-  digits : allDigits l ≡ true
-  writes : value l ≡ n
-  first : 48 < getD l 0 0
-  some : 0 < length l
+pub record Digits (n : ℕ) (l : List ℕ) : Type 0 where
+  pub digits : allDigits l ≡ true
+  pub writes : value l ≡ n
+  pub first : 48 < getD l 0 0
+  pub some : 0 < length l
 
 digits-one : (n : ℕ) → 1 ≤ n → n < 10 → Digits n ((48 + n) ∷ [])
 digits-one n g h = record { digits = rw (is-digit n h); writes = omega arith; first = omega arith; some = omega arith }
@@ -48,7 +48,7 @@ digits-next n l d =
       some = rw length-append (omega arith);
     }
 
-decimal-digits : (k n : ℕ) → n < k → 1 ≤ n → Digits n (decimalOf n)
+pub decimal-digits : (k n : ℕ) → n < k → 1 ≤ n → Digits n (decimalOf n)
 decimal-digits zero n h g = absurd (omega arith)
 decimal-digits (suc k) n h g = go (ltb n 10) refl (decimal-digits k (n / 10))
   where

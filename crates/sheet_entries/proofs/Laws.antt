@@ -1,14 +1,13 @@
 -- Entries that code holds have 24 places; laws of one place more. Assumes nothing.
 use Prim.Native.Nat.{ℕ, zero, suc, _+_, _-_, _≤_, _<_}
 use mathlib.Core.Path.{_≡_, refl, sym, ap, _∙_}
-use mathlib.Core.Bool.{Bool, true, false, cond, _&&_}
+use mathlib.Core.Bool.{Bool, true, false, _&&_, and-true}
 use mathlib.Core.List.{List, [], _∷_, _++_, append-nil}
 use native.Mathlib.Omega.{arith}
 use native.Mathlib.Numerals.{add-one}
 use lib.Dec.{ltb}
 use lib.ListN.{length, getD, set, take, drop, replicate, length-map, drop-of-length-le}
 use lib.Seq.{take-all, length-take-le, take-suc, drop-cons, append-snoc, set-at}
-use borrow.Author.Tests.{ltb-true}
 use denote.Laws.{Is}
 use denote.Struct.Declared.{row}
 use mir.Val.{Val}
@@ -18,6 +17,7 @@ use Rattle.sheet_spec.specs.declared.Entries.{Entries}
 use Rattle.sheet_spec.proofs.Entries as entries
 use Rattle.sheet_spec.specs.Made.{addressIn}
 use Rattle.sheet_spec.specs.Entries.{noEntries}
+use Rattle.sheet_token_laws.specs.Facts.{cond-true, cond-false}
 use Rattle.sheet_entries.specs.With.{placedEntry}
 use Rattle.sheet_entries.specs.Made.{namesOne, namesEach, resolvedNumber, resolvedNumbers, numbersWith, madeWith}
 
@@ -26,18 +26,6 @@ named-places e vs h = sym (length-map (e .named) (λ b. b)) ∙ h .1 .1 .1 .1 .0
 
 pub magnitude-places : (e : Entries) (vs : List Val) → Is (row entries.the-type) e vs → length (e .magnitude) ≡ 24
 magnitude-places e vs h = sym (length-map (e .magnitude) (λ n. n)) ∙ h .1 .1 .1 .1 .1 .1 .0 .1 .0 .1
-
--- by the test whether there is room
-pub room : (t : Bool) (k : ℕ) → t && ltb k 24 ≡ true → k < 24
-room true k e = ltb-true k 24 e
-room false k e = let z : _≡_ {A = ℕ} 0 1 = cc in absurd (omega arith)
-
-module _ {A : Type 0} where
-  cond-true : (t : Bool) (a b : A) → t ≡ true → cond t a b ≡ a
-  cond-true t a b e = rw e
-
-  cond-false : (t : Bool) (a b : A) → t ≡ false → cond t a b ≡ b
-  cond-false t a b e = rw e
 
 module _ (e : Entries) (t s : Bool) (n : ℕ) where
   pub placed-entry : e .ok && ltb (e .count) 24 ≡ true
@@ -58,10 +46,6 @@ module _ (e : Entries) (t s : Bool) (n : ℕ) where
 and-assoc : (a b c : Bool) → a && (b && c) ≡ (a && b) && c
 and-assoc true b c = refl
 and-assoc false b c = refl
-
-and-true : (a : Bool) → a && true ≡ a
-and-true true = refl
-and-true false = refl
 
 -- a place more
 module _ (n : ℕ) (ts : List Bool) (ks : List ℕ) where

@@ -2,7 +2,7 @@
 use Prim.Native.Nat.{ℕ, zero, suc, _≤_, _<_}
 use mathlib.Core.Path.{_≡_, refl, sym, ap, _∙_}
 use mathlib.Core.Bool.{Bool, true, false, cond, _&&_}
-use mathlib.Core.List.{List, [], _∷_, _++_, map}
+use mathlib.Core.List.{List, [], _∷_, map}
 use native.Mathlib.Omega.{arith}
 use lib.Dec.{leb}
 use lib.ListN.{length, List·getD-eq-default}
@@ -12,12 +12,12 @@ use Rattle.numeric_fields.specs.declared.Numbers.{Numbers}
 use Rattle.numeric_fields.specs.Form.{isNegative, pad}
 use Rattle.numeric_build.specs.Build.{buildOf}
 use Rattle.sheet_spec.specs.declared.Kind.{Kind}
-use Rattle.sheet_spec.specs.declared.Kind.the-variants as kind
 use Rattle.sheet_spec.specs.Line.{Token, literal, label, invalid, Parsed, says, no, lineOf}
-use Rattle.sheet_spec.specs.Spell.{numberAs, Suits, nextKinds, Fits}
+use Rattle.sheet_spec.specs.Spell.{numberAs, Suits}
 use Rattle.sheet_spec.specs.Made.{numbersAs, madeAs, madeOf, names, namesAll, namesIn, addressIn}
 use Rattle.sheet_spec.specs.Entries.{capped, isLine, negativeIn, magnitudeIn, noEntries, entriesFrom, entriesOf}
-use Rattle.sheet_form_laws.specs.LineForm.{spelled-line}
+use Rattle.sheet_token_laws.specs.Fields.{Sorted, of-number, of-target, of-place, of-variant, sorted, said-suits}
+use Rattle.sheet_token_laws.specs.Lines.{by-line}
 use Rattle.sheet_entries.specs.Made.{namesOne, namesEach, namesLines, resolvedNumber, resolvedNumbers, numbersWith, madeWith}
 
 -- by whether a number is above 4,096
@@ -70,23 +70,13 @@ AllSigned [] = Unit {0}
 AllSigned (v ∷ vs) = Signed v × AllSigned vs
 
 negative-suits : (k : Kind) (n : ℕ) → Suits k (literal true n) → 0 < n
-negative-suits kind.Number n h = h .0
-negative-suits kind.Target n h = absurd h
-negative-suits kind.Place n h = h .0
-negative-suits kind.Size n h = absurd h
-negative-suits kind.TargetDirection n h = absurd h
-negative-suits kind.RegisterOperand n h = absurd h
-negative-suits kind.AddressWidth n h = absurd h
-negative-suits kind.Condition n h = absurd h
-negative-suits kind.BranchSize n h = absurd h
-negative-suits kind.ShiftDirection n h = absurd h
-negative-suits kind.Sign n h = absurd h
-negative-suits kind.BitFieldOperation n h = absurd h
-negative-suits kind.FieldValue n h = absurd h
-negative-suits kind.TrapOperand n h = absurd h
-negative-suits kind.RegisterChoice n h = absurd h
-negative-suits kind.Operand n h = absurd h
-negative-suits kind.Instruction n h = absurd h
+negative-suits k n = go (sorted k)
+  where
+    go : {k : Kind} → Sorted k → Suits k (literal true n) → 0 < n
+    go of-number h = h .0
+    go of-target h = absurd h
+    go of-place h = h .0
+    go (of-variant x) h = absurd (x .suits (literal true n) h)
 
 suits-signed : (k : Kind) (v : Token) → Suits k v → Signed v
 suits-signed k (literal true n) h = negative-suits k n h
@@ -94,14 +84,8 @@ suits-signed k (literal false n) h = tt
 suits-signed k (label n) h = tt
 suits-signed k invalid h = tt
 
-fits-signed : (ks : List Kind) (vs : List Token) → Fits ks vs → AllSigned vs
-fits-signed [] [] h = tt
-fits-signed [] (v ∷ vs) h = absurd h
-fits-signed (k ∷ ks) [] h = absurd h
-fits-signed (k ∷ ks) (v ∷ vs) h = (suits-signed k v (h .0), fits-signed (nextKinds k v ++ ks) vs (h .1))
-
 pub line-signed : (line : List ℕ) (vs : List Token) → lineOf line ≡ says vs → AllSigned vs
-line-signed line vs e = fits-signed (kind.Instruction ∷ []) vs (spelled-line line vs e .0)
+line-signed = by-line (λ ks fs vs. AllSigned vs) tt (λ k ks f fs v vs e h r. (suits-signed k v (said-suits k f v e h), r))
 
 -- a number above 4,096 has no address
 module _ (addresses : List ℕ) (few : length addresses ≤ 4096) where

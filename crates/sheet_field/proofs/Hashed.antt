@@ -6,24 +6,20 @@ use mathlib.Core.List.{List, [], _∷_, map}
 use native.Mathlib.Omega.{arith}
 use lib.Dec.{T, eqb, leb, ltb}
 use lib.ListN.{length, take, drop, getD}
-use borrow.Author.Tests.{eq-eqb, eqb-true, ltb-true, leb-true}
+use borrow.Author.Tests.{eqb-true, ltb-true, leb-true}
 use Rattle.sheet_spec.specs.declared.Kind.the-variants as kind
 use Rattle.sheet_spec.specs.Names.{bytes, instructionNames}
 use Rattle.sheet_spec.specs.Line.{Token, literal, label, invalid, equal, isNone, asVariant}
-use Rattle.sheet_form_laws.specs.NumberForm.{both}
-use Rattle.sheet_form_laws.specs.NameForm.{all, below, equal-is, place-is, name-back}
+use Rattle.sheet_token_laws.specs.Facts.{T-true, and-true, all, below, equal-is, equal-refl}
+use Rattle.sheet_token_laws.specs.Names.{place-is, some-or, name-back}
 use Rattle.sheet_field.specs.Hash.{hashOf, hashed, placeOf, nameAt, offsetOf}
 
 -- a table that passes a computed test follows the rule
 abbrev follows : (ℕ → ℕ) → List ℕ → ℕ → Bool
 follows f xs k = eqb (getD xs k 0) (f k)
 
-is-true : (t : Bool) → T t → t ≡ true
-is-true true h = refl
-is-true false h = absurd h
-
 pub by-rule : (f : ℕ → ℕ) (n : ℕ) (xs : List ℕ) (k : ℕ) → T (all (follows f xs) n) → k < n → getD xs k 0 ≡ f k
-by-rule f n xs k t h = eqb-true (getD xs k 0) (f k) (below (follows f xs) n (is-true (all (follows f xs) n) t) k h)
+by-rule f n xs k t h = eqb-true (getD xs k 0) (f k) (below (follows f xs) n (T-true (all (follows f xs) n) t) k h)
 
 -- where a name starts and ends in the text of all
 abbrev within : ℕ → Bool
@@ -32,7 +28,7 @@ within n = ltb (offsetOf n) (offsetOf (n + 1)) && leb (offsetOf (n + 1)) 518
 pub start-within : (n : ℕ) → n < 99 → (offsetOf n < offsetOf (n + 1)) × (offsetOf (n + 1) ≤ 518)
 unfolding offsetOf
 start-within n h =
-    let b = both (ltb (offsetOf n) (offsetOf (n + 1))) (leb (offsetOf (n + 1)) 518) (below within 99 refl n h) in
+    let b = and-true (ltb (offsetOf n) (offsetOf (n + 1))) (leb (offsetOf (n + 1)) 518) (below within 99 refl n h) in
     (ltb-true (offsetOf n) (offsetOf (n + 1)) (b .0), leb-true (offsetOf (n + 1)) 518 (b .1))
 
 abbrev part : List ℕ → ℕ → List ℕ
@@ -44,7 +40,7 @@ parted names n = equal (part names n) (nameAt n)
 module _ (f : List ℕ) (n from next : ℕ) (h : n < 99) (a : from ≡ offsetOf n) (b : next ≡ offsetOf (n + 1)) where
   pub part-name : (r : Bool) (names : List ℕ) → T (all (parted names) 99) → r ≡ equal f (take (next - 1 - from) (drop from names)) → r ≡ equal f (nameAt n)
   part-name r names t e =
-      let p = equal-is (part names n) (nameAt n) (below (parted names) 99 (is-true (all (parted names) 99) t) n h) in
+      let p = equal-is (part names n) (nameAt n) (below (parted names) 99 (T-true (all (parted names) 99) t) n h) in
       e ∙ (λ i. equal f (take (b i - 1 - a i) (drop (a i) names))) ∙ ap (equal f) p
 
 -- the place of a hash is a place
@@ -65,19 +61,11 @@ place-fits h = hashed-fits h 0 (map bytes instructionNames) (omega arith)
 abbrev own : ℕ → Bool
 own n = isNone (nameAt n) || eqb (placeOf (hashOf (nameAt n))) n
 
-some-or : (f : List ℕ) (b : Bool) → 0 < length f → isNone f || b ≡ true → b ≡ true
-some-or [] b h e = absurd (omega arith)
-some-or (x ∷ xs) b h e = e
-
 place-own : (n : ℕ) → n < 99 → 0 < length (nameAt n) → placeOf (hashOf (nameAt n)) ≡ n
 unfolding placeOf nameAt
 place-own n h s =
     let m = placeOf (hashOf (nameAt n)) in
     eqb-true m n (some-or (nameAt n) (eqb m n) s (below own 99 refl n h))
-
-equal-refl : (f : List ℕ) → equal f f ≡ true
-equal-refl [] = refl
-equal-refl (b ∷ bs) = rw (eq-eqb b b refl) (equal-refl bs)
 
 -- what a field says
 pub found : (f : List ℕ) (n : ℕ) → n < 99 → 0 < length f → equal f (nameAt n) ≡ true → asVariant kind.Instruction f ≡ literal false n

@@ -17,6 +17,7 @@ use Rattle.sheet_spec.specs.declared.Kind.the-variants as kind
 use Rattle.sheet_spec.specs.declared.Value.the-variants as value
 use Rattle.sheet_spec.specs.Line.{literal, label, invalid, equal, isNone, placeFrom, asName, asNumber, token}
 use Rattle.sheet_spec.specs.Entries.{capped, valueOf}
+use Rattle.sheet_token_laws.specs.Facts as facts
 use Rattle.sheet_field.specs.LineNumber.{lineAfter}
 
 -- equal texts
@@ -94,10 +95,6 @@ pub line-end : (f : List ℕ) (i a : ℕ) → length f ≤ i → a ≤ 4097 → 
 line-end f i a h g = rw (drop-of-length-le f h) (ap value.Line (capped-same a g))
 
 -- `@` and a number, by its first bytes
-and-first : (t u : Bool) → t && u ≡ true → t ≡ true
-and-first true u e = refl
-and-first false u e = e
-
 pub name-short : (f : List ℕ) → length f < 2 → asName f ≡ invalid
 name-short [] h = refl
 name-short (b ∷ []) h = rw (and-false (eqb b 64))
@@ -111,7 +108,7 @@ pub name-zeros : (f : List ℕ) → eqb (getD f 1 0) 48 && ltb 2 (length f) ≡ 
 name-zeros [] e = refl
 name-zeros (b ∷ []) e = rw (and-false (eqb b 64))
 name-zeros (b ∷ (d ∷ [])) e = let z : _≡_ {A = ℕ} 0 1 = cc (and-false (eqb d 48)) in absurd (omega arith)
-name-zeros (b ∷ (d ∷ (x ∷ bs))) e = rw (and-first (eqb d 48) (ltb 2 (suc (suc (suc (length bs))))) e, and-false (eqb b 64))
+name-zeros (b ∷ (d ∷ (x ∷ bs))) e = rw (facts.and-true (eqb d 48) (ltb 2 (suc (suc (suc (length bs))))) e .0, and-false (eqb b 64))
 
 naming-if : (t : Bool) (n : ℕ) → valueOf (cond t (label n) invalid) ≡ cond t (value.Line (capped n)) value.None
 naming-if true n = refl

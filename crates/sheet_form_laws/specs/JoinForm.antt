@@ -10,8 +10,8 @@ use borrow.Author.Tests.{eqb-true, ltb-true, ne-eqb}
 use Rattle.base_text.specs.Parts.{onto, parts, fields}
 use Rattle.base_text.specs.Lines.{linesOf}
 use Rattle.sheet_spec.specs.Spell.{joined}
-use Rattle.sheet_form_laws.specs.NumberForm.{both}
-use Rattle.sheet_form_laws.specs.NameForm.{solid}
+use Rattle.sheet_token_laws.specs.Facts.{and-true}
+use Rattle.sheet_token_laws.specs.Names.{solid}
 
 joined-onto : (b : ℕ) (ps : List (List ℕ)) → joined (onto b ps) ≡ b ∷ joined ps
 joined-onto b [] = refl
@@ -50,13 +50,13 @@ Solid (f ∷ fs) = (solid f ≡ true) × Solid fs
 parts-last : (f : List ℕ) → solid f ≡ true → parts 9 f ≡ f ∷ []
 parts-last [] e = refl
 parts-last (b ∷ bs) e =
-    let t = both (ltb 10 b) (solid bs) e in
+    let t = and-true (ltb 10 b) (solid bs) e in
     rw (ne-eqb b 9 (λ q. omega (arith, ltb-true 10 b (t .0))), parts-last bs (t .1))
 
 parts-next : (f r : List ℕ) → solid f ≡ true → parts 9 (f ++ (9 ∷ r)) ≡ f ∷ parts 9 r
 parts-next [] r e = refl
 parts-next (b ∷ bs) r e =
-    let t = both (ltb 10 b) (solid bs) e in
+    let t = and-true (ltb 10 b) (solid bs) e in
     rw (ne-eqb b 9 (λ q. omega (arith, ltb-true 10 b (t .0))), parts-next bs r (t .1))
 
 pub fields-joined : (f : List ℕ) (fs : List (List ℕ)) → Solid (f ∷ fs) → fields (joined (f ∷ fs)) ≡ f ∷ fs
@@ -67,7 +67,7 @@ fields-joined f (g ∷ fs) h = parts-next f (joined (g ∷ fs)) (h .0) ∙ ap (�
 solid-line : (f t rest : List ℕ) → solid f ≡ true → linesOf (t ++ (10 ∷ rest)) ≡ t ∷ linesOf rest → linesOf (f ++ t ++ (10 ∷ rest)) ≡ (f ++ t) ∷ linesOf rest
 solid-line [] t rest e h = h
 solid-line (b ∷ bs) t rest e h =
-    let u = both (ltb 10 b) (solid bs) e in
+    let u = and-true (ltb 10 b) (solid bs) e in
     rw (ne-eqb b 10 (λ q. omega (arith, ltb-true 10 b (u .0))), solid-line bs t rest (u .1) h)
 
 pub joined-line : (fs : List (List ℕ)) (rest : List ℕ) → Solid fs → linesOf (joined fs ++ (10 ∷ rest)) ≡ joined fs ∷ linesOf rest

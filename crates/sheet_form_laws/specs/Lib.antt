@@ -1,7 +1,10 @@
 pub mod NumberForm
-pub mod NameForm
 pub mod JoinForm
 pub mod FieldForm
 pub mod LineForm
 pub mod InForm
+pub mod Turned
+pub mod Fitting
+pub mod Sorts
+pub mod Rows
 pub mod EveryLine

@@ -1,17 +1,17 @@
 -- A line and what its fields say: each from the other. Assumes nothing.
 use Prim.Native.Nat.{ℕ}
 use mathlib.Core.Path.{_≡_, refl, sym, ap, _∙_}
-use mathlib.Core.Bool.{Bool}
 use mathlib.Core.List.{List, [], _∷_, _++_}
-use native.Mathlib.Omega.{arith}
 use Rattle.base_text.specs.Parts.{fields}
 use Rattle.base_text.specs.Lines.{linesOf}
 use Rattle.sheet_spec.specs.declared.Kind.{Kind}
 use Rattle.sheet_spec.specs.declared.Kind.the-variants as kind
 use Rattle.sheet_spec.specs.Grammar.{fieldsOf}
-use Rattle.sheet_spec.specs.Line.{Token, literal, label, invalid, token, Parsed, says, no, with, after, lineFrom, lineOf}
+use Rattle.sheet_spec.specs.Line.{Token, literal, label, invalid, says, with, after, lineFrom, lineOf}
 use Rattle.sheet_spec.specs.Spell.{spelled, Suits, nextKinds, Fits, fieldsFrom, joined, spell}
-use Rattle.sheet_form_laws.specs.FieldForm.{said-spelled, spelled-said, field-solid, suits-some}
+use Rattle.sheet_token_laws.specs.Fields.{suits-some}
+use Rattle.sheet_token_laws.specs.Lines.{by-line, line-fits}
+use Rattle.sheet_form_laws.specs.FieldForm.{said-spelled, said-is, field-solid}
 use Rattle.sheet_form_laws.specs.JoinForm.{Solid, joined-fields, fields-joined, joined-line}
 
 -- a field said, then the others
@@ -49,43 +49,10 @@ pub line-in-text : (vs : List Token) → Fits (kind.Instruction ∷ []) vs → (
 unfolding spell
 line-in-text vs h rest = joined-line (fieldsFrom (kind.Instruction ∷ []) vs) rest (solid-from (kind.Instruction ∷ []) vs h)
 
-no-says : {vs : List Token} → no ≡ says vs → ⊥
-no-says e = let z : _≡_ {A = ℕ} 0 1 = cc in absurd (omega arith)
-
-literal-some : {s : Bool} {n : ℕ} → literal s n ≡ invalid → ⊥
-literal-some e = let z : _≡_ {A = ℕ} 0 1 = cc in absurd (omega arith)
-
-naming-some : {n : ℕ} → label n ≡ invalid → ⊥
-naming-some e = let z : _≡_ {A = ℕ} 0 1 = cc in absurd (omega arith)
-
--- what a line says with v first
-module _ (k : Kind) (ks : List Kind) (f : List ℕ) (fs : List (List ℕ)) (v : Token) (vs : List Token) (e : token k f ≡ v) (h : v ≡ invalid → ⊥) where
-  first : (p : Parsed) → with v p ≡ says vs → ((ws : List Token) → p ≡ says ws → Fits (nextKinds k v ++ ks) ws × (fs ≡ fieldsFrom (nextKinds k v ++ ks) ws))
-      → Fits (k ∷ ks) vs × (f ∷ fs ≡ fieldsFrom (k ∷ ks) vs)
-  first (says ws) q next =
-      let r : v ∷ ws ≡ vs = cc in
-      let d = spelled-said k f v e h in
-      let n = next ws refl in
-      let g : f ≡ spelled k v = d .0 in
-      let gs : fs ≡ fieldsFrom (nextKinds k v ++ ks) ws = n .1 in
-      rw (← r) ((d .1, n .0), (λ i. g i ∷ gs i))
-  first no q next = absurd (no-says q)
-
-spelled-from : (ks : List Kind) (fs : List (List ℕ)) (vs : List Token) → lineFrom ks fs ≡ says vs → Fits ks vs × (fs ≡ fieldsFrom ks vs)
-spelled-from [] [] vs e = let r : [] ≡ vs = cc in rw (← r) (tt, refl)
-spelled-from [] (f ∷ fs) vs e = absurd (no-says e)
-spelled-from (k ∷ ks) [] vs e = absurd (no-says e)
-spelled-from (k ∷ ks) (f ∷ fs) vs e = go (token k f) refl e (λ ls ws q. spelled-from ls fs ws q)
-  where
-    go : (v : Token) → token k f ≡ v → after v (λ n. lineFrom (fieldsOf k n ++ ks) fs) (lineFrom ks fs) ≡ says vs
-        → ((ls : List Kind) (ws : List Token) → lineFrom ls fs ≡ says ws → Fits ls ws × (fs ≡ fieldsFrom ls ws))
-        → Fits (k ∷ ks) vs × (f ∷ fs ≡ fieldsFrom (k ∷ ks) vs)
-    go (literal s n) t q next = first k ks f fs (literal s n) vs t literal-some (lineFrom (fieldsOf k n ++ ks) fs) q (next (fieldsOf k n ++ ks))
-    go (label n) t q next = first k ks f fs (label n) vs t naming-some (lineFrom ks fs) q (next ks)
-    go invalid t q next = absurd (no-says q)
-
+-- the fields of a line are the spellings of what they say
 pub spelled-line : (t : List ℕ) (vs : List Token) → lineOf t ≡ says vs → Fits (kind.Instruction ∷ []) vs × (t ≡ spell vs)
-unfolding lineOf spell
+unfolding spell
 spelled-line t vs e =
-    let d = spelled-from (kind.Instruction ∷ []) (fields t) vs e in
-    (d .0, sym (joined-fields t) ∙ ap joined (d .1))
+    let spelt : fields t ≡ fieldsFrom (kind.Instruction ∷ []) vs =
+    by-line (λ ks fs ws. fs ≡ fieldsFrom ks ws) refl (λ k ks f fs v ws q h r. let g : f ≡ spelled k v = said-is k f v q h in λ i. g i ∷ r i) t vs e in
+    (line-fits t vs e, sym (joined-fields t) ∙ ap joined spelt)

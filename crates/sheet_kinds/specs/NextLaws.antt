@@ -10,7 +10,7 @@ use borrow.Author.Tests.{ltb-true}
 use Rattle.sheet_spec.specs.declared.Kind.{Kind}
 use Rattle.sheet_spec.specs.declared.Kind.the-variants as kind
 use Rattle.sheet_spec.specs.Grammar.{fieldsOf}
-use Rattle.sheet_form_laws.specs.NumberForm.{both}
+use Rattle.sheet_token_laws.specs.Facts.{and-true}
 use Rattle.sheet_kinds.specs.Packed.{codeOf, packed, kindAt}
 use Rattle.sheet_kinds.specs.Next.{below, kindsAfter, Holds, Joined}
 
@@ -35,7 +35,7 @@ codes kind.Instruction = (refl, refl)
 
 pub code-fits : (k : Kind) → (0 < codeOf k) × (codeOf k < 32)
 code-fits k =
-    let t = both (ltb 0 (codeOf k)) (ltb (codeOf k) 32) (codes k .0) in
+    let t = and-true (ltb 0 (codeOf k)) (ltb (codeOf k) 32) (codes k .0) in
     (ltb-true 0 (codeOf k) (t .0), ltb-true (codeOf k) 32 (t .1))
 
 pub packed-first : (k : Kind) (ks : List Kind) → kindAt (packed (k ∷ ks) % 32) ≡ k

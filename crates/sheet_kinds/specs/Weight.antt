@@ -10,7 +10,7 @@ use borrow.Author.Tests.{leb-true, ltb-true}
 use Rattle.sheet_spec.specs.declared.Kind.{Kind}
 use Rattle.sheet_spec.specs.declared.Kind.the-variants as kind
 use Rattle.sheet_spec.specs.Grammar.{operandFields, instructionFields, fieldsOf}
-use Rattle.sheet_form_laws.specs.NumberForm.{both}
+use Rattle.sheet_token_laws.specs.Facts.{and-true}
 
 -- the kinds that may stand for a kind at once
 abbrev pub room : Kind → ℕ
@@ -69,8 +69,8 @@ within k ks = ltb 0 (room k) && (leb (total room ks) (room k) && ltb (total most
 
 within-true : (k : Kind) (ks : List Kind) → within k ks ≡ true → Within k ks
 within-true k ks e =
-    let t = both (ltb 0 (room k)) (leb (total room ks) (room k) && ltb (total most ks) (most k)) e in
-    let u = both (leb (total room ks) (room k)) (ltb (total most ks) (most k)) (t .1) in
+    let t = and-true (ltb 0 (room k)) (leb (total room ks) (room k) && ltb (total most ks) (most k)) e in
+    let u = and-true (leb (total room ks) (room k)) (ltb (total most ks) (most k)) (t .1) in
     (ltb-true 0 (room k) (t .0), leb-true (total room ks) (room k) (u .0), ltb-true (total most ks) (most k) (u .1))
 
 abbrev each : Kind → List (List Kind) → Bool
@@ -80,8 +80,8 @@ each k (row ∷ rows) = within k row && each k rows
 -- each row of a table, and what stands past it
 each-row : (k : Kind) (rows : List (List Kind)) → each k rows ≡ true → (n : ℕ) → Within k (getD rows n [])
 each-row k [] e n = within-true k [] e
-each-row k (row ∷ rows) e zero = within-true k row (both (within k row) (each k rows) e .0)
-each-row k (row ∷ rows) e (suc n) = each-row k rows (both (within k row) (each k rows) e .1) n
+each-row k (row ∷ rows) e zero = within-true k row (and-true (within k row) (each k rows) e .0)
+each-row k (row ∷ rows) e (suc n) = each-row k rows (and-true (within k row) (each k rows) e .1) n
 
 fields-within : (k : Kind) (n : ℕ) → Within k (fieldsOf k n)
 fields-within kind.Number n = within-true kind.Number [] refl

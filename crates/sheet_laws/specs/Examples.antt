@@ -19,7 +19,7 @@ use Rattle.sheet_spec.specs.Names.{bytes}
 use Rattle.sheet_spec.specs.Line.{lineOf}
 use Rattle.sheet_spec.specs.Made.{numbersAs, madeOf}
 use Rattle.sheet_spec.specs.Sheet.{sizedOf, counted, lineEncoded}
-use Rattle.sheet_spec.specs.Translate.{Outcome, passed, refused, outcomeOf, imageIn, addressesIn}
+use Rattle.sheet_spec.specs.Translate.{passed, refused, outcomeOf, imageIn, addressesIn}
 
 abbrev countdown : List ℕ
 countdown = bytes "START\t4096\nMOVEQ\t5\tData\t0\nSUBQ\t1\tRegister\tData\t0\tWord\nBcc\t@2\tNotEqual\tShort\nRTS\n"

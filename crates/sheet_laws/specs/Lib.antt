@@ -1,13 +1,7 @@
-pub mod Examples
 pub mod StartForm
 pub mod Follows
-pub mod Outcomes
-pub mod Turned
-pub mod Renamed
-pub mod Sizes
-pub mod Lawful
-pub mod Made
-pub mod Bounds
 pub mod Ranges
+pub mod InTypes
 pub mod Demand
 pub mod Demand3
+pub mod Examples

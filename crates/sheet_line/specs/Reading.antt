@@ -15,7 +15,7 @@ use Rattle.sheet_spec.specs.declared.Entries.{Entries}
 use Rattle.sheet_spec.specs.Grammar.{fieldsOf}
 use Rattle.sheet_spec.specs.Line.{Token, literal, label, invalid, token, Parsed, says, no, with, after, lineFrom, lineOf}
 use Rattle.sheet_spec.specs.Spell.{Suits}
-use Rattle.sheet_form_laws.specs.FieldForm.{spelled-said, suits-some}
+use Rattle.sheet_token_laws.specs.Fields.{Sorted, of-number, of-target, of-place, of-variant, sorted, said-suits, suits-some}
 use Rattle.sheet_spec.specs.Entries.{valueOf, noEntries, entriesFrom, entriesOf}
 use Rattle.sheet_kinds.specs.Packed.{packed, kindAt}
 use Rattle.sheet_kinds.specs.Weight.{room, most, total, room-next, most-next, length-room}
@@ -72,23 +72,13 @@ not-said invalid h = refl
 
 -- a line's name has no fields
 name-last : (k : Kind) (n m : ℕ) → Suits k (label n) → fieldsOf k m ≡ []
-name-last kind.Number n m h = absurd h
-name-last kind.Target n m h = refl
-name-last kind.Place n m h = refl
-name-last kind.Size n m h = absurd h
-name-last kind.TargetDirection n m h = absurd h
-name-last kind.RegisterOperand n m h = absurd h
-name-last kind.AddressWidth n m h = absurd h
-name-last kind.Condition n m h = absurd h
-name-last kind.BranchSize n m h = absurd h
-name-last kind.ShiftDirection n m h = absurd h
-name-last kind.Sign n m h = absurd h
-name-last kind.BitFieldOperation n m h = absurd h
-name-last kind.FieldValue n m h = absurd h
-name-last kind.TrapOperand n m h = absurd h
-name-last kind.RegisterChoice n m h = absurd h
-name-last kind.Operand n m h = absurd h
-name-last kind.Instruction n m h = absurd h
+name-last k n m = go (sorted k)
+  where
+    go : {k : Kind} → Sorted k → Suits k (label n) → fieldsOf k m ≡ []
+    go of-number h = absurd h
+    go of-target h = refl
+    go of-place h = refl
+    go (of-variant x) h = absurd (x .suits (label n) h)
 
 said-on : (k : Kind) (ks : List Kind) (fs : List (List ℕ)) (v : Token) → Suits k v
     → after v (λ n. lineFrom (fieldsOf k n ++ ks) fs) (lineFrom ks fs) ≡ with v (lineFrom (fieldsOf k (variantPlace (valueOf v)) ++ ks) fs)
@@ -102,7 +92,7 @@ module _ (k : Kind) (ks : List Kind) (f : List ℕ) (fs : List (List ℕ)) where
   from-none t = ap (λ (v : Token). after v (λ n. lineFrom (fieldsOf k n ++ ks) fs) (lineFrom ks fs)) (not-said (token k f) t)
 
   from-on : isSaid (valueOf (token k f)) ≡ true → lineFrom (k ∷ ks) (f ∷ fs) ≡ with (token k f) (lineFrom (fieldsOf k (variantPlace (valueOf (token k f))) ++ ks) fs)
-  from-on t = said-on k ks fs (token k f) (spelled-said k f (token k f) refl (is-said (token k f) t) .1)
+  from-on t = said-on k ks fs (token k f) (said-suits k f (token k f) refl (is-said (token k f) t))
 
 module _ (line : List ℕ) (e : Entries) (kinds from : ℕ) (r : Reading line e kinds from) where
   refused : lineFrom (r .ahead) (partsFrom 9 line from) ≡ no → noEntries ≡ entriesOf (lineOf line)

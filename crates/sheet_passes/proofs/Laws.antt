@@ -25,14 +25,12 @@ use Rattle.sheet_entries.specs.MadeLaws.{made-line, made-unaddressed, names-in}
 use Rattle.base_text.specs.LinesLaws.{lines-next}
 use Rattle.sheet_spec.specs.Sheet.{sizedAs, sizedOf, counted, total, addressesFrom, encodedLine, lineEncoded}
 use Rattle.sheet_spec.specs.Translate.{andThen, asOutcome, sizesOutcome, rangesOutcome, lineWords, imageFrom, over}
+use Rattle.sheet_token_laws.specs.Listing.{over-length}
 use Rattle.sheet_passes.specs.declared.Passed.{Passed}
 use Rattle.sheet_passes.specs.Passes.{linesAt, passedOf, filledOf, Placed, rangesAt, imageAt}
 use Rattle.sheet_passes.specs.PassLaws.{counted-most, words-length, line-most}
 
 -- ---- places written in front of others
-pub over-length : (x v : List ℕ) → length x ≤ length v → length (over x v) ≡ length v
-over-length x v h = rw (length-append, length-drop) (omega arith)
-
 -- one place more
 pub over-set : (x v : List ℕ) (k w : ℕ) → length x ≡ k → k < length v → set (over x v) k w ≡ over (x ++ (w ∷ [])) v
 over-set x v k w e h =

@@ -1,11 +1,9 @@
 -- Laws of the passes: how many words a line counts, and when the scratch holds the addresses of the lines.
 use Prim.Native.Nat.{ℕ, suc, _+_, _*_, _%_, _^_, _≤_}
 use mathlib.Core.Path.{_≡_, refl}
-use mathlib.Core.Bool.{Bool, true, false, cond}
+use mathlib.Core.Bool.{Bool, true, false}
 use mathlib.Core.List.{List, [], _∷_}
 use native.Mathlib.Omega.{arith}
-use lib.Dec.{eqb}
-use lib.IntN.{ℤ}
 use lib.ListN.{length, length-take}
 use borrow.Author.Tests.{eq-eqb}
 use Rattle.isa.specs.declared.Instruction.{Instruction}
@@ -15,11 +13,12 @@ use Rattle.numeric_build.specs.declared.Built.{Built}
 use Rattle.numeric_build.specs.declared.Built.the-variants as built
 use Rattle.sheet_spec.specs.Line.{lineOf}
 use Rattle.sheet_spec.specs.Made.{addressIn, namesIn, madeOf}
-use Rattle.read_operand_laws.specs.Facts.{words-count, eqb-eq}
+use Rattle.read_operand_laws.specs.Facts.{words-count}
+use Rattle.sheet_token_laws.specs.Listing.{both-fine, fine-zero, measured-size}
 use Rattle.m68k.specs.Lays.{instruction-lays}
 use Rattle.m68k.specs.Laws.{places-law, encode-most}
 use Rattle.sheet_spec.specs.Sheet.{sizedAs, sizedOf, counted, total, addressesFrom, encodedLine, lineEncoded}
-use Rattle.sheet_spec.specs.Translate.{Outcome, passed, refused, andThen, asOutcome, sizesOutcome, lineWords}
+use Rattle.sheet_spec.specs.Translate.{Outcome, passed, asOutcome, sizesOutcome, lineWords}
 use Rattle.sheet_passes.specs.Passes.{filledOf}
 
 -- ---- an encoded line has eleven places, and so many words count
@@ -51,12 +50,6 @@ measured-most item.malformed k = omega arith
 measured-most (item.outOfRange f z) k = omega arith
 measured-most (item.noEncoding r) k = omega arith
 
-measured-least : (v : item.Verdict) (k : ℕ) → measuredAs v k .number ≡ 0 → measuredAs v k .size ≡ k
-measured-least item.fine k h = refl
-measured-least item.malformed k h = absurd (omega arith)
-measured-least (item.outOfRange f z) k h = absurd (omega arith)
-measured-least (item.noEncoding r) k h = absurd (omega arith)
-
 size-most : (i : Instruction) → sizeOf i .size ≤ 22
 unfolding sizeOf
 size-most i =
@@ -65,7 +58,7 @@ size-most i =
 size-least : (i : Instruction) → sizeOf i .number ≡ 0 → 2 ≤ sizeOf i .size
 unfolding sizeOf
 size-least i h =
-    omega (arith, measured-least (refusalOf false i 0) (2 * length (wordsOf i 0)) h, words-count (itemsOf i 0), instruction-lays i .least 0)
+    omega (arith, measured-size (refusalOf false i 0) (2 * length (wordsOf i 0)) h, words-count (itemsOf i 0), instruction-lays i .least 0)
 
 sized-most : (b : Built) (named : Bool) → sizedAs b named .size ≤ 22
 sized-most (built.Instruction i) true = size-most i
@@ -91,21 +84,12 @@ module _ (n : ℕ) where
   total-most (l ∷ ls) = omega (arith, counted-most l, total-most ls)
 
 -- ---- the scratch of a sheet whose lines are not refused, and which ends in time, holds the addresses
-refused-not : {C : Type 0} {number line detail : ℕ} {value : ℤ} → refused number line detail value ≡ passed → C
-refused-not e = let z : _≡_ {A = ℕ} 0 1 = cc in absurd (omega arith)
-
-first-fine : (k number detail : ℕ) (value : ℤ) (v : Outcome) → andThen (asOutcome k number detail value) v ≡ passed → (number ≡ 0) × (v ≡ passed)
-first-fine k number detail value v e = go (eqb number 0) refl e
-  where
-    go : (t : Bool) → eqb number 0 ≡ t → andThen (cond t passed (refused number k detail value)) v ≡ passed → (number ≡ 0) × (v ≡ passed)
-    go true h e = (eqb-eq number 0 h, e)
-    go false h e = refused-not e
-
 pub filled-addresses : (n k a : ℕ) (ls : List (List ℕ)) → sizesOutcome n k ls ≡ passed → a + 2 * total n ls ≤ 2 ^ 32
     → filledOf n a ls ≡ addressesFrom n a ls
 filled-addresses n k a [] e h = refl
 filled-addresses n k a (l ∷ ls) e h =
-    let f = first-fine k (sizedOf n l .number) (sizedOf n l .detail) (sizedOf n l .value) (sizesOutcome n (suc k) ls) e in
-    let low : a % 2 ^ 32 ≡ a = omega (arith, counted-least n l (f .0)) in
+    let f = both-fine (asOutcome k (sizedOf n l .number) (sizedOf n l .detail) (sizedOf n l .value)) (sizesOutcome n (suc k) ls) e in
+    let z = fine-zero k (sizedOf n l .number) (sizedOf n l .detail) (sizedOf n l .value) (f .0) in
+    let low : a % 2 ^ 32 ≡ a = omega (arith, counted-least n l z) in
     let rest = filled-addresses n (suc k) (a + 2 * counted n l) ls (f .1) (omega arith) in
-    rw (eq-eqb (sizedOf n l .number) 0 (f .0), low, rest)
+    rw (eq-eqb (sizedOf n l .number) 0 z, low, rest)

@@ -1,17 +1,16 @@
 -- Laws of listings, line by line. Assumes nothing.
-use mathlib.Core.Path.{_≡_, refl, sym, ap, _∙_}
+use mathlib.Core.Path.{_≡_, refl, sym, ap}
 use mathlib.Core.List.{List, [], _∷_, _++_, append-nil}
 use Prim.Native.Nat.{ℕ, suc, _+_, _*_, _-_, _/_, _≤_, _<_}
 use native.Mathlib.Omega.{arith}
 use native.Mathlib.Numerals.{add-one}
-use native.Mathlib.Nat.{add-zero}
 use lib.ListN.{length, take, drop, getD, length-append, length-drop}
 use lib.Seq.{take-all, take-suc, take-at, drop-at, drop-cons, drop-drop}
 use Rattle.base_text.specs.Written.{hex4Of}
 use Rattle.base_text.specs.Wrote.{tab}
-use Rattle.sheet_spec.specs.Sheet.{counted, total, addressesFrom}
+use Rattle.sheet_spec.specs.Sheet.{counted, addressesFrom}
 use Rattle.sheet_spec.specs.Translate.{lineWords, imageFrom}
-use Rattle.sheet_laws.specs.Follows.{further}
+use Rattle.sheet_size_laws.specs.Image.{Counts, first-counts, later-counts}
 use Rattle.sheet_print.specs.Printed.{wordsText, lineText, listingFrom}
 use Rattle.sheet_print.specs.Listing.{firstCount, linesText, Rises, Laid}
 
@@ -77,23 +76,13 @@ module _ (A W : List ℕ) (k from : ℕ) (h : k < length A) (l : Laid (drop k A)
 
 -- ---- from the lines of a sheet of n lines, each with as many words as counted
 module _ (A : List ℕ) (n : ℕ) where
-  abbrev pub Counts : ℕ → List (List ℕ) → Type 0
-  Counts a ls = (j : ℕ) → j < length ls → length (lineWords A (getD ls j []) (a + 2 * total n (take j ls))) ≡ counted n (getD ls j [])
-
-  first-counts : (a : ℕ) (l : List ℕ) (ls : List (List ℕ)) → Counts a (l ∷ ls) → length (lineWords A l a) ≡ counted n l
-  first-counts a l ls h = ap (λ (x : ℕ). length (lineWords A l x)) (sym (add-zero a)) ∙ h 0 (omega arith)
-
-  later-count : (a : ℕ) (l : List ℕ) (ls : List (List ℕ)) → Counts a (l ∷ ls) → Counts (a + 2 * counted n l) ls
-  later-count a l ls h j g =
-      ap (λ (x : ℕ). length (lineWords A (getD ls j []) x)) (further a (counted n l) (total n (take j ls))) ∙ h (suc j) (omega arith)
-
   -- the first line's words, and the others
-  module _ (a : ℕ) (l : List ℕ) (ls : List (List ℕ)) (h : Counts a (l ∷ ls)) where
+  module _ (a : ℕ) (l : List ℕ) (ls : List (List ℕ)) (h : Counts A n a (l ∷ ls)) where
     abbrev W : List ℕ
     W = lineWords A l a ++ imageFrom A n (a + 2 * counted n l) ls
 
     first-count : firstCount (a ∷ addressesFrom n (a + 2 * counted n l) ls) (length W) ≡ counted n l
-    first-count = go ls (first-counts a l ls h)
+    first-count = go ls (first-counts A n a l ls h)
       where
         go : (ms : List (List ℕ)) → length (lineWords A l a) ≡ counted n l
             → firstCount (a ∷ addressesFrom n (a + 2 * counted n l) ms) (length (lineWords A l a ++ imageFrom A n (a + 2 * counted n l) ms)) ≡ counted n l
@@ -107,24 +96,24 @@ module _ (A : List ℕ) (n : ℕ) where
         go [] = omega arith
         go (m ∷ ms) = omega arith
 
-  pub listing-is : (k a : ℕ) (ls : List (List ℕ)) → Counts a ls → linesText k (addressesFrom n a ls) (imageFrom A n a ls) ≡ listingFrom A n k a ls
+  pub listing-is : (k a : ℕ) (ls : List (List ℕ)) → Counts A n a ls → linesText k (addressesFrom n a ls) (imageFrom A n a ls) ≡ listingFrom A n k a ls
   listing-is k a [] h = refl
   listing-is k a (l ∷ ls) h =
-      let e = first-counts a l ls h in
+      let e = first-counts A n a l ls h in
       rw (
         first-count a l ls h,
         take-at (lineWords A l a) (imageFrom A n (a + 2 * counted n l) ls) (counted n l) e,
         drop-at (lineWords A l a) (imageFrom A n (a + 2 * counted n l) ls) (counted n l) e,
       )
-      (ap (λ (t : List ℕ). lineText k a (lineWords A l a) ++ t) (listing-is (suc k) (a + 2 * counted n l) ls (later-count a l ls h)))
+      (ap (λ (t : List ℕ). lineText k a (lineWords A l a) ++ t) (listing-is (suc k) (a + 2 * counted n l) ls (later-counts A n a l ls h)))
 
-  pub laid : ((l : List ℕ) (a : ℕ) → length (lineWords A l a) ≤ 11) → (a : ℕ) (ls : List (List ℕ)) → Counts a ls → Laid (addressesFrom n a ls) (imageFrom A n a ls)
+  pub laid : ((l : List ℕ) (a : ℕ) → length (lineWords A l a) ≤ 11) → (a : ℕ) (ls : List (List ℕ)) → Counts A n a ls → Laid (addressesFrom n a ls) (imageFrom A n a ls)
   laid few a [] h = tt
   laid few a (l ∷ ls) h =
-      let e = first-counts a l ls h in
+      let e = first-counts A n a l ls h in
       rw (first-count a l ls h, drop-at (lineWords A l a) (imageFrom A n (a + 2 * counted n l) ls) (counted n l) e) (
         rises a l ls h,
         omega (arith, e, few l a),
         rw length-append (omega (arith, e)),
-        laid few (a + 2 * counted n l) ls (later-count a l ls h),
+        laid few (a + 2 * counted n l) ls (later-counts A n a l ls h),
       )

@@ -1,10 +1,10 @@
 -- What is printed, from the translator's answer. Assumes nothing.
 use mathlib.Core.Path.{_≡_, refl, sym}
 use mathlib.Core.Bool.{Bool, true, false, _&&_}
-use mathlib.Core.List.{List, [], _∷_}
-use Prim.Native.Nat.{ℕ, zero, suc, _+_, _≤_, _<_}
+use mathlib.Core.List.{List}
+use Prim.Native.Nat.{ℕ, _≤_, _<_}
 use native.Mathlib.Omega.{arith}
-use lib.ListN.{length, take, drop, getD, length-append, length-take, length-drop}
+use lib.ListN.{length, take, drop, length-append}
 use lib.Seq.{take-at}
 use lib.Dec.{leb, eqb}
 use lib.IntN.{pos}
@@ -12,43 +12,33 @@ use borrow.Author.Tests.{lt-leb}
 use Rattle.base_text.specs.Written.{placed}
 use Rattle.base_text.specs.Wrote.{Wrote}
 use Rattle.sheet_spec.specs.declared.Listed.{Listed}
-use Rattle.sheet_spec.specs.Sheet.{isSheet, feeds, last, linesIn, counted, total}
+use Rattle.sheet_spec.specs.Sheet.{isSheet, feeds, last, linesIn}
 use Rattle.sheet_spec.specs.Translate.{Outcome, passed, refused, startIn, countIn, addressesIn, needIn, outcomeOf, listedOf, imageIn, over, imageOf, scratchOf}
-use Rattle.sheet_laws.specs.Outcomes.{accepted}
-use Rattle.sheet_laws.specs.Demand3.{each-stands, image-counts}
-use Rattle.sheet_start.specs.SheetLaws.{count-most}
+use Rattle.sheet_size_laws.specs.Image.{Counts}
+use Rattle.sheet_size_laws.specs.Outcomes.{accepted}
+use Rattle.sheet_size_laws.specs.Counted.{counts, image-counts}
+use Rattle.sheet_token_laws.specs.SheetLaws.{count-most}
 use Rattle.sheet_passes.specs.PassLaws.{line-most, words-length}
 use Rattle.sheet_translate.specs.Translated.{Translated}
 use Rattle.sheet_translate.specs.OutcomeLaws.{Sound, verdict-sound}
 use Rattle.sheet_translate.specs.PlaceLaws.{addresses-length}
 use Rattle.sheet_print.specs.Printed.{listingOf, refusalText, printedOf}
 use Rattle.sheet_print.specs.Listing.{linesText, Laid}
-use Rattle.sheet_print.specs.ListingLaws.{Counts, listing-is, laid}
-
--- a line's words are among those of all lines
-total-part : (n : ℕ) (ls : List (List ℕ)) (k : ℕ) → k < length ls → total n (take k ls) + counted n (getD ls k []) ≤ total n ls
-total-part n [] k h = absurd (omega arith)
-total-part n (l ∷ ls) zero h = omega arith
-total-part n (l ∷ ls) (suc k) h = omega (arith, total-part n ls k (omega arith))
-
-part-length : (image ws : List ℕ) (from count : ℕ) → take count (drop from image) ≡ ws → from + count ≤ length image → length ws ≡ count
-part-length image ws from count e h = rw (sym e, length-take, length-drop) (omega arith)
+use Rattle.sheet_print.specs.ListingLaws.{listing-is, laid}
 
 -- ---- an accepted sheet
 module _ (text : List ℕ) (places room : ℕ) (e : outcomeOf text places room ≡ passed) where
-  counts : Counts (addressesIn text) (countIn text) (startIn text) (linesIn text)
-  counts j h =
-      part-length (imageIn text) _ (total (countIn text) (take j (linesIn text))) (counted (countIn text) (getD (linesIn text) j []))
-      (each-stands text places room e j h) (rw (image-counts text places room e) (total-part (countIn text) (linesIn text) j h))
+  counted-words : Counts (addressesIn text) (countIn text) (startIn text) (linesIn text)
+  counted-words = counts text places room (accepted text places room e)
 
   listing-laid : Laid (addressesIn text) (imageIn text)
   listing-laid =
       laid (addressesIn text) (countIn text) (λ l a. omega (arith, words-length (addressesIn text) l a, line-most (addressesIn text) l a))
-      (startIn text) (linesIn text) counts
+      (startIn text) (linesIn text) counted-words
 
   listing-text : linesText 1 (addressesIn text) (imageIn text) ≡ printedOf text places room
   unfolding printedOf listingOf
-  listing-text = rw e (listing-is (addressesIn text) (countIn text) 1 (startIn text) (linesIn text) counts)
+  listing-text = rw e (listing-is (addressesIn text) (countIn text) 1 (startIn text) (linesIn text) counted-words)
 
 -- what is printed of an accepted sheet, from the scratch and the image that the translator leaves
 pub record Listable (scratch image : List ℕ) (lines words : ℕ) (printed : List ℕ) : Type 0 where

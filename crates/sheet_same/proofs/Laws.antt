@@ -7,17 +7,17 @@ use native.Mathlib.Omega.{arith}
 use lib.Dec.{eqb, leb}
 use lib.ListN.{length, take, getD, replicate, length-take}
 use borrow.Author.Tests.{eqb-true, ne-eqb, leb-true}
-use Rattle.read_operand_laws.specs.Facts.{and-true}
+use Rattle.sheet_token_laws.specs.Facts.{and-true}
 use Rattle.sheet_spec.specs.Line.{equal}
 use Rattle.sheet_spec.specs.declared.Listed.{Listed}
 use Rattle.sheet_spec.specs.Translate.{Outcome, passed, refused, startIn, countIn, needIn, imageIn, outcomeOf, listedAs, listedOf, imageAs, imageOf, scratchOf, isPassed, same}
-use Rattle.sheet_laws.specs.Outcomes.{accepted}
+use Rattle.sheet_size_laws.specs.Outcomes.{accepted}
 use Rattle.sheet_translate.specs.Translated.{Translated}
 use Rattle.sheet_translate.specs.OutcomeLaws.{Sound, verdict-sound}
 use Rattle.sheet_translate.specs.PlaceLaws.{scratch-length, image-length, words-fit}
-use Rattle.sheet_translate.specs.Stands.{translated-stands, number-fine}
+use Rattle.sheet_translate.specs.Left.{left}
 use Rattle.sheet_same.specs.Compared.{enough, Compared}
-use Rattle.sheet_same.specs.SameLaws.{verdict-more}
+use Rattle.sheet_same.specs.Room.{verdict-more}
 
 -- an answer's number is 0 exactly where nothing is refused
 fine-number : (w : Outcome) → Sound w → (lines words : ℕ) → eqb (listedAs w lines words .number) 0 ≡ isPassed w
@@ -37,9 +37,9 @@ module _ (text v s v′ s′ : List ℕ) (r : Listed) (t : Translated text v s v
 
   start-left : r .number ≡ 0 → getD s′ 0 0 ≡ startIn text
   start-left h =
-      let z = translated-stands text v s v′ s′ r t h in
-      let some = accepted text (length s) (length v) (number-fine text (length s) (length v) r (t .listed) h) .lines-some in
-      omega (arith, z .addresses 1 (omega arith) (omega (arith, z .lines)))
+      let l = left text v s v′ s′ r t h in
+      let some = accepted text (length s) (length v) (l .accepts) .lines-some in
+      omega (arith, l .addresses 1 (omega arith) (omega arith))
 
   judged : 4096 ≤ length s → 45056 ≤ length v → eqb (r .number) 0 ≡ isPassed (outcomeOf text 4096 45056)
   unfolding listedOf
@@ -71,7 +71,7 @@ module _ (f g v w s : List ℕ) (h : (4096 ≤ length s) × (45056 ≤ length v)
           let m = eqb-true (a .number) 0 p in
           let n = eqb-true (b .number) 0 q in (
             rw (start-left f v s v′ s₁ a t m, start-left g w s₁ w′ s₂ b u n),
-            rw (translated-stands f v s v′ s₁ a t m .words, translated-stands g w s₁ w′ s₂ b u n .words),
+            rw (left f v s v′ s₁ a t m .words, left g w s₁ w′ s₂ b u n .words),
           )
 
   pub comparison : (q : Bool) → q ≡ equal (take (a .words) v′) (take (b .words) w′)

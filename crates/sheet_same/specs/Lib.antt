@@ -1,2 +1,2 @@
 pub mod Compared
-pub mod SameLaws
+pub mod Room

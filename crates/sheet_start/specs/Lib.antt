@@ -1,2 +1,1 @@
 pub mod StartLine
-pub mod SheetLaws

@@ -12,19 +12,20 @@ use lib.Seq.{drop-cons, set-at}
 use borrow.Author.Tests.{eq-eqb, ne-eqb, le-leb, lt-leb}
 use Rattle.sheet_start.specs.declared.StartAt.{StartAt}
 use Rattle.sheet_start.specs.StartLine.{startAt}
-use Rattle.sheet_start.specs.SheetLaws.{outline, count-feeds, count-most, lines-after}
+use Rattle.sheet_token_laws.specs.SheetLaws.{outline, count-feeds, count-most, lines-after}
 use Rattle.sheet_spec.specs.declared.Listed.{Listed}
 use Rattle.sheet_spec.specs.Sheet.{feeds, isSheet, startLine, linesIn, Start, at, notInForm, startOf, total}
 use Rattle.sheet_spec.specs.Translate.{Outcome, passed, refused, andThen, require, startOutcome, startNumber, asOutcome, sizesOutcome, startIn, countIn, needIn, addressesIn, imageIn, outcomeOf, listedAs, over}
-use Rattle.sheet_laws.specs.Demand3.{image-counts}
-use Rattle.sheet_laws.specs.Outcomes.{accepted}
+use Rattle.sheet_token_laws.specs.Listing.{as-fine, as-refused, over-length}
+use Rattle.sheet_size_laws.specs.Outcomes.{accepted}
+use Rattle.sheet_size_laws.specs.Counted.{image-counts}
 use Rattle.sheet_passes.specs.declared.Passed.{Passed}
 use Rattle.sheet_passes.specs.Passes.{passedOf, filledOf, linesAt, Placed, rangesAt, imageAt}
 use Rattle.sheet_passes.specs.PassLaws.{total-most, filled-addresses}
 use Rattle.sheet_translate.specs.Translated.{Translated, refusalNumber, openingOf, sizesIn, closingOf, rangesIn, SizedSheet}
 use Rattle.sheet_translate.specs.OutcomeLaws.{Sound, sizes-sound, ranges-sound}
-use Rattle.sheet_translate.specs.StageLaws.{stages, opening-outside, closing-outside, as-fine, as-refused, Opened, opened, Closed, closed, by-verdict, turned-away}
-use Rattle.sheet_translate.specs.PlaceLaws.{over-length, over-take, over-same, addresses-length, addresses-first, filled-length, from-over}
+use Rattle.sheet_translate.specs.StageLaws.{stages, opening-outside, closing-outside, Opened, opened, Closed, closed, by-verdict, turned-away}
+use Rattle.sheet_translate.specs.PlaceLaws.{over-take, over-same, addresses-length, addresses-first, filled-length, from-over}
 
 -- ---- one more zero in the front
 pub zero-more : (p : List ℕ) (i : ℕ) → i < length p → set (replicate i 0 ++ drop i p) i 0 ≡ replicate (i + 1) 0 ++ drop (i + 1) p
@@ -160,9 +161,9 @@ module _ {text : List ℕ} {from lines words : ℕ} {v s : List ℕ} (z : SizedS
           (f ∙ ap (λ (ws : List ℕ). over ws v) image-is) (sym (over-same lines (addressesIn text) s (z .addresses) (z .places)))
 
 -- ---- the lines of a sheet whose opening is in order
-address-is : (t : Start) → startAt t .address ≡ startNumber t
-address-is (at n) = refl
-address-is notInForm = refl
+start-address : (t : Start) → startAt t .address ≡ startNumber t
+start-address (at n) = refl
+start-address notInForm = refl
 
 module _ (text v s : List ℕ) (o : openingOf text (length s) ≡ passed) (n : ℕ) (en : n ≡ feeds text) where
   begun : Opened text (length s)
@@ -186,7 +187,7 @@ module _ (text v s : List ℕ) (o : openingOf text (length s) ≡ passed) (n : �
 
     module _ (t : StartAt) (et : t ≡ startAt (startOf (startLine text))) where
       start-is : t .address ≡ startIn text
-      start-is = ap (λ (x : StartAt). x .address) et ∙ address-is (startOf (startLine text))
+      start-is = ap (λ (x : StartAt). x .address) et ∙ start-address (startOf (startLine text))
 
       module _ (p : Passed) (s₁ : List ℕ)
           (ep : p ≡ passedOf (sizesOutcome (n - 1) 1 (linesAt text from)) (total (n - 1) (linesAt text from)))

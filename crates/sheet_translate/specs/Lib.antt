@@ -2,4 +2,4 @@ pub mod Translated
 pub mod OutcomeLaws
 pub mod StageLaws
 pub mod PlaceLaws
-pub mod Stands
+pub mod Left

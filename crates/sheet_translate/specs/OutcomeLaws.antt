@@ -22,12 +22,12 @@ unless-sound : (b : Bool) (k : ℕ) → (k ≡ 0 → ⊥) → Sound (require b k
 unless-sound true k h = tt
 unless-sound false k h = h
 
-start-sound : (s : Start) → Sound (startOutcome s)
-start-sound (at n) = unless-sound (eqb (n % 2) 0) 9 (λ e. omega arith)
-start-sound notInForm = λ e. omega arith
+opening-sound : (s : Start) → Sound (startOutcome s)
+opening-sound (at n) = unless-sound (eqb (n % 2) 0) 9 (λ e. omega arith)
+opening-sound notInForm = λ e. omega arith
 
-as-sound : (k number detail : ℕ) (value : ℤ) → Sound (asOutcome k number detail value)
-as-sound k number detail value = go (eqb number 0) refl
+line-sound : (k number detail : ℕ) (value : ℤ) → Sound (asOutcome k number detail value)
+line-sound k number detail value = go (eqb number 0) refl
   where
     go : (t : Bool) → eqb number 0 ≡ t → Sound (cond t passed (refused number k detail value))
     go true e = tt
@@ -37,20 +37,20 @@ pub sizes-sound : (n k : ℕ) (ls : List (List ℕ)) → Sound (sizesOutcome n k
 sizes-sound n k [] = tt
 sizes-sound n k (l ∷ ls) =
     let m = sizedOf n l in
-    or-sound (asOutcome k (m .number) (m .detail) (m .value)) (sizesOutcome n (suc k) ls) (as-sound k (m .number) (m .detail) (m .value)) (sizes-sound n (suc k) ls)
+    or-sound (asOutcome k (m .number) (m .detail) (m .value)) (sizesOutcome n (suc k) ls) (line-sound k (m .number) (m .detail) (m .value)) (sizes-sound n (suc k) ls)
 
 pub ranges-sound : (A : List ℕ) (n k a : ℕ) (ls : List (List ℕ)) → Sound (rangesOutcome A n k a ls)
 ranges-sound A n k a [] = tt
 ranges-sound A n k a (l ∷ ls) =
     let e = lineEncoded A l a in
     or-sound (asOutcome k (e .number) (e .detail) (e .value)) (rangesOutcome A n (suc k) (a + 2 * counted n l) ls)
-    (as-sound k (e .number) (e .detail) (e .value)) (ranges-sound A n (suc k) (a + 2 * counted n l) ls)
+    (line-sound k (e .number) (e .detail) (e .value)) (ranges-sound A n (suc k) (a + 2 * counted n l) ls)
 
 pub verdict-sound : (text : List ℕ) (places room : ℕ) → Sound (outcomeOf text places room)
 unfolding outcomeOf
 verdict-sound text places room =
     or-sound (require (isSheet text) 10) _ (unless-sound (isSheet text) 10 (λ e. omega arith))
-    (or-sound (startOutcome (startOf (startLine text))) _ (start-sound (startOf (startLine text)))
+    (or-sound (startOutcome (startOf (startLine text))) _ (opening-sound (startOf (startLine text)))
     (or-sound (require (leb (countIn text) places) 11) _ (unless-sound (leb (countIn text) places) 11 (λ e. omega arith))
     (or-sound (sizesOutcome (countIn text) 1 (linesIn text)) _ (sizes-sound (countIn text) 1 (linesIn text))
     (or-sound (require (leb (startIn text + 2 * needIn text) (2 ^ 32)) 9) _ (unless-sound (leb (startIn text + 2 * needIn text) (2 ^ 32)) 9 (λ e. omega arith))

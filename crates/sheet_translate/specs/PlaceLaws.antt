@@ -5,18 +5,16 @@ use mathlib.Core.Bool.{Bool, true, false, cond}
 use mathlib.Core.List.{List, [], _∷_, _++_}
 use native.Mathlib.Omega.{arith}
 use lib.Dec.{eqb}
-use lib.ListN.{length, take, drop, getD, replicate, length-append, length-drop, length-replicate}
+use lib.ListN.{length, take, drop, getD, replicate, length-replicate}
 use lib.Seq.{drop-append-seam, take-at, drop-at}
 use Rattle.sheet_spec.specs.declared.Listed.{Listed}
 use Rattle.sheet_spec.specs.Sheet.{linesIn, sizedOf, counted, addressesFrom}
 use Rattle.sheet_spec.specs.Translate.{Outcome, passed, refused, startIn, countIn, addressesIn, needIn, imageIn, over, outcomeOf, listedAs, listedOf, imageAs, imageOf, scratchAs, scratchOf}
-use Rattle.sheet_laws.specs.Outcomes.{accepted}
-use Rattle.sheet_laws.specs.Demand3.{image-counts}
+use Rattle.sheet_token_laws.specs.Listing.{over-length}
+use Rattle.sheet_size_laws.specs.Outcomes.{accepted}
+use Rattle.sheet_size_laws.specs.Counted.{image-counts}
 use Rattle.sheet_passes.specs.Passes.{filledOf}
 use Rattle.sheet_translate.specs.Translated.{Translated}
-
-pub over-length : (x v : List ℕ) → length x ≤ length v → length (over x v) ≡ length v
-over-length x v h = rw (length-append, length-drop) (omega arith)
 
 pub over-take : (x v : List ℕ) (n : ℕ) → length x ≡ n → take n (over x v) ≡ x
 over-take x v n e = take-at x (drop (length x) v) n e

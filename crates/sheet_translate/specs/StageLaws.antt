@@ -11,6 +11,7 @@ use borrow.Author.Tests.{ne-eqb, leb-true}
 use Rattle.sheet_spec.specs.declared.Listed.{Listed}
 use Rattle.sheet_spec.specs.Sheet.{isSheet, startLine, Start, at, notInForm, startOf}
 use Rattle.sheet_spec.specs.Translate.{Outcome, passed, refused, andThen, require, startOutcome, asOutcome, startIn, countIn, needIn, addressesIn, imageIn, outcomeOf, listedAs, listedOf, imageAs, imageOf, scratchAs, scratchOf}
+use Rattle.sheet_token_laws.specs.Listing.{both-fine, unless-true}
 use Rattle.sheet_translate.specs.Translated.{Translated, refusalNumber, openingOf, sizesIn, closingOf, rangesIn}
 
 or-three : (a b c d : Outcome) → andThen a (andThen b (andThen c d)) ≡ andThen (andThen a (andThen b c)) d
@@ -57,25 +58,7 @@ closing-outside start words room =
     or-outside (require (leb (start + 2 * words) (2 ^ 32)) 9) _ (unless-outside (leb (start + 2 * words) (2 ^ 32)) 9 (λ e. omega arith))
     (unless-outside (leb words room) 11 (λ e. omega arith))
 
--- ---- a verdict by its number
-pub as-fine : (k number detail : ℕ) (value : ℤ) → number ≡ 0 → asOutcome k number detail value ≡ passed
-as-fine k number detail value e = rw e
-
-pub as-refused : (k number detail : ℕ) (value : ℤ) → (number ≡ 0 → ⊥) → asOutcome k number detail value ≡ refused number k detail value
-as-refused k number detail value e = rw (ne-eqb number 0 e)
-
 -- ---- what follows where nothing is refused
-refused-not : {C : Type 0} {number line detail : ℕ} {value : ℤ} → refused number line detail value ≡ passed → C
-refused-not e = let z : _≡_ {A = ℕ} 0 1 = cc in absurd (omega arith)
-
-both-fine : (u v : Outcome) → andThen u v ≡ passed → (u ≡ passed) × (v ≡ passed)
-both-fine passed v e = (refl, e)
-both-fine (refused number line detail value) v e = refused-not e
-
-unless-true : (b : Bool) (k : ℕ) → require b k ≡ passed → b ≡ true
-unless-true true k e = refl
-unless-true false k e = refused-not e
-
 pub record Opened (text : List ℕ) (places : ℕ) : Type 0 where
   pub sheet : isSheet text ≡ true
   pub scratch : countIn text ≤ places

@@ -1,7 +1,7 @@
 -- The header of a sheet in the list: its bytes, and the scratch places and image words to lend.
 use mathlib.Core.Path.{_≡_, sym, ap, _∙_}
 use native.Mathlib.Omega.{arith}
-use mathlib.Core.Bool.{Bool, true, false, cond, not, _&&_}
+use mathlib.Core.Bool.{Bool, true, false, cond, not, _&&_, false≢true}
 use mathlib.Core.List.{List}
 use Prim.Native.Nat.{ℕ, _+_, _-_, _≤_, _<_}
 use lib.Dec.{leb, ltb, eqb}
@@ -52,12 +52,9 @@ pub record Within (from most : ℕ) (h : Header) : Type 0 where
   pub places : h .places ≤ 4096
   pub room : h .room ≤ 45056
 
-not-true : {C : Type 0} → false ≡ true → C
-not-true e = let z : _≡_ {A = ℕ} 0 1 = cc in absurd (omega arith)
-
 pub none-within : (from most : ℕ) (h : Header) → h ≡ noHeader → Within from most h
 none-within from most h e =
-    rw e (record { order = omega arith; inside = omega arith; onward = λ t. not-true t; places = omega arith; room = omega arith })
+    rw e (record { order = omega arith; inside = omega arith; onward = λ t. absurd (false≢true t); places = omega arith; room = omega arith })
 
 pub widen : {line end from most : ℕ} {h : Header} → Within line end h → from ≤ line → end ≤ most → Within from most h
 widen w a b =

@@ -1,6 +1,7 @@
 use mathlib.Core.Path.{_∙_, sym}
 use native.Mathlib.Omega.{arith}
-use Rattle.sheet_entries.proofs.Laws.{room, placed-entry, no-room}
+use Rattle.base_text.specs.NumbersLaws.{room}
+use Rattle.sheet_entries.proofs.Laws.{placed-entry, no-room}
 use borrow.Author.Needs.{needs}
 use Rattle.sheet_entries.proofs.place_entry.Statement.{statement}
 use Rattle.sheet_entries.proofs.place_entry.Tie as tie

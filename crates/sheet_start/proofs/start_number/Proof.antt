@@ -1,7 +1,8 @@
 use mathlib.Core.Bool.{not}
 use native.Mathlib.Omega.{arith}
 use lib.Dec.{ltb}
-use Rattle.read_operand_laws.specs.Facts.{and-true, ltb-is}
+use borrow.Author.Tests.{ltb-true}
+use Rattle.sheet_token_laws.specs.Facts.{and-true}
 use borrow.Author.Needs.{needs}
 use Rattle.sheet_start.proofs.start_number.Statement.{statement}
 use Rattle.sheet_start.proofs.start_number.Tie as tie
@@ -12,7 +13,7 @@ enum-known-n c = search needs
 cast-t9 : tie.Need-cast-t9
 cast-t9 c =
     let g = c .before .before .n .given .0 in
-    omega (arith, ltb-is (g .1 .0) 4294967296 (and-true (not (g .0)) (ltb (g .1 .0) 4294967296) (c .if1 .taken) .1))
+    omega (arith, ltb-true (g .1 .0) 4294967296 (and-true (not (g .0)) (ltb (g .1 .0) 4294967296) (c .if1 .taken) .1))
 
 no-start-requires : tie.Need-no-start-requires
 no-start-requires c κs = search needs

@@ -1,32 +1,22 @@
 -- A variant's place and its name: each from the other. Assumes nothing.
-use Prim.Native.Nat.{ℕ, zero, suc, _+_, _<_}
-use mathlib.Core.Path.{_≡_, refl, sym, ap, _∙_, subst}
+use Prim.Native.Nat.{ℕ, suc, _+_, _<_}
+use mathlib.Core.Path.{_≡_, refl, sym, ap, _∙_}
 use mathlib.Core.Bool.{Bool, true, false, cond, not, _&&_, _||_, false≢true}
 use mathlib.Core.List.{List, [], _∷_, map}
 use native.Mathlib.Omega.{arith}
 use lib.Dec.{eqb, ltb}
 use lib.ListN.{length, getD}
-use borrow.Author.Tests.{eqb-true, ltb-true, ltb-false}
+use borrow.Author.Tests.{eqb-true}
 use Rattle.sheet_spec.specs.declared.Kind.{Kind}
 use Rattle.sheet_spec.specs.declared.Kind.the-variants as kind
 use Rattle.sheet_spec.specs.Names.{bytes, namesOf}
 use Rattle.sheet_spec.specs.Line.{Token, literal, label, invalid, equal, isNone, placeFrom, asVariant}
-use Rattle.sheet_form_laws.specs.NumberForm.{both}
+use Rattle.sheet_token_laws.specs.Facts.{and-true, all, below, equal-is}
 
 -- every byte is above 10, so none is a tab or a line feed
 abbrev pub solid : List ℕ → Bool
 solid [] = true
 solid (b ∷ bs) = ltb 10 b && solid bs
-
-pub equal-is : (f g : List ℕ) → equal f g ≡ true → f ≡ g
-equal-is [] [] e = refl
-equal-is [] (y ∷ ys) e = absurd (false≢true e)
-equal-is (x ∷ xs) [] e = absurd (false≢true e)
-equal-is (x ∷ xs) (y ∷ ys) e =
-    let t = both (eqb x y) (equal xs ys) e in
-    let h : x ≡ y = eqb-true x y (t .0) in
-    let r : xs ≡ ys = equal-is xs ys (t .1) in
-    λ i. h i ∷ r i
 
 some-is : (f : List ℕ) → not (isNone f) ≡ true → 0 < length f
 some-is [] e = absurd (false≢true e)
@@ -46,7 +36,7 @@ place-is k f (n ∷ ns) v e h = go (equal f n && not (isNone f)) refl e (λ q. p
   where
     go : (t : Bool) → equal f n && not (isNone f) ≡ t → cond t (literal false k) (placeFrom (suc k) f ns) ≡ v → (placeFrom (suc k) f ns ≡ v → Place (suc k) f ns v) → Place k f (n ∷ ns) v
     go true t q next =
-        let b = both (equal f n) (not (isNone f)) t in
+        let b = and-true (equal f n) (not (isNone f)) t in
         let z : k ≡ k + 0 = omega arith in
         record { at = 0; says = sym q ∙ ap (literal false) z; here = omega arith; name = equal-is f n (b .0); some = some-is f (b .1) }
     go false t q next =
@@ -65,18 +55,6 @@ abbrev test : Kind → ℕ → Bool
 test k n =
     let f = getD (map bytes (namesOf k)) n [] in
     (isNone f || is n (asVariant k f)) && solid f
-
-abbrev pub all : (ℕ → Bool) → ℕ → Bool
-all f zero = true
-all f (suc n) = f n && all f n
-
-pub below : (f : ℕ → Bool) (n : ℕ) → all f n ≡ true → (k : ℕ) → k < n → f k ≡ true
-below f zero t k h = absurd (omega arith)
-below f (suc n) t k h = let b = both (f n) (all f n) t in go (ltb k n) refl (b .0) (below f n (b .1) k)
-  where
-    go : (s : Bool) → ltb k n ≡ s → f n ≡ true → (k < n → f k ≡ true) → f k ≡ true
-    go true e g next = next (ltb-true k n e)
-    go false e g next = let q : n ≡ k = omega (arith, ltb-false k n e) in subst (λ (m : ℕ). f m ≡ true) q g
 
 tested : (k : Kind) → all (test k) (length (namesOf k)) ≡ true
 tested kind.Number = refl
@@ -103,7 +81,7 @@ is-place n (literal false m) e = ap (literal false) (eqb-true m n e)
 is-place n (label m) e = absurd (false≢true e)
 is-place n invalid e = absurd (false≢true e)
 
-some-or : (f : List ℕ) (b : Bool) → 0 < length f → isNone f || b ≡ true → b ≡ true
+pub some-or : (f : List ℕ) (b : Bool) → 0 < length f → isNone f || b ≡ true → b ≡ true
 some-or [] b h e = absurd (omega arith)
 some-or (x ∷ xs) b h e = e
 
@@ -111,7 +89,7 @@ module _ (k : Kind) (n : ℕ) (h : n < length (namesOf k)) where
   passed : (isNone (getD (map bytes (namesOf k)) n []) || is n (asVariant k (getD (map bytes (namesOf k)) n [])) ≡ true) × (solid (getD (map bytes (namesOf k)) n []) ≡ true)
   passed =
       let f = getD (map bytes (namesOf k)) n [] in
-      both (isNone f || is n (asVariant k f)) (solid f) (below (test k) (length (namesOf k)) (tested k) n h)
+      and-true (isNone f || is n (asVariant k f)) (solid f) (below (test k) (length (namesOf k)) (tested k) n h)
 
   pub name-back : 0 < length (getD (map bytes (namesOf k)) n []) → asVariant k (getD (map bytes (namesOf k)) n []) ≡ literal false n
   name-back g =

@@ -6,14 +6,14 @@ use Prim.Native.Nat.{ℕ, zero, suc, _+_, _-_, _≤_}
 use native.Mathlib.Omega.{arith}
 use lib.Dec.{leb, eqb}
 use lib.ListN.{length, take, drop, length-drop}
-use borrow.Author.Tests.{eq-eqb}
+use borrow.Author.Tests.{eq-eqb, eqb-true, leb-true}
 use Rattle.base_text.specs.Parts.{before, onto, partEnd}
 use Rattle.base_text.specs.PartLaws.{take-before}
 use Rattle.base_text.specs.Lines.{linesOf}
 use Rattle.base_text.specs.LinesLaws.{lines-next}
-use Rattle.read_operand_laws.specs.Facts.{and-true, leb-is, eqb-eq}
 use Rattle.sheet_spec.specs.Sheet.{feeds, last, isSheet, startLine, linesIn}
 use Rattle.sheet_spec.specs.Translate.{countIn}
+use Rattle.sheet_token_laws.specs.Facts.{and-true}
 
 -- ---- what a sheet is, place by place
 pub record Outline (text : List ℕ) : Type 0 where
@@ -30,11 +30,11 @@ outline text e =
     let r = and-true (leb 1 (length text) && leb (length text) 65536) (eqb (last text) 10) (q .0) in
     let s = and-true (leb 1 (length text)) (leb (length text) 65536) (r .0) in
     record {
-      some = leb-is 1 (length text) (s .0);
-      bytes = leb-is (length text) 65536 (s .1);
-      final = eqb-eq (last text) 10 (r .1);
-      least = leb-is 2 (feeds text) (q .1);
-      most = leb-is (feeds text) 4097 (p .1);
+      some = leb-true 1 (length text) (s .0);
+      bytes = leb-true (length text) 65536 (s .1);
+      final = eqb-true (last text) 10 (r .1);
+      least = leb-true 2 (feeds text) (q .1);
+      most = leb-true (feeds text) 4097 (p .1);
     }
 
 -- ---- as many lines as line feeds, where the last byte is one

@@ -35,20 +35,7 @@ use Rattle.encode_spec.specs.Control.{branchParts, bccParts, dbccParts, sccPart
 use Rattle.encode_spec.specs.System.{movesParts, casParts}
 use Rattle.encode_spec.specs.Instruction.{registerParts, transferParts, pairParts, wordParts, unsizedRegisterParts, unsizedOneParts, unsizedPairParts, oneParts, branchesParts, packsParts}
 use Rattle.read_operand_laws.specs.Facts.{failure-append, words-in-append}
-
--- an operand without its target
-abbrev pub bare : Operand → Operand
-bare (Immediate v) = Immediate v
-bare (Register r) = Register r
-bare (Indirect k) = Indirect k
-bare (PostIndirect k) = PostIndirect k
-bare (PreIndirect k) = PreIndirect k
-bare (IndirectDisplacement z base) = IndirectDisplacement z base
-bare (IndirectIndex base z x) = IndirectIndex base z x
-bare (PcDisplacement t) = PcDisplacement 0
-bare (PcIndex t x) = PcIndex 0 x
-bare (Extended base w z outer) = Extended base w z outer
-bare (Absolute a w) = Absolute a w
+use Rattle.sheet_form_laws.specs.Rows.{bare}
 
 -- where an operand stands in an instruction
 pub data Hole : (Operand → Instruction) → Type 0 where

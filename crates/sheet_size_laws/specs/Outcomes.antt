@@ -6,33 +6,22 @@ use mathlib.Core.List.{List, [], _∷_}
 use native.Mathlib.Omega.{arith}
 use native.Mathlib.Nat.{add-zero}
 use lib.Dec.{leb, ltb, eqb}
-use lib.ListN.{length, drop, take, getD}
-use lib.IntN.{ℤ}
-use borrow.Author.Tests.{eq-eqb, le-leb}
+use lib.ListN.{length, take, getD}
+use borrow.Author.Tests.{eq-eqb, le-leb, eqb-true, leb-true, ltb-true}
 use Rattle.base_text.specs.declared.Number.{Number}
 use Rattle.base_text.specs.declared.Number.the-variants as number
-use Rattle.base_text.specs.Parts.{fields, onto}
+use Rattle.base_text.specs.Parts.{fields}
 use Rattle.base_text.specs.Number.{numberOf}
-use Rattle.base_text.specs.Lines.{linesOf}
 use Rattle.sheet_spec.specs.Names.{bytes}
 use Rattle.sheet_spec.specs.Line.{equal}
-use Rattle.read_operand_laws.specs.Facts.{and-true, ltb-is, leb-is, eqb-eq}
-use Rattle.sheet_spec.specs.Sheet.{isSheet, feeds, last, startLine, linesIn, Start, at, notInForm, startAs, startOf, sizedOf, counted, total, lineEncoded}
+use Rattle.sheet_token_laws.specs.Facts.{and-true}
+use Rattle.sheet_spec.specs.Sheet.{isSheet, startLine, linesIn, Start, at, notInForm, startAs, startOf, sizedOf, counted, total, lineEncoded}
 use Rattle.sheet_spec.specs.Sheet as sheet
-use Rattle.sheet_spec.specs.Translate.{Outcome, passed, refused, andThen, require, startOutcome, startNumber, asOutcome, sizesOutcome, rangesOutcome, startIn, countIn, addressesIn, needIn, outcomeOf}
+use Rattle.sheet_spec.specs.Translate.{Outcome, passed, andThen, require, startOutcome, startNumber, asOutcome, sizesOutcome, rangesOutcome, startIn, countIn, addressesIn, needIn, outcomeOf}
 use Rattle.sheet_spec.specs.Follow.{lineAt, addressOf}
-use Rattle.sheet_laws.specs.Follows.{further}
-
-refused-not : {C : Type 0} {number line detail : ℕ} {value : ℤ} → refused number line detail value ≡ passed → C
-refused-not e = let z : _≡_ {A = ℕ} 0 1 = cc in absurd (omega arith)
-
-both-fine : (u v : Outcome) → andThen u v ≡ passed → (u ≡ passed) × (v ≡ passed)
-both-fine passed v e = (refl, e)
-both-fine (refused number line detail value) v e = refused-not e
-
-unless-true : (b : Bool) (k : ℕ) → require b k ≡ passed → b ≡ true
-unless-true true k e = refl
-unless-true false k e = refused-not e
+use Rattle.sheet_token_laws.specs.SheetLaws.{outline, count-feeds}
+use Rattle.sheet_token_laws.specs.Listing.{refused-not, both-fine, unless-true, as-fine, fine-zero}
+use Rattle.sheet_size_laws.specs.Image.{further}
 
 -- ---- START
 start-as : (b : Bool) (n : ℕ) → (b ≡ true → n < 2 ^ 32) → startNumber (cond b (at n) notInForm) < 2 ^ 32
@@ -40,7 +29,7 @@ start-as true n h = h refl
 start-as false n h = omega arith
 
 as-low : (k : Number) → startNumber (startAs k) < 2 ^ 32
-as-low (number.Is negative n) = start-as (not negative && ltb n (2 ^ 32)) n (λ e. ltb-is n (2 ^ 32) (and-true (not negative) (ltb n (2 ^ 32)) e .1))
+as-low (number.Is negative n) = start-as (not negative && ltb n (2 ^ 32)) n (λ e. ltb-true n (2 ^ 32) (and-true (not negative) (ltb n (2 ^ 32)) e .1))
 as-low number.No = omega arith
 
 named-low : (b : Bool) (k : Number) → startNumber (cond b (startAs k) notInForm) < 2 ^ 32
@@ -58,43 +47,13 @@ pub start-low : (text : List ℕ) → startIn text < 2 ^ 32
 start-low text = fields-low (fields (startLine text))
 
 start-even : (s : Start) → startOutcome s ≡ passed → (s ≡ at (startNumber s)) × (startNumber s % 2 ≡ 0)
-start-even (at n) e = (refl, eqb-eq (n % 2) 0 (unless-true (eqb (n % 2) 0) 9 e))
+start-even (at n) e = (refl, eqb-true (n % 2) 0 (unless-true (eqb (n % 2) 0) 9 e))
 start-even notInForm e = refused-not e
 
--- ---- lines: at least as many as line feeds
-onto-length : (b : ℕ) (ls : List (List ℕ)) → length ls ≤ length (onto b ls)
-onto-length b [] = omega arith
-onto-length b (l ∷ ls) = omega arith
-
-feeds-lines : (text : List ℕ) → feeds text ≤ length (linesOf text)
-feeds-lines [] = omega arith
-feeds-lines (b ∷ bs) = go (eqb b 10) (feeds-lines bs)
-  where
-    go : (t : Bool) → feeds bs ≤ length (linesOf bs) → cond t (suc (feeds bs)) (feeds bs) ≤ length (cond t ([] ∷ linesOf bs) (onto b (linesOf bs)))
-    go true h = omega (arith, h)
-    go false h = omega (arith, h, onto-length b (linesOf bs))
-
-drop-length : (ls : List (List ℕ)) → 2 ≤ length ls → 1 ≤ length (drop 1 ls)
-drop-length [] h = absurd (omega arith)
-drop-length (l ∷ ls) h = omega arith
-
-sheet-lines : (text : List ℕ) → isSheet text ≡ true → 1 ≤ countIn text
-sheet-lines text e =
-    let p = and-true (leb 1 (length text) && leb (length text) 65536 && eqb (last text) 10 && leb 2 (feeds text)) (leb (feeds text) 4097) e in
-    let q = and-true (leb 1 (length text) && leb (length text) 65536 && eqb (last text) 10) (leb 2 (feeds text)) (p .0) in
-    drop-length (linesOf text) (omega (arith, leb-is 2 (feeds text) (q .1), feeds-lines text))
-
 -- ---- each line
-as-fine : (k number detail : ℕ) (value : ℤ) → asOutcome k number detail value ≡ passed → number ≡ 0
-as-fine k number detail value e = go (eqb number 0) refl e
-  where
-    go : (t : Bool) → eqb number 0 ≡ t → cond t passed (refused number k detail value) ≡ passed → number ≡ 0
-    go true h e = eqb-eq number 0 h
-    go false h e = refused-not e
-
 sizes-fine : (n k : ℕ) (ls : List (List ℕ)) → sizesOutcome n k ls ≡ passed → (j : ℕ) → j < length ls → sizedOf n (getD ls j []) .number ≡ 0
 sizes-fine n k [] e j h = absurd (omega arith)
-sizes-fine n k (l ∷ ls) e zero h = as-fine k _ (sizedOf n l .detail) (sizedOf n l .value) (both-fine _ (sizesOutcome n (suc k) ls) e .0)
+sizes-fine n k (l ∷ ls) e zero h = fine-zero k _ (sizedOf n l .detail) (sizedOf n l .value) (both-fine _ (sizesOutcome n (suc k) ls) e .0)
 sizes-fine n k (l ∷ ls) e (suc j) h = sizes-fine n (suc k) ls (both-fine (asOutcome k (sizedOf n l .number) (sizedOf n l .detail) (sizedOf n l .value)) _ e .1) j (omega arith)
 
 ranges-fine : (A : List ℕ) (n k a : ℕ) (ls : List (List ℕ)) → rangesOutcome A n k a ls ≡ passed
@@ -102,13 +61,13 @@ ranges-fine : (A : List ℕ) (n k a : ℕ) (ls : List (List ℕ)) → rangesOutc
 ranges-fine A n k a [] e j h = absurd (omega arith)
 ranges-fine A n k a (l ∷ ls) e zero h =
     ap (λ (x : ℕ). lineEncoded A l x .number) (add-zero a)
-    ∙ as-fine k _ (lineEncoded A l a .detail) (lineEncoded A l a .value) (both-fine _ (rangesOutcome A n (suc k) (a + 2 * counted n l) ls) e .0)
+    ∙ fine-zero k _ (lineEncoded A l a .detail) (lineEncoded A l a .value) (both-fine _ (rangesOutcome A n (suc k) (a + 2 * counted n l) ls) e .0)
 ranges-fine A n k a (l ∷ ls) e (suc j) h =
     ap (λ (x : ℕ). lineEncoded A (getD ls j []) x .number) (sym (further a (counted n l) (total n (take j ls))))
     ∙ ranges-fine A n (suc k) (a + 2 * counted n l) ls (both-fine (asOutcome k (lineEncoded A l a .number) (lineEncoded A l a .detail) (lineEncoded A l a .value)) _ e .1) j (omega arith)
 
 -- ---- an accepted sheet
-pub record Accepted (text : List ℕ) (places room : ℕ) : Type 0 where
+pub record AcceptedSheet (text : List ℕ) (places room : ℕ) : Type 0 where
   pub sheet : isSheet text ≡ true
   pub lines-some : 1 ≤ countIn text
   pub start : startOf (startLine text) ≡ at (startIn text)
@@ -119,7 +78,7 @@ pub record Accepted (text : List ℕ) (places room : ℕ) : Type 0 where
   pub image : needIn text ≤ room
   pub encoded : (n : ℕ) → 1 ≤ n → n ≤ countIn text → lineEncoded (addressesIn text) (lineAt text n) (addressOf text n) .number ≡ 0
 
-pub accepted : (text : List ℕ) (places room : ℕ) → outcomeOf text places room ≡ passed → Accepted text places room
+pub accepted : (text : List ℕ) (places room : ℕ) → outcomeOf text places room ≡ passed → AcceptedSheet text places room
 unfolding outcomeOf
 accepted text places room e =
     let a = both-fine (require (isSheet text) 10) _ e in
@@ -132,13 +91,13 @@ accepted text places room e =
     let t = start-even (startOf (startLine text)) (b .0) in
     record {
       sheet = s;
-      lines-some = sheet-lines text s;
+      lines-some = omega (arith, count-feeds text s, outline text s .least);
       start = t .0;
       even = t .1;
-      scratch = leb-is (countIn text) places (unless-true _ 11 (c .0));
+      scratch = leb-true (countIn text) places (unless-true _ 11 (c .0));
       sized = λ n h k. sizes-fine (countIn text) 1 (linesIn text) (d .0) (pred n) (omega arith);
-      ends = leb-is (startIn text + 2 * needIn text) (2 ^ 32) (unless-true _ 9 (f .0));
-      image = leb-is (needIn text) room (unless-true _ 11 (g .0));
+      ends = leb-true (startIn text + 2 * needIn text) (2 ^ 32) (unless-true _ 9 (f .0));
+      image = leb-true (needIn text) room (unless-true _ 11 (g .0));
       encoded = λ n h k. ranges-fine (addressesIn text) (countIn text) 1 (startIn text) (linesIn text) (g .1) (pred n) (omega arith);
     }
 
@@ -147,13 +106,10 @@ unless-is : (b : Bool) (k : ℕ) → b ≡ true → require b k ≡ passed
 unless-is true k e = refl
 unless-is false k e = absurd (false≢true e)
 
-as-zero : (k number detail : ℕ) (value : ℤ) → number ≡ 0 → asOutcome k number detail value ≡ passed
-as-zero k number detail value e = rw (eq-eqb number 0 e)
-
 sizes-all : (n k : ℕ) (ls : List (List ℕ)) → ((j : ℕ) → j < length ls → sizedOf n (getD ls j []) .number ≡ 0) → sizesOutcome n k ls ≡ passed
 sizes-all n k [] h = refl
 sizes-all n k (l ∷ ls) h =
-    ap (λ v. andThen v (sizesOutcome n (suc k) ls)) (as-zero k (sizedOf n l .number) (sizedOf n l .detail) (sizedOf n l .value) (h 0 (omega arith)))
+    ap (λ v. andThen v (sizesOutcome n (suc k) ls)) (as-fine k (sizedOf n l .number) (sizedOf n l .detail) (sizedOf n l .value) (h 0 (omega arith)))
     ∙ sizes-all n (suc k) ls (λ j q. h (suc j) (omega arith))
 
 ranges-all : (A : List ℕ) (n k a : ℕ) (ls : List (List ℕ))
@@ -161,14 +117,14 @@ ranges-all : (A : List ℕ) (n k a : ℕ) (ls : List (List ℕ))
 ranges-all A n k a [] h = refl
 ranges-all A n k a (l ∷ ls) h =
     let first = ap (λ (x : ℕ). lineEncoded A l x .number) (sym (add-zero a)) ∙ h 0 (omega arith) in
-    ap (λ v. andThen v (rangesOutcome A n (suc k) (a + 2 * counted n l) ls)) (as-zero k (lineEncoded A l a .number) (lineEncoded A l a .detail) (lineEncoded A l a .value) first)
+    ap (λ v. andThen v (rangesOutcome A n (suc k) (a + 2 * counted n l) ls)) (as-fine k (lineEncoded A l a .number) (lineEncoded A l a .detail) (lineEncoded A l a .value) first)
     ∙ ranges-all A n (suc k) (a + 2 * counted n l) ls
     (λ j q. ap (λ (x : ℕ). lineEncoded A (getD ls j []) x .number) (further a (counted n l) (total n (take j ls))) ∙ h (suc j) (omega arith))
 
 and-fine : (u v : Outcome) → u ≡ passed → v ≡ passed → andThen u v ≡ passed
 and-fine u v p q = ap (λ w. andThen w v) p ∙ q
 
-pub not-otherwise : (text : List ℕ) (places room : ℕ) → Accepted text places room → outcomeOf text places room ≡ passed
+pub not-otherwise : (text : List ℕ) (places room : ℕ) → AcceptedSheet text places room → outcomeOf text places room ≡ passed
 unfolding outcomeOf
 not-otherwise text places room ok =
     and-fine (require (isSheet text) 10) _ (unless-is (isSheet text) 10 (ok .sheet))

@@ -1,84 +1,43 @@
--- What a line's fields make when each line's name is made a number: the same values, but for the targets.
-use Prim.Native.Nat.{ℕ, suc, _-_, _^_, _≤_, _<_}
-use mathlib.Core.Path.{_≡_, refl, sym, ap, ap₂, _∙_, subst}
-use mathlib.Core.Bool.{Bool, true, false}
+-- Sorts of values in a line: their form, the kinds of its fields, what they make whatever names are made, and their line whatever their targets name.
+use Prim.Native.Nat.{ℕ, suc, _-_, _^_, _≤_}
+use mathlib.Core.Path.{_≡_, refl, sym, ap, ap₂, _∙_}
+use mathlib.Core.Bool.{Bool, true, false, _&&_}
 use mathlib.Core.List.{List, [], _∷_, _++_, append-assoc, map}
 use native.Mathlib.Omega.{arith}
-use lib.Dec.{leb}
-use lib.IntN.{ℤ, pos}
-use Rattle.numeric_fields.specs.Form.{Entry, unsigned, numberOf, inside, Inside, longForm}
+use lib.Dec.{leb, ltb}
+use lib.ListN.{length, getD}
+use lib.IntN.{ℤ, pos, negsuc}
+use borrow.Author.Tests.{le-leb, leb-true, ltb-true}
+use Rattle.numeric_fields.specs.Form.{Entry, unsigned, signed, inside, Inside, longForm}
 use Rattle.sheet_spec.specs.declared.Kind.{Kind}
 use Rattle.sheet_spec.specs.declared.Kind.the-variants as kind
+use Rattle.sheet_spec.specs.Names.{bytes, namesOf}
 use Rattle.sheet_spec.specs.Grammar.{fieldsOf}
 use Rattle.sheet_spec.specs.Line.{Token, literal, label, invalid}
-use Rattle.sheet_spec.specs.Spell.{numberAs, Variant, Suits, Fits}
+use Rattle.sheet_spec.specs.Spell.{numberAs, Suits, Variant, nextKinds}
 use Rattle.sheet_spec.specs.Made.{names, namesAll}
-use Rattle.read_operand_laws.specs.Facts.{and-true, leb-is, leb-true}
+use Rattle.sheet_token_laws.specs.Facts.{and-true, all, below}
+use Rattle.sheet_form_laws.specs.Turned.{Input, Turned, Turn, head-is, tail-is, inside-append, inside-parts}
+use Rattle.sheet_form_laws.specs.Fitting.{Mark, numbered, named, field, unaimed, Fitting}
 
--- the entries' numbers are what the fields say
-abbrev pub Spelt : (ℕ → ℕ) → List Token → List Entry → Type 0
-Spelt f vs es = map (numberAs f) vs ≡ map numberOf es
-
-head-is : {x y : ℤ} {xs ys : List ℤ} → x ∷ xs ≡ y ∷ ys → x ≡ y
-head-is e = cc
-
-tail-is : {x y : ℤ} {xs ys : List ℤ} → x ∷ xs ≡ y ∷ ys → xs ≡ ys
-tail-is e = cc
-
-inside-append : (xs ys : List Entry) → Inside xs → Inside ys → Inside (xs ++ ys)
-inside-append [] ys h k = k
-inside-append (x ∷ xs) ys h k = (h .0, inside-append xs ys (h .1) k)
-
-pub inside-parts : (xs ys : List Entry) → Inside (xs ++ ys) → Inside xs × Inside ys
-inside-parts [] ys h = (tt, h)
-inside-parts (x ∷ xs) ys h = let r = inside-parts xs ys (h .1) in ((h .0, r .0), r .1)
-
--- what the name of one of n lines is made is of 32 bits
-abbrev pub Bounded : ℕ → (ℕ → ℕ) → Type 0
-Bounded n f = (k : ℕ) → 1 ≤ k → k ≤ n → f k < 2 ^ 32
-
--- fields in the grammar that name lines, and the entries that they spell where names are 0
-pub record Input (n : ℕ) (ks : List Kind) (vs : List Token) (es : List Entry) : Type 0 where
-  pub fits : Fits ks vs
-  pub named : namesAll n vs ≡ true
-  pub zeros : Spelt (λ k. 0) vs es
-
--- a value in front, whatever names are made, and what is left of the fields
-pub record Turned (n : ℕ) (X : Type 0) (form : X → List Entry) (P : ((ℕ → ℕ) → X) → Type 0) (ks : List Kind) (vs : List Token) (es : List Entry) : Type 0 where
-  pub rest : List Token
-  pub left : Input n ks rest es
-  pub made : (ℕ → ℕ) → X
-  pub good : P made
-  pub spells : (f : ℕ → ℕ) → Bounded n f → (us : List Entry) → Spelt f rest us → Spelt f vs (form (made f) ++ us)
-  pub stays : (f : ℕ → ℕ) → Bounded n f → Inside (form (made f))
-
--- fields of these kinds that spell x make values that are x but for the targets, of which something is known
-abbrev pub Turn : (n : ℕ) {X : Type 0} → (X → List Entry) → List Kind → (X → X) → (((ℕ → ℕ) → X) → Type 0) → X → Type 0
-Turn n {X} form kinds bare Aims x =
-    (ks : List Kind) (vs : List Token) (es : List Entry) → Input n (kinds ++ ks) vs (form x ++ es) → Inside (form x)
-    → Turned n X form (λ y. ((f : ℕ → ℕ) → bare (y f) ≡ bare x) × Aims y) ks vs es
-
--- A sort of values: their form and the kinds of its fields, what holds of a value inside its types, a value without its targets,
--- and what is known of its targets.
+-- what is known of their targets is in Aims
 pub record Sort (n : ℕ) (X : Type 0) : Type 1 where
   pub form : X → List Entry
   pub kinds : List Kind
-  pub Holds : X → Type 0
-  pub holds : (x : X) → Inside (form x) → Holds x
   pub bare : X → X
   pub Aims : ((ℕ → ℕ) → X) → Type 0
   pub turn : (x : X) → Turn n form kinds bare Aims x
+  pub fitting : (x : X) (m : ℕ → Mark) (ks : List Kind) → Fitting form kinds x m ks
 
 -- ---- no value, and one value after the other
 abbrev pub none : {n : ℕ} → Sort n (Unit {0})
 none = record {
   form = λ z. [];
   kinds = [];
-  Holds = λ z. Unit {0};
-  holds = λ z h. tt;
   bare = λ z. z;
   Aims = λ y. Unit {0};
   turn = λ x ks vs es h i. record { rest = vs; left = h; made = λ f. tt; good = (λ f. refl, tt); spells = λ f b us q. q; stays = λ f b. tt };
+  fitting = λ x m ks. record { bare = tt; next = m; leaves = λ es. refl; fits = λ es i h. h i };
 }
 
 pub both-turned : {n : ℕ} {X Y : Type 0} (s : Sort n X) (t : Sort n Y) (z : X × Y)
@@ -101,11 +60,20 @@ abbrev pub _⊗_ : {n : ℕ} {X Y : Type 0} → Sort n X → Sort n Y → Sort n
 s ⊗ t = record {
   form = λ z. s .form (z .0) ++ t .form (z .1);
   kinds = s .kinds ++ t .kinds;
-  Holds = λ z. s .Holds (z .0) × t .Holds (z .1);
-  holds = λ z h. let g = inside-parts (s .form (z .0)) (t .form (z .1)) h in (s .holds (z .0) (g .0), t .holds (z .1) (g .1));
   bare = λ z. (s .bare (z .0), t .bare (z .1));
   Aims = λ y. s .Aims (λ f. y f .0) × t .Aims (λ f. y f .1);
   turn = both-turned s t;
+  fitting = λ z m ks.
+      let a = s .fitting (z .0) m (t .kinds ++ ks) in
+      let b = t .fitting (z .1) (a .next) ks in
+      record {
+        bare = (a .bare, b .bare);
+        next = b .next;
+        leaves = λ es.
+            rw (append-assoc (s .kinds) (t .kinds) ks, append-assoc (s .form (z .0)) (t .form (z .1)) es, append-assoc (s .form (a .bare)) (t .form (b .bare)) (unaimed (b .next) ks es))
+            (a .leaves (t .form (z .1) ++ es) ∙ ap (λ l. s .form (a .bare) ++ l) (b .leaves es));
+        fits = λ es. rw (append-assoc (s .kinds) (t .kinds) ks, append-assoc (s .form (z .0)) (t .form (z .1)) es) (λ i h. a .fits (t .form (z .1) ++ es) i (λ j. b .fits es j h));
+      };
 }
 
 -- ---- one field: a number or a variant without fields
@@ -135,11 +103,34 @@ plain-turned k s e x ks (literal b m ∷ vs) es h i = said-turned e x (λ f. ref
 plain-turned k s e x ks (label m ∷ vs) es h i = absurd (s m .1 (h .fits .0))
 plain-turned k s e x ks (invalid ∷ vs) es h i = absurd (s 0 .2 (h .fits .0))
 
-abbrev pub one : {n : ℕ} {X : Type 0} (k : Kind) → Simple k → (e : X → Entry) (H : X → Type 0) → ((x : X) → inside (e x) ≡ true → H x) → Sort n X
-one k s e H l = record { form = λ z. e z ∷ []; kinds = k ∷ []; Holds = H; holds = λ z h. l z (h .0); bare = λ z. z; Aims = λ y. Unit {0}; turn = plain-turned k s e }
+-- its line, whatever a target in it names
+pub one-fitting : {X : Type 0} (k : Kind) (e : X → Entry) (bare : Mark → X → X)
+    → ((m : Mark) (x : X) → (field k m (e x) .1 ≡ e (bare m x)) × (nextKinds k (field k m (e x) .0) ≡ []) × (inside (e x) ≡ true → Suits k (field k m (e x) .0)))
+    → (x : X) (m : ℕ → Mark) (ks : List Kind) → Fitting (λ z. e z ∷ []) (k ∷ []) x m ks
+one-fitting k e bare law x m ks =
+    let l = law (m 0) x in
+    record { bare = bare (m 0) x; next = λ n. m (suc n); leaves = λ es. rw (l .1) (λ i. l .0 i ∷ unaimed (λ n. m (suc n)) ks es); fits = λ es i h. rw (l .1) (l .2 (i .0), h (i .1)) }
 
-abbrev pub number : {n : ℕ} → ℕ → Sort n ℕ
-number top = one kind.Number (λ m. (refl, λ h. h, λ h. h)) (λ z. unsigned top z) (λ z. z < suc top) (λ z h. omega (arith, leb-is z top h))
+abbrev pub number : {n : ℕ} {X : Type 0} (top : ℕ) → leb top (2 ^ 64 - 1) ≡ true → (X → ℕ) → Sort n X
+number top t p = record {
+  form = λ x. unsigned top (p x) ∷ [];
+  kinds = kind.Number ∷ [];
+  bare = λ x. x;
+  Aims = λ y. Unit {0};
+  turn = plain-turned kind.Number (λ m. (refl, λ h. h, λ h. h)) (λ x. unsigned top (p x));
+  fitting = one-fitting kind.Number (λ x. unsigned top (p x)) (λ m x. x) (λ m x. (refl, refl, λ h. omega (arith, leb-true (p x) top h, leb-true top (2 ^ 64 - 1) t)));
+}
+
+abbrev pub integer : {n : ℕ} → Sort n ℤ
+integer = record {
+  form = λ z. signed z ∷ [];
+  kinds = kind.Number ∷ [];
+  bare = λ z. z;
+  Aims = λ y. Unit {0};
+  turn = plain-turned kind.Number (λ m. (refl, λ h. h, λ h. h)) signed;
+  fitting = one-fitting kind.Number signed (λ m z. z)
+      (λ m z. elim z [ pos n ↦ (refl, refl, λ h. omega (arith, ltb-true n (2 ^ 31) h)) | negsuc n ↦ (refl, refl, λ h. (omega arith, omega (arith, ltb-true n (2 ^ 31) h))) ]);
+}
 
 -- ---- a target, and a target in an operand, which may also be a number
 abbrev pub Aimed : ℕ → ((ℕ → ℕ) → ℕ) → Type 0
@@ -152,26 +143,51 @@ aim-turned k s t x p q ks (literal b m ∷ vs) es h i = said-turned (λ z. unsig
 aim-turned {n} k s t x p q ks (label m ∷ vs) es h i =
     let g = and-true (names n (label m)) (namesAll n vs) (h .named) in
     let u = and-true (leb 1 m) (leb m n) (g .0) in
-    let l = leb-is 1 m (u .0) in
-    let r = leb-is m n (u .1) in
+    let l = leb-true 1 m (u .0) in
+    let r = leb-true m n (u .1) in
     record {
       rest = vs;
       left = record { fits = h .fits .1; named = g .1; zeros = tail-is (h .zeros) };
       made = λ f. f m;
       good = (λ f. refl, q m (m, l, r, λ f. refl));
       spells = λ f b us e. ap (λ (zs : List ℤ). pos (f m) ∷ zs) e;
-      stays = λ f b. (leb-true (f m) (2 ^ 32 - 1) (omega (arith, b m l r)), tt);
+      stays = λ f b. (le-leb (f m) (2 ^ 32 - 1) (omega (arith, b m l r)), tt);
     }
 aim-turned k s t x p q ks (invalid ∷ vs) es h i = absurd (t (h .fits .0))
 
-abbrev aim : {n : ℕ} (k : Kind) (A : ((ℕ → ℕ) → ℕ) → Type 0) → ((x : ℕ) → Turn n longForm (k ∷ []) (λ x. 0) A x) → Sort n ℕ
-aim k A t = record { form = longForm; kinds = k ∷ []; Holds = λ x. x < 2 ^ 32; holds = λ x h. omega (arith, leb-is x (2 ^ 32 - 1) (h .0)); bare = λ x. 0; Aims = A; turn = t }
-
 abbrev pub target : {n : ℕ} → Sort n ℕ
-target {n} = aim kind.Target (Aimed n) (λ x. aim-turned kind.Target (λ m. refl) (λ h. h) x (λ b m h. absurd h) (λ m a. a))
+target {n} = record {
+  form = longForm;
+  kinds = kind.Target ∷ [];
+  bare = λ x. 0;
+  Aims = Aimed n;
+  turn = λ x. aim-turned kind.Target (λ m. refl) (λ h. h) x (λ b m h. absurd h) (λ m a. a);
+  fitting = one-fitting kind.Target (λ t. unsigned (2 ^ 32 - 1) t) (λ m t. 0) (λ m t. elim m [ numbered n ↦ (refl, refl, λ h. tt) | named n ↦ (refl, refl, λ h. tt) ]);
+}
 
 abbrev pub place : {n : ℕ} → Sort n ℕ
-place = aim kind.Place (λ y. Unit {0}) (λ x. aim-turned kind.Place (λ m. refl) (λ h. h) x (λ b m h. tt) (λ m a. tt))
+place = record {
+  form = longForm;
+  kinds = kind.Place ∷ [];
+  bare = λ x. 0;
+  Aims = λ y. Unit {0};
+  turn = λ x. aim-turned kind.Place (λ m. refl) (λ h. h) x (λ b m h. tt) (λ m a. tt);
+  fitting = one-fitting kind.Place (λ t. unsigned (2 ^ 32 - 1) t) (λ m t. elim m [ numbered n ↦ t | named n ↦ 0 ])
+      (λ m t. elim m [ numbered n ↦ (refl, refl, λ h. omega (arith, leb-true t (2 ^ 32 - 1) h)) | named n ↦ (refl, refl, λ h. tt) ]);
+}
+
+-- ---- a variant, by its name
+abbrev pub isNamed : Kind → ℕ → Bool
+isNamed k n = ltb n (length (namesOf k)) && ltb 0 (length (getD (map bytes (namesOf k)) n []))
+
+is-variant : (k : Kind) (n : ℕ) → isNamed k n ≡ true → Variant k (literal false n)
+is-variant k n e =
+    let b = and-true (ltb n (length (namesOf k))) (ltb 0 (length (getD (map bytes (namesOf k)) n []))) e in
+    (ltb-true n (length (namesOf k)) (b .0), ltb-true 0 (length (getD (map bytes (namesOf k)) n [])) (b .1))
+
+-- a kind whose fields are names
+abbrev pub Naming : Kind → Type 0
+Naming k = (n : ℕ) → (Variant k (literal false n) → Suits k (literal false n)) × ((m : Mark) (top : ℕ) → field k m (unsigned top n) ≡ (literal false n, unsigned top n))
 
 -- ---- a variant and its fields
 pub chosen : {n : ℕ} {X Z : Type 0} {form : X → List Entry} {P : ((ℕ → ℕ) → X) → Type 0} (k : Kind) → ((v : Token) → Suits k v → Variant k v) → (top p : ℕ) (s : Sort n Z) (con : Z → X) (z : Z)
@@ -196,28 +212,56 @@ chosen {n} k v top p s con z l ks (literal false m ∷ vs) es h i =
 chosen k v top p s con z l ks (label m ∷ vs) es h i = absurd (v (label m) (h .fits .0))
 chosen k v top p s con z l ks (invalid ∷ vs) es h i = absurd (v invalid (h .fits .0))
 
--- an enum: its form, its kind and the place of its last variant, what holds of its values, and a value without its targets
-pub record Enum (X : Type 0) : Type 1 where
+-- an enum: its form, its kind and the place of its last variant, and a value without its targets
+pub record Enum (X : Type 0) : Type 0 where
   pub form : X → List Entry
   pub kind : Kind
   pub suits : (v : Token) → Suits kind v → Variant kind v
+  pub names : Naming kind
   pub top : ℕ
-  pub Holds : X → Type 0
   pub bare : X → X
 
-abbrev pub Variants : (n : ℕ) {X : Type 0} → Enum X → X → Type 0
-Variants n e x = Turn n (e .form) (e .kind ∷ []) (e .bare) (λ y. Unit {0}) x × (Inside (e .form x) → e .Holds x)
+pub variant-fitting : {n : ℕ} {X Z : Type 0} (e : Enum X) (p : ℕ) → (leb p (e .top) ≡ true → isNamed (e .kind) p ≡ true) → (s : Sort n Z) (con : Z → X)
+    → ((w : Z) → _≡_ {A = List Kind × List Entry} (fieldsOf (e .kind) p, e .form (con w)) (s .kinds, unsigned (e .top) p ∷ s .form w))
+    → (z : Z) (m : ℕ → Mark) (ks : List Kind) → Fitting (e .form) (e .kind ∷ []) (con z) m ks
+variant-fitting {n} {X} {Z} e p t s con law z m ks =
+    let a = s .fitting z (λ n. m (suc n)) ks in
+    let n = e .names p .1 (m 0) (e .top) in
+    let l : (w : Z) → e .form (con w) ≡ unsigned (e .top) p ∷ s .form w = λ w. ap (λ t. t .1) (law w) in
+    let q : fieldsOf (e .kind) p ≡ s .kinds = ap (λ t. t .0) (law z) in
+    record {
+      bare = con (a .bare);
+      next = a .next;
+      leaves = λ es. rw (l z, l (a .bare), n, q) (ap (λ x. unsigned (e .top) p ∷ x) (a .leaves es));
+      fits = λ es. rw (l z, n, q) (λ i h. (e .names p .0 (is-variant (e .kind) p (t (i .0))), a .fits es (i .1) h));
+    }
 
-pub variant : {n : ℕ} {X Z : Type 0} (e : Enum X) (p : ℕ) (s : Sort n Z) (con : Z → X) (z : Z)
+abbrev pub Variants : (n : ℕ) {X : Type 0} → Enum X → X → Type 0
+Variants n e x = Turn n (e .form) (e .kind ∷ []) (e .bare) (λ y. Unit {0}) x × ((m : ℕ → Mark) (ks : List Kind) → Fitting (e .form) (e .kind ∷ []) x m ks)
+
+pub variant : {n : ℕ} {X Z : Type 0} (e : Enum X) (p : ℕ) → (leb p (e .top) ≡ true → isNamed (e .kind) p ≡ true) → (s : Sort n Z) (con : Z → X) (z : Z)
     → ((w : Z) → _≡_ {A = List Kind × List Entry × X} (fieldsOf (e .kind) p, e .form (con w), e .bare (con w)) (s .kinds, unsigned (e .top) p ∷ s .form w, con (s .bare w)))
-    → (s .Holds z → e .Holds (con z)) → Variants n e (con z)
-variant {n} {X} {Z} e p s con z law k =
+    → Variants n e (con z)
+variant {n} {X} {Z} e p t s con z law =
     let form : (w : Z) → e .form (con w) ≡ unsigned (e .top) p ∷ s .form w = λ w. ap (λ t. t .1) (law w) in
     let bare : (w : Z) → e .bare (con w) ≡ con (s .bare w) = λ w. ap (λ t. t .2) (law w) in (
       λ ks vs es h i. chosen (e .kind) (e .suits) (e .top) p s con z (λ l. (ap (λ t. t .0) (law z), form, λ y q a. (λ f. bare (y f) ∙ ap con (q f) ∙ sym (bare z), tt)))
           ks vs es (rw (form z) at h) (rw (form z) at i),
-      λ i. k (s .holds z ((subst Inside (form z) i) .1)),
+      variant-fitting e p t s con (λ w. ap (λ t. (t .0, t .1)) (law w)) z,
     )
 
 abbrev pub enum : {n : ℕ} {X : Type 0} (e : Enum X) → ((x : X) → Variants n e x) → Sort n X
-enum e t = record { form = e .form; kinds = e .kind ∷ []; Holds = e .Holds; holds = λ x. t x .1; bare = e .bare; Aims = λ y. Unit {0}; turn = λ x. t x .0 }
+enum e t = record { form = e .form; kinds = e .kind ∷ []; bare = e .bare; Aims = λ y. Unit {0}; turn = λ x. t x .0; fitting = λ x. t x .1 }
+
+-- an enum without fields
+abbrev pub choice : {n : ℕ} {X : Type 0} (k : Kind) → ((m : ℕ) → fieldsOf k m ≡ []) → ((v : Token) → Suits k v → Variant k v) → (top : ℕ) (p : X → ℕ) → all (isNamed k) (suc top) ≡ true → Naming k → Sort n X
+choice {n} {X} k s u top p t c = record {
+  form = λ x. unsigned top (p x) ∷ [];
+  kinds = k ∷ [];
+  bare = λ x. x;
+  Aims = λ y. Unit {0};
+  turn = plain-turned k (λ m. (s m, u (label m), u invalid)) (λ x. unsigned top (p x));
+  fitting = λ x.
+      let e : Enum X = record { form = λ x. unsigned top (p x) ∷ []; kind = k; suits = u; names = c; top = top; bare = λ x. x } in
+      variant-fitting {n = n} e (p x) (λ h. below (isNamed k) (suc top) t (p x) (omega (arith, leb-true (p x) top h))) none (λ w. x) (λ w i. (s (p x) i, unsigned top (p x) ∷ [])) tt;
+}

@@ -1,36 +1,24 @@
 -- Measured lines: each counts at least one word, as many as it lays down at any address, and the addresses are of 32 bits.
-use Prim.Native.Nat.{ℕ, zero, suc, pred, _+_, _*_, _-_, _/_, _^_, _≤_, _<_}
-use mathlib.Core.Path.{_≡_, refl, sym, subst}
+use Prim.Native.Nat.{ℕ, suc, pred, _+_, _*_, _-_, _/_, _^_, _≤_, _<_}
+use mathlib.Core.Path.{_≡_, sym, subst}
 use mathlib.Core.Bool.{false}
 use mathlib.Core.List.{List, [], _∷_}
 use native.Mathlib.Omega.{arith}
-use lib.ListN.{length, take, getD}
+use lib.ListN.{length, getD}
 use Rattle.isa.specs.declared.Instruction.{Instruction}
-use Rattle.encode_spec.specs.Item as item
-use Rattle.encode_spec.specs.Encode.{itemsOf, wordsOf, refusalOf, measuredAs, sizeOf}
+use Rattle.encode_spec.specs.Encode.{itemsOf, wordsOf, refusalOf, sizeOf}
 use Rattle.sheet_spec.specs.Made.{addressIn}
 use Rattle.read_operand_laws.specs.Facts.{words-count}
+use Rattle.sheet_token_laws.specs.Listing.{measured-size}
 use Rattle.sheet_spec.specs.Sheet.{linesIn, sizedOf, counted, total}
 use Rattle.sheet_spec.specs.Translate.{startIn, countIn, addressesIn, needIn}
 use Rattle.sheet_spec.specs.Follow.{lineAt, addressOf, countOf}
-use Rattle.sheet_laws.specs.Follows.{address-is, address-next}
-use Rattle.sheet_laws.specs.Turned.{Bounded}
-use Rattle.sheet_laws.specs.Made.{LineMade, line-made}
+use Rattle.sheet_size_laws.specs.Image.{address-is, address-next, total-take}
+use Rattle.sheet_form_laws.specs.Turned.{Bounded}
+use Rattle.sheet_size_laws.specs.Made.{LineMade, line-made}
 use Rattle.m68k.specs.Lays.{instruction-lays, alike-count}
 
-measured-size : (v : item.Verdict) (k : ℕ) → measuredAs v k .number ≡ 0 → measuredAs v k .size ≡ k
-measured-size item.fine k h = refl
-measured-size item.malformed k h = absurd (omega arith)
-measured-size (item.outOfRange f z) k h = absurd (omega arith)
-measured-size (item.noEncoding r) k h = absurd (omega arith)
-
 -- ---- counts of lines
-total-take : (m : ℕ) (ls : List (List ℕ)) (k : ℕ) → total m (take k ls) ≤ total m ls
-total-take m [] zero = omega arith
-total-take m [] (suc k) = omega arith
-total-take m (l ∷ ls) zero = omega arith
-total-take m (l ∷ ls) (suc k) = omega (arith, total-take m ls k)
-
 total-some : (m : ℕ) (ls : List (List ℕ)) → ((j : ℕ) → j < length ls → 1 ≤ counted m (getD ls j [])) → length ls ≤ total m ls
 total-some m [] h = omega arith
 total-some m (l ∷ ls) h = omega (arith, h 0 (omega arith), total-some m ls (λ j q. h (suc j) (omega arith)))

@@ -2,14 +2,12 @@
 use Prim.Native.Nat.{ℕ, _/_}
 use mathlib.Core.Path.{_≡_, refl, sym, ap, _∙_, subst}
 use mathlib.Core.Bool.{Bool, true, false}
-use mathlib.Core.List.{List, [], _∷_, map, map-map, append-nil}
+use mathlib.Core.List.{List, [], _∷_, map, append-nil}
 use native.Mathlib.Omega.{arith}
-use lib.IntN.{natAbs}
-use lib.ListN.{length, length-map}
 use Rattle.isa.specs.declared.Instruction.{Instruction}
 use Rattle.isa.specs.declared.Measured.{Measured}
 use Rattle.encode_spec.specs.Encode.{sizeOf}
-use Rattle.numeric_fields.specs.Form.{Entry, numberOf, Inside, isNegative, pad, numbersFrom}
+use Rattle.numeric_fields.specs.Form.{Inside}
 use Rattle.numeric_build.specs.declared.Built.{Built}
 use Rattle.numeric_build.specs.declared.Built.the-variants as built
 use Rattle.numeric_build.specs.Build.{buildOf}
@@ -18,13 +16,12 @@ use Rattle.numeric_build.specs.RoundTrip.{build-numbers}
 use Rattle.sheet_spec.specs.declared.Kind.the-variants as kind
 use Rattle.sheet_spec.specs.Line.{Token, says, lineOf}
 use Rattle.sheet_spec.specs.Spell.{numberAs, Fits}
-use Rattle.sheet_spec.specs.Made.{numbersAs, madeAs, madeOf, namesAll, namesIn}
-use Rattle.sheet_form_laws.specs.LineForm.{line-spelled}
-use Rattle.sheet_form_laws.specs.InForm.{form-sound}
+use Rattle.sheet_spec.specs.Made.{madeAs, madeOf, namesAll, namesIn}
+use Rattle.sheet_token_laws.specs.Numbers.{entries, numbers-are, made-line}
 use Rattle.sheet_spec.specs.Sheet.{sizedAs, sizedOf, counted}
-use Rattle.sheet_laws.specs.Turned.{Spelt, Bounded, Turned}
-use Rattle.sheet_laws.specs.Lawful.{Follows, entries}
-use Rattle.sheet_laws.specs.Renamed.{instruction-turned}
+use Rattle.sheet_form_laws.specs.Turned.{Spelt, Bounded, Turned}
+use Rattle.sheet_size_laws.specs.Lawful.{Follows}
+use Rattle.sheet_size_laws.specs.Renamed.{instruction-turned}
 
 -- ---- what `sizedOf` accepts
 record SizedLine (b : Built) (named : Bool) : Type 0 where
@@ -38,15 +35,6 @@ sized-is : (b : Built) (named : Bool) → sizedAs b named .number ≡ 0 → Size
 sized-is (built.Instruction i) true h = record { instruction = i; is = refl; names = refl; number = h; measured = refl }
 sized-is (built.Instruction i) false h = absurd (omega arith)
 sized-is built.NotInForm named h = absurd (omega arith)
-
--- ---- numbers said and numbers of entries
-numbers-are : (f : ℕ → ℕ) (vs : List Token) (es : List Entry) → Spelt f vs es → numbersAs f vs ≡ numbersFrom es
-unfolding numbersAs numbersFrom
-numbers-are f vs es e =
-    let c : length vs ≡ length es = sym (length-map vs (numberAs f)) ∙ ap length e ∙ length-map es numberOf in
-    let n = sym (map-map isNegative (numberAs f) vs) ∙ ap (map isNegative) e ∙ map-map isNegative numberOf es in
-    let m = sym (map-map natAbs (numberAs f) vs) ∙ ap (map natAbs) e ∙ map-map natAbs numberOf es in
-    λ i. record { count = c i; negative = pad 24 false (n i); magnitude = pad 24 0 (m i) }
 
 empty-spelt : (f : ℕ → ℕ) (vs : List Token) → Fits [] vs → Spelt f vs []
 empty-spelt f [] h = refl
@@ -79,10 +67,10 @@ unfolding sizedOf counted
 line-made n line h =
     let s = sized-is (madeOf (λ k. 0) line) (namesIn n (lineOf line)) h in
     let i = s .instruction in
-    let d = form-sound line i (s .is) in
+    let d = made-line line i (s .is) in
     let vs = d .0 in
-    let l : lineOf line ≡ says vs = ap lineOf (d .2) ∙ line-spelled vs (d .1 .grammar) in
-    let t = line-turned n line i vs l (d .1 .grammar) (sym (ap (namesIn n) l) ∙ s .names) (d .1 .numbers) (d .1 .inside) in
+    let l : lineOf line ≡ says vs = d .1 in
+    let t = line-turned n line i vs l (d .2 .grammar) (sym (ap (namesIn n) l) ∙ s .names) (d .2 .numbers) (d .2 .inside) in
     record {
       first = i;
       number = s .number;

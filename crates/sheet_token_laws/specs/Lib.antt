@@ -1,0 +1,7 @@
+pub mod Facts
+pub mod Names
+pub mod Fields
+pub mod Lines
+pub mod Numbers
+pub mod Listing
+pub mod SheetLaws

@@ -1,0 +1,49 @@
+-- Facts about the verdicts on a sheet, about what `size` says, and about lent places.
+use Prim.Native.Nat.{ℕ, _≤_}
+use mathlib.Core.Path.{_≡_, refl}
+use mathlib.Core.Bool.{Bool, true, false, cond}
+use mathlib.Core.List.{List}
+use native.Mathlib.Omega.{arith}
+use lib.Dec.{eqb}
+use lib.IntN.{ℤ}
+use lib.ListN.{length, length-append, length-drop}
+use borrow.Author.Tests.{eqb-true, ne-eqb}
+use Rattle.encode_spec.specs.Item as item
+use Rattle.encode_spec.specs.Encode.{measuredAs}
+use Rattle.sheet_spec.specs.Translate.{Outcome, passed, refused, andThen, require, asOutcome, over}
+
+-- ---- verdicts
+pub refused-not : {C : Type 0} {number line detail : ℕ} {value : ℤ} → refused number line detail value ≡ passed → C
+refused-not e = let z : _≡_ {A = ℕ} 0 1 = cc in absurd (omega arith)
+
+pub both-fine : (u v : Outcome) → andThen u v ≡ passed → (u ≡ passed) × (v ≡ passed)
+both-fine passed v e = (refl, e)
+both-fine (refused number line detail value) v e = refused-not e
+
+pub unless-true : (b : Bool) (k : ℕ) → require b k ≡ passed → b ≡ true
+unless-true true k e = refl
+unless-true false k e = refused-not e
+
+pub as-fine : (k number detail : ℕ) (value : ℤ) → number ≡ 0 → asOutcome k number detail value ≡ passed
+as-fine k number detail value e = rw e
+
+pub as-refused : (k number detail : ℕ) (value : ℤ) → (number ≡ 0 → ⊥) → asOutcome k number detail value ≡ refused number k detail value
+as-refused k number detail value e = rw (ne-eqb number 0 e)
+
+pub fine-zero : (k number detail : ℕ) (value : ℤ) → asOutcome k number detail value ≡ passed → number ≡ 0
+fine-zero k number detail value e = go (eqb number 0) refl e
+  where
+    go : (t : Bool) → eqb number 0 ≡ t → cond t passed (refused number k detail value) ≡ passed → number ≡ 0
+    go true h e = eqb-true number 0 h
+    go false h e = refused-not e
+
+-- ---- what is measured where nothing is refused
+pub measured-size : (v : item.Verdict) (k : ℕ) → measuredAs v k .number ≡ 0 → measuredAs v k .size ≡ k
+measured-size item.fine k h = refl
+measured-size item.malformed k h = absurd (omega arith)
+measured-size (item.outOfRange f z) k h = absurd (omega arith)
+measured-size (item.noEncoding r) k h = absurd (omega arith)
+
+-- ---- places written in front of others
+pub over-length : (x v : List ℕ) → length x ≤ length v → length (over x v) ≡ length v
+over-length x v h = rw (length-append, length-drop) (omega arith)

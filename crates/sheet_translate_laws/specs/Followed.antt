@@ -1,0 +1,69 @@
+-- Demand 3 of what `translate` returns and leaves: Translated is what it ensures.
+use Prim.Native.Nat.{ℕ, zero, suc, pred, _+_, _*_, _-_, _/_, _≤_}
+use mathlib.Core.Path.{_≡_, sym, _∙_}
+use mathlib.Core.Bool.{Bool}
+use mathlib.Core.List.{List, _++_}
+use native.Mathlib.Omega.{arith}
+use lib.ListN.{length, take, drop, getD, length-drop}
+use lib.Seq.{take-append-le, drop-append-le}
+use Rattle.read_spec.specs.declared.Reading.the-variants.{Read}
+use Rattle.sheet_spec.specs.declared.Listed.{Listed}
+use Rattle.sheet_spec.specs.Sheet.{linesIn, total}
+use Rattle.sheet_spec.specs.Translate.{startIn, countIn, addressesIn, needIn, imageIn}
+use Rattle.sheet_spec.specs.Follow.{Together, byLines, byWords, readingAt, plainLine, addressOf, countOf}
+use Rattle.sheet_size_laws.specs.Image.{wordsAt, total-part}
+use Rattle.sheet_size_laws.specs.Counted.{each-stands, image-counts}
+use Rattle.sheet_laws.specs.Demand3.{demand-3, each-line}
+use Rattle.sheet_translate.specs.Translated.{Translated}
+use Rattle.sheet_translate.specs.PlaceLaws.{over-drop, addresses-length}
+use Rattle.sheet_translate.specs.Left.{Left, left}
+
+-- no refusal: the counts; the followers of the lines and of the words left stay together after any choices; each line, reached or not, reads
+-- at its address as its plain form, its words stand at its place in the image and its address in the scratch; later words and places are unchanged
+pub record Followed (text v s v′ s′ : List ℕ) (r : Listed) : Type 0 where
+  pub lines : r .lines ≡ countIn text
+  pub counted : r .words ≡ needIn text
+  pub words : take (r .words) v′ ≡ imageIn text
+  pub together : (choices : List Bool)
+      → Together text (take (r .words) v′) (byLines text choices) (byWords (startIn text) (take (r .words) v′) choices)
+  pub reads : (n : ℕ) → 1 ≤ n → n ≤ r .lines
+      → readingAt (startIn text) (take (r .words) v′) (addressOf text n) ≡ Read (plainLine text n) (2 * countOf text n)
+  pub each : (n : ℕ) → 1 ≤ n → n ≤ r .lines → take (countOf text n) (drop ((addressOf text n - startIn text) / 2) v′) ≡ wordsAt text n
+  pub addresses : (n : ℕ) → 1 ≤ n → n ≤ r .lines → getD s′ (pred n) 0 ≡ addressOf text n
+  pub later-words : drop (r .words) v′ ≡ drop (r .words) v
+  pub later-places : drop (r .lines) s′ ≡ drop (r .lines) s
+
+-- ---- the words of a line in a longer run
+part-front : (x y : List ℕ) (at k : ℕ) → at + k ≤ length x → take k (drop at (x ++ y)) ≡ take k (drop at x)
+part-front x y at k h = rw (drop-append-le at x y (omega arith), take-append-le k (drop at x) y (rw length-drop (omega arith)))
+
+module _ (text v s v′ s′ : List ℕ) (r : Listed) (l : Left text v s v′ s′ r) where
+  each-at : (n : ℕ) → 1 ≤ n → n ≤ countIn text → take (countOf text n) (drop ((addressOf text n - startIn text) / 2) v′) ≡ wordsAt text n
+  each-at zero g k = absurd (omega arith)
+  each-at (suc n) g k =
+      let o : (addressOf text (suc n) - startIn text) / 2 ≡ total (countIn text) (take n (linesIn text)) = omega arith in
+      let fits : total (countIn text) (take n (linesIn text)) + countOf text (suc n) ≤ length (imageIn text) =
+      omega (arith, total-part (countIn text) (linesIn text) n k, image-counts text (length s) (length v) (l .accepts)) in
+      rw (l .image, o) (part-front (imageIn text) (drop (length (imageIn text)) v) (total (countIn text) (take n (linesIn text))) (countOf text (suc n)) fits)
+      ∙ each-stands text (length s) (length v) (l .accepts) n k
+
+  reads-at : (n : ℕ) → 1 ≤ n → n ≤ countIn text
+      → readingAt (startIn text) (take (r .words) v′) (addressOf text n) ≡ Read (plainLine text n) (2 * countOf text n)
+  reads-at zero g k = absurd (omega arith)
+  reads-at (suc n) g k = rw (l .words) (each-line text (length s) (length v) (l .accepts) n k)
+
+-- DEMAND 3
+pub translated-stands : (text v s v′ s′ : List ℕ) (r : Listed) → Translated text v s v′ s′ r → r .number ≡ 0 → Followed text v s v′ s′ r
+translated-stands text v s v′ s′ r t h =
+    let l = left text v s v′ s′ r t h in
+    record {
+      lines = l .lines;
+      counted = l .counted;
+      words = l .words;
+      together = λ choices. rw (l .words) (demand-3 text (length s) (length v) (l .accepts) choices);
+      reads = λ n g k. reads-at text v s v′ s′ r l n g (omega (arith, l .lines));
+      each = λ n g k. each-at text v s v′ s′ r l n g (omega (arith, l .lines));
+      addresses = λ n g k. l .addresses n g (omega (arith, l .lines));
+      later-words = rw (l .image) (over-drop (imageIn text) v (r .words) (image-counts text (length s) (length v) (l .accepts) ∙ sym (l .counted)));
+      later-places = rw (l .scratch) (over-drop (addressesIn text) s (r .lines) (addresses-length (countIn text) (startIn text) (linesIn text) ∙ sym (l .lines)));
+    }

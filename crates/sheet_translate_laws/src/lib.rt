@@ -1,0 +1,1 @@
+// Laws alone: what `translate` returns and leaves has demand 3.
