@@ -7,7 +7,7 @@ use lib.ListN.{take}
 use Rattle.isa.specs.declared.Encoded.{Encoded}
 use Rattle.isa.specs.declared.Measured.{Measured}
 use Rattle.encode_spec.specs.Encode.{encodeOf, sizeOf}
-use Rattle.numeric_fields.specs.declared.Numbers.{Numbers}
+use Rattle.numeric_spec.specs.declared.Numbers.{Numbers}
 use Rattle.numeric_build.specs.declared.Built.{Built}
 use Rattle.numeric_build.specs.declared.Built.the-variants.{Instruction, NotInForm}
 use Rattle.numeric_fields.specs.Number.{longAt}

@@ -10,7 +10,7 @@ use base_text::Step;
 use isa::Encoded;
 use isa::Measured;
 use numeric_build::Built;
-use numeric_fields::Numbers;
+use numeric_spec::Numbers;
 
 // Each word, and a tab.
 fn put_words(out: &mut [u8], at: usize, words: [u16; 11], count: usize) -> usize
@@ -77,7 +77,7 @@ fn put_numbers(out: &mut [u8], at: usize, numbers: Numbers) -> usize
     requires { ⌜ at + 95 ≤ length (now out) ⌝ }
     ensures { λ r. ⌜ Wrote (now (out .entry)) at (numbersText numbers) (now (out .exit)) r × (r ≤ at + 95) ⌝ }
 {
-    let address = numeric_fields::number::long_at(numbers, 0);
+    let address = numeric_fields::number::long_in(numbers, 0);
     if address.ok {
         put_built(out, at, numeric_build::build(numbers, 1), address.value)
     } else {

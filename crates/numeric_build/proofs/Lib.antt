@@ -1,2 +1,3 @@
-pub mod Table
-pub mod Finished
+mod Walk
+pub mod Below
+mod Lines

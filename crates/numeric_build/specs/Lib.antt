@@ -1,7 +1,2 @@
-pub mod Operation
-pub mod Shape
-pub mod Table
+pub mod Row
 pub mod Build
-pub mod Form
-pub mod FormLaws
-pub mod RoundTrip

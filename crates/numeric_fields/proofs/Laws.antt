@@ -7,9 +7,10 @@ use lib.Dec.{ltb, leb, eqb}
 use lib.ListN.{getD}
 use lib.IntN.{ℤ, pos, negsuc, natAbs}
 use borrow.Author.Tests.{ltb-true, leb-true, lt-ltb, le-ltb, ne-eqb}
-use Rattle.numeric_fields.specs.declared.Numbers.{Numbers}
+use Rattle.numeric_spec.specs.declared.Numbers.{Numbers}
 use Rattle.numeric_fields.specs.declared.UnsignedAt.{UnsignedAt}
-use Rattle.numeric_fields.specs.Number.{minus, numberAt, present, upTo, isI32, unsignedAt, signedAt}
+use Rattle.numeric_spec.specs.Number.{minus, numberAt, present, isI32}
+use Rattle.numeric_fields.specs.Number.{upTo, unsignedAt, signedAt}
 
 -- what is left after n numbers
 abbrev pub Rest : ℕ → ℕ → Type 0

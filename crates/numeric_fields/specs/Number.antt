@@ -1,37 +1,26 @@
--- The numbers, and a number read from a place: whether it is there and inside its declared type, its value, and the next place.
+-- A number read from a place: whether it is there and inside its declared type, its value, and the next place.
 -- What is not there leaves the place and the value 0.
-use Prim.Native.Nat.{ℕ, zero, suc, _+_, _-_, _^_}
+use Prim.Native.Nat.{ℕ, _+_, _-_, _^_}
 use mathlib.Core.Bool.{Bool, true, false, _&&_, cond}
-use lib.Dec.{ltb, leb, eqb}
-use lib.ListN.{getD}
+use mathlib.Core.List.{List}
+use lib.Dec.{leb}
 use lib.IntN.{ℤ, pos, negsuc, natAbs}
-use Rattle.numeric_fields.specs.declared.Numbers.{Numbers}
+use Rattle.numeric_spec.specs.declared.Numbers.{Numbers}
 use Rattle.numeric_fields.specs.declared.UnsignedAt.{UnsignedAt}
 use Rattle.numeric_fields.specs.declared.SignedAt.{SignedAt}
 use Rattle.numeric_fields.specs.declared.ByteAt.{ByteAt}
 use Rattle.numeric_fields.specs.declared.WordAt.{WordAt}
 use Rattle.numeric_fields.specs.declared.LongAt.{LongAt}
-use Rattle.numeric_fields.specs.declared.FlagAt.{FlagAt}
+use Rattle.numeric_spec.specs.Number.{numberAt, present, isI32}
 
-abbrev pub minus : ℕ → ℤ
-minus zero = pos zero
-minus (suc n) = negsuc n
+-- the numbers that the code lends
+abbrev pub numbersIn : ℕ → List Bool → List ℕ → Numbers
+numbersIn count negative magnitude = record { count = count; negative = negative; magnitude = magnitude }
 
--- number k, which stands where k is below the count and 24
-abbrev pub numberAt : Numbers → ℕ → ℤ
-numberAt ns k = cond (getD (ns .negative) k false) (minus (getD (ns .magnitude) k 0)) (pos (getD (ns .magnitude) k 0))
-
-abbrev pub present : Numbers → ℕ → Bool
-present ns k = ltb k 24 && ltb k (ns .count)
-
--- z is 0 to top; z is an i32
+-- z is 0 to top
 abbrev pub upTo : ℕ → ℤ → Bool
 upTo top (pos n) = leb n top
 upTo top (negsuc n) = false
-
-abbrev pub isI32 : ℤ → Bool
-isI32 (pos n) = ltb n (2 ^ 31)
-isI32 (negsuc n) = ltb n (2 ^ 31)
 
 unfoldable pub unsignedAt : ℕ → Numbers → ℕ → UnsignedAt
 unsignedAt top ns k =
@@ -53,6 +42,3 @@ wordAt ns k = let n = unsignedAt (2 ^ 16 - 1) ns k in record { ok = n .ok; value
 
 unfoldable pub longAt : Numbers → ℕ → LongAt
 longAt ns k = let n = unsignedAt (2 ^ 32 - 1) ns k in record { ok = n .ok; value = n .value; next = n .next }
-
-unfoldable pub flagAt : Numbers → ℕ → FlagAt
-flagAt ns k = let n = unsignedAt 1 ns k in record { ok = n .ok; value = eqb (n .value) 1; next = n .next }

@@ -5,35 +5,17 @@ use mathlib.Core.Bool.{true, _&&_}
 use lib.ListN.{getD}
 use Rattle.isa.specs.declared.Size.{Size}
 use Rattle.isa.specs.declared.Size.the-variants as size
-use Rattle.isa.specs.declared.TargetDirection.{TargetDirection}
-use Rattle.isa.specs.declared.TargetDirection.the-variants.{ToMemory, FromMemory}
 use Rattle.isa.specs.declared.AddressWidth.{AddressWidth}
 use Rattle.isa.specs.declared.AddressWidth.the-variants as width
-use Rattle.isa.specs.declared.Condition.{Condition}
-use Rattle.isa.specs.declared.Condition.the-variants.{True, False, High, LowOrSame, CarryClear, CarrySet, NotEqual, Equal, OverflowClear, OverflowSet, Plus, Minus, GreaterThanOrEqual, LessThan, GreaterThan, LessThanOrEqual}
-use Rattle.isa.specs.declared.BranchSize.{BranchSize}
-use Rattle.isa.specs.declared.BranchSize.the-variants as branch
-use Rattle.isa.specs.declared.ShiftDirection.{ShiftDirection}
-use Rattle.isa.specs.declared.ShiftDirection.the-variants.{Right, Left}
-use Rattle.isa.specs.declared.Sign.{Sign}
-use Rattle.isa.specs.declared.Sign.the-variants.{Signed, Unsigned}
-use Rattle.isa.specs.declared.BitFieldOperation.{BitFieldOperation}
-use Rattle.isa.specs.declared.BitFieldOperation.the-variants.{Test, ExtractUnsigned, Change, ExtractSigned, Clear, FindFirstOne, Set, Insert}
 use Rattle.isa.specs.declared.RegisterOperand.{RegisterOperand}
 use Rattle.isa.specs.declared.RegisterOperand.the-variants.{Address, Data}
 use Rattle.isa.specs.declared.FieldValue.{FieldValue}
 use Rattle.isa.specs.declared.FieldValue.the-variants as value
 use Rattle.isa.specs.declared.TrapOperand.the-variants as trap
 use Rattle.isa.specs.declared.RegisterChoice.the-variants as choice
-use Rattle.numeric_fields.specs.declared.Numbers.{Numbers}
+use Rattle.numeric_spec.specs.declared.Numbers.{Numbers}
 use Rattle.numeric_fields.specs.declared.SizeAt.{SizeAt}
-use Rattle.numeric_fields.specs.declared.TargetDirectionAt.{TargetDirectionAt}
 use Rattle.numeric_fields.specs.declared.AddressWidthAt.{AddressWidthAt}
-use Rattle.numeric_fields.specs.declared.ConditionAt.{ConditionAt}
-use Rattle.numeric_fields.specs.declared.BranchSizeAt.{BranchSizeAt}
-use Rattle.numeric_fields.specs.declared.ShiftDirectionAt.{ShiftDirectionAt}
-use Rattle.numeric_fields.specs.declared.SignAt.{SignAt}
-use Rattle.numeric_fields.specs.declared.BitFieldOperationAt.{BitFieldOperationAt}
 use Rattle.numeric_fields.specs.declared.RegisterAt.{RegisterAt}
 use Rattle.numeric_fields.specs.declared.IndexAt.{IndexAt}
 use Rattle.numeric_fields.specs.declared.FieldValueAt.{FieldValueAt}
@@ -50,14 +32,6 @@ sizeAt ns k =
     let n = unsignedAt 2 ns k in
     record { ok = n .ok; size = sizeOf (n .value); next = n .next }
 
-abbrev pub targetDirectionOf : ℕ → TargetDirection
-targetDirectionOf place = getD (ToMemory ∷ FromMemory ∷ []) place ToMemory
-
-unfoldable pub targetDirectionAt : Numbers → ℕ → TargetDirectionAt
-targetDirectionAt ns k =
-    let n = unsignedAt 1 ns k in
-    record { ok = n .ok; direction = targetDirectionOf (n .value); next = n .next }
-
 abbrev pub addressWidthOf : ℕ → AddressWidth
 addressWidthOf place = getD (width.Word ∷ width.Long ∷ []) place width.Word
 
@@ -65,46 +39,6 @@ unfoldable pub addressWidthAt : Numbers → ℕ → AddressWidthAt
 addressWidthAt ns k =
     let n = unsignedAt 1 ns k in
     record { ok = n .ok; width = addressWidthOf (n .value); next = n .next }
-
-abbrev pub conditionOf : ℕ → Condition
-conditionOf place = getD (True ∷ False ∷ High ∷ LowOrSame ∷ CarryClear ∷ CarrySet ∷ NotEqual ∷ Equal ∷ OverflowClear ∷ OverflowSet ∷ Plus ∷ Minus ∷ GreaterThanOrEqual ∷ LessThan ∷ GreaterThan ∷ LessThanOrEqual ∷ []) place True
-
-unfoldable pub conditionAt : Numbers → ℕ → ConditionAt
-conditionAt ns k =
-    let n = unsignedAt 15 ns k in
-    record { ok = n .ok; condition = conditionOf (n .value); next = n .next }
-
-abbrev pub branchSizeOf : ℕ → BranchSize
-branchSizeOf place = getD (branch.Short ∷ branch.Word ∷ branch.Long ∷ []) place branch.Short
-
-unfoldable pub branchSizeAt : Numbers → ℕ → BranchSizeAt
-branchSizeAt ns k =
-    let n = unsignedAt 2 ns k in
-    record { ok = n .ok; size = branchSizeOf (n .value); next = n .next }
-
-abbrev pub shiftDirectionOf : ℕ → ShiftDirection
-shiftDirectionOf place = getD (Right ∷ Left ∷ []) place Right
-
-unfoldable pub shiftDirectionAt : Numbers → ℕ → ShiftDirectionAt
-shiftDirectionAt ns k =
-    let n = unsignedAt 1 ns k in
-    record { ok = n .ok; direction = shiftDirectionOf (n .value); next = n .next }
-
-abbrev pub signOf : ℕ → Sign
-signOf place = getD (Signed ∷ Unsigned ∷ []) place Signed
-
-unfoldable pub signAt : Numbers → ℕ → SignAt
-signAt ns k =
-    let n = unsignedAt 1 ns k in
-    record { ok = n .ok; sign = signOf (n .value); next = n .next }
-
-abbrev pub bitFieldOperationOf : ℕ → BitFieldOperation
-bitFieldOperationOf place = getD (Test ∷ ExtractUnsigned ∷ Change ∷ ExtractSigned ∷ Clear ∷ FindFirstOne ∷ Set ∷ Insert ∷ []) place Test
-
-unfoldable pub bitFieldOperationAt : Numbers → ℕ → BitFieldOperationAt
-bitFieldOperationAt ns k =
-    let n = unsignedAt 7 ns k in
-    record { ok = n .ok; operation = bitFieldOperationOf (n .value); next = n .next }
 
 unfoldable pub registerOf : ℕ → ℕ → RegisterOperand
 registerOf place number = getD (Address number ∷ Data number ∷ []) place (Address number)

@@ -2,30 +2,18 @@
 // variant's place, counted from 0, then its fields in declared order.
 use isa::AddressWidth;
 use isa::BitField;
-use isa::BitFieldOperation;
-use isa::BranchSize;
-use isa::Condition;
 use isa::FieldValue;
 use isa::IndexRegister;
 use isa::Operand;
 use isa::RegisterChoice;
 use isa::RegisterOperand;
-use isa::ShiftDirection;
-use isa::Sign;
 use isa::Size;
-use isa::TargetDirection;
 use isa::TrapOperand;
+pub use numeric_spec::Numbers;
 
 pub mod number; // numbers inside their declared types
 pub mod part; // enums and registers
 pub mod operand; // operands
-
-// Number k is magnitude[k], negated where negative[k]; at or past count there is none.
-pub struct Numbers {
-    pub count: usize,
-    pub negative: [bool; 24],
-    pub magnitude: [u64; 24],
-}
 
 // What stands from a place on, whether it is in the form, and the place after it.
 pub struct UnsignedAt {
@@ -58,57 +46,15 @@ pub struct LongAt {
     pub next: usize,
 }
 
-pub struct FlagAt {
-    pub ok: bool,
-    pub value: bool,
-    pub next: usize,
-}
-
 pub struct SizeAt {
     pub ok: bool,
     pub size: Size,
     pub next: usize,
 }
 
-pub struct TargetDirectionAt {
-    pub ok: bool,
-    pub direction: TargetDirection,
-    pub next: usize,
-}
-
 pub struct AddressWidthAt {
     pub ok: bool,
     pub width: AddressWidth,
-    pub next: usize,
-}
-
-pub struct ConditionAt {
-    pub ok: bool,
-    pub condition: Condition,
-    pub next: usize,
-}
-
-pub struct BranchSizeAt {
-    pub ok: bool,
-    pub size: BranchSize,
-    pub next: usize,
-}
-
-pub struct ShiftDirectionAt {
-    pub ok: bool,
-    pub direction: ShiftDirection,
-    pub next: usize,
-}
-
-pub struct SignAt {
-    pub ok: bool,
-    pub sign: Sign,
-    pub next: usize,
-}
-
-pub struct BitFieldOperationAt {
-    pub ok: bool,
-    pub operation: BitFieldOperation,
     pub next: usize,
 }
 

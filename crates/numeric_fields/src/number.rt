@@ -1,9 +1,9 @@
 // Numbers inside their declared types.
 ghost use mathlib.Core.Path.{_≡_};
 ghost use Prim.Native.Nat.{_≤_, _<_};
-ghost use Rattle.numeric_fields.specs.Number.{minus, unsignedAt, signedAt, byteAt, wordAt, longAt, flagAt};
+ghost use Rattle.numeric_spec.specs.Number.{minus};
+ghost use Rattle.numeric_fields.specs.Number.{numbersIn, unsignedAt, signedAt, byteAt, wordAt, longAt};
 use crate::ByteAt;
-use crate::FlagAt;
 use crate::LongAt;
 use crate::Numbers;
 use crate::SignedAt;
@@ -11,16 +11,22 @@ use crate::UnsignedAt;
 use crate::WordAt;
 
 // A number from 0 to top.
-pub fn unsigned_at(numbers: Numbers, k: usize, top: u64) -> UnsignedAt
-    ensures { λ r. ⌜ r ≡ unsignedAt top numbers k ⌝ }
+pub fn unsigned_at(
+    count: usize,
+    negative: &[bool; 24],
+    magnitude: &[u64; 24],
+    k: usize,
+    top: u64,
+) -> UnsignedAt
+    ensures { λ r. ⌜ r ≡ unsignedAt top (numbersIn count (now (negative .entry)) (now (magnitude .entry))) k ⌝ }
 {
     if k < 24 {
-        let magnitude = numbers.magnitude[k];
-        let negative = numbers.negative[k];
-        if (k < numbers.count) & (magnitude <= top) & (!negative | (magnitude == 0)) {
+        let m = magnitude[k];
+        let minus = negative[k];
+        if (k < count) & (m <= top) & (!minus | (m == 0)) {
             UnsignedAt {
                 ok: true,
-                value: magnitude,
+                value: m,
                 next: k + 1,
             }
         } else {
@@ -48,23 +54,23 @@ fn negated(magnitude: u64) -> i32
     -1 - n
 }
 
-pub fn signed_at(numbers: Numbers, k: usize) -> SignedAt
-    ensures { λ r. ⌜ r ≡ signedAt numbers k ⌝ }
+pub fn signed_at(count: usize, negative: &[bool; 24], magnitude: &[u64; 24], k: usize) -> SignedAt
+    ensures { λ r. ⌜ r ≡ signedAt (numbersIn count (now (negative .entry)) (now (magnitude .entry))) k ⌝ }
 {
     if k < 24 {
-        let magnitude = numbers.magnitude[k];
-        let negative = numbers.negative[k];
-        let there = k < numbers.count;
-        if there & negative & (0 < magnitude) & (magnitude <= 2147483648) {
+        let m = magnitude[k];
+        let minus = negative[k];
+        let there = k < count;
+        if there & minus & (0 < m) & (m <= 2147483648) {
             SignedAt {
                 ok: true,
-                value: negated(magnitude),
+                value: negated(m),
                 next: k + 1,
             }
-        } else if there & (magnitude < 2147483648) & (!negative | (magnitude == 0)) {
+        } else if there & (m < 2147483648) & (!minus | (m == 0)) {
             SignedAt {
                 ok: true,
-                value: magnitude as i32,
+                value: m as i32,
                 next: k + 1,
             }
         } else {
@@ -83,10 +89,10 @@ pub fn signed_at(numbers: Numbers, k: usize) -> SignedAt
     }
 }
 
-pub fn byte_at(numbers: Numbers, k: usize) -> ByteAt
-    ensures { λ r. ⌜ r ≡ byteAt numbers k ⌝ }
+pub fn byte_at(count: usize, negative: &[bool; 24], magnitude: &[u64; 24], k: usize) -> ByteAt
+    ensures { λ r. ⌜ r ≡ byteAt (numbersIn count (now (negative .entry)) (now (magnitude .entry))) k ⌝ }
 {
-    let n = unsigned_at(numbers, k, 255);
+    let n = unsigned_at(count, negative, magnitude, k, 255);
     ByteAt {
         ok: n.ok,
         value: n.value as u8,
@@ -94,10 +100,10 @@ pub fn byte_at(numbers: Numbers, k: usize) -> ByteAt
     }
 }
 
-pub fn word_at(numbers: Numbers, k: usize) -> WordAt
-    ensures { λ r. ⌜ r ≡ wordAt numbers k ⌝ }
+pub fn word_at(count: usize, negative: &[bool; 24], magnitude: &[u64; 24], k: usize) -> WordAt
+    ensures { λ r. ⌜ r ≡ wordAt (numbersIn count (now (negative .entry)) (now (magnitude .entry))) k ⌝ }
 {
-    let n = unsigned_at(numbers, k, 65535);
+    let n = unsigned_at(count, negative, magnitude, k, 65535);
     WordAt {
         ok: n.ok,
         value: n.value as u16,
@@ -105,10 +111,10 @@ pub fn word_at(numbers: Numbers, k: usize) -> WordAt
     }
 }
 
-pub fn long_at(numbers: Numbers, k: usize) -> LongAt
-    ensures { λ r. ⌜ r ≡ longAt numbers k ⌝ }
+pub fn long_at(count: usize, negative: &[bool; 24], magnitude: &[u64; 24], k: usize) -> LongAt
+    ensures { λ r. ⌜ r ≡ longAt (numbersIn count (now (negative .entry)) (now (magnitude .entry))) k ⌝ }
 {
-    let n = unsigned_at(numbers, k, 4294967295);
+    let n = unsigned_at(count, negative, magnitude, k, 4294967295);
     LongAt {
         ok: n.ok,
         value: n.value as u32,
@@ -116,13 +122,11 @@ pub fn long_at(numbers: Numbers, k: usize) -> LongAt
     }
 }
 
-pub fn flag_at(numbers: Numbers, k: usize) -> FlagAt
-    ensures { λ r. ⌜ r ≡ flagAt numbers k ⌝ }
+// The same of numbers that are not lent.
+pub fn long_in(numbers: Numbers, k: usize) -> LongAt
+    ensures { λ r. ⌜ r ≡ longAt numbers k ⌝ }
 {
-    let n = unsigned_at(numbers, k, 1);
-    FlagAt {
-        ok: n.ok,
-        value: n.value == 1,
-        next: n.next,
-    }
+    let negative = numbers.negative;
+    let magnitude = numbers.magnitude;
+    long_at(numbers.count, &negative, &magnitude, k)
 }

@@ -1,7 +1,7 @@
 // Operands: the variant's place, then its fields.
 ghost use mathlib.Core.Path.{_≡_};
+ghost use Rattle.numeric_fields.specs.Number.{numbersIn};
 ghost use Rattle.numeric_fields.specs.Operand.{immediateAt, registerOperandAt, indirectAt, postIndirectAt, preIndirectAt, indirectDisplacementAt, indirectIndexAt, pcDisplacementAt, pcIndexAt, extendedAt, absoluteAt, operandOf, operandAt};
-use crate::Numbers;
 use crate::OperandAt;
 use crate::number::byte_at;
 use crate::number::long_at;
@@ -13,10 +13,10 @@ use crate::part::index_at;
 use crate::part::register_at;
 use isa::Operand;
 
-fn immediate_at(numbers: Numbers, k: usize) -> OperandAt
-    ensures { λ r. ⌜ r ≡ immediateAt numbers k ⌝ }
+fn immediate_at(count: usize, negative: &[bool; 24], magnitude: &[u64; 24], k: usize) -> OperandAt
+    ensures { λ r. ⌜ r ≡ immediateAt (numbersIn count (now (negative .entry)) (now (magnitude .entry))) k ⌝ }
 {
-    let a = long_at(numbers, k);
+    let a = long_at(count, negative, magnitude, k);
     let ok = a.ok;
     let operand = Operand::Immediate(a.value);
     OperandAt {
@@ -26,10 +26,15 @@ fn immediate_at(numbers: Numbers, k: usize) -> OperandAt
     }
 }
 
-fn register_operand_at(numbers: Numbers, k: usize) -> OperandAt
-    ensures { λ r. ⌜ r ≡ registerOperandAt numbers k ⌝ }
+fn register_operand_at(
+    count: usize,
+    negative: &[bool; 24],
+    magnitude: &[u64; 24],
+    k: usize,
+) -> OperandAt
+    ensures { λ r. ⌜ r ≡ registerOperandAt (numbersIn count (now (negative .entry)) (now (magnitude .entry))) k ⌝ }
 {
-    let a = register_at(numbers, k);
+    let a = register_at(count, negative, magnitude, k);
     let ok = a.ok;
     let register = a.register;
     let operand = Operand::Register(register);
@@ -40,10 +45,10 @@ fn register_operand_at(numbers: Numbers, k: usize) -> OperandAt
     }
 }
 
-fn indirect_at(numbers: Numbers, k: usize) -> OperandAt
-    ensures { λ r. ⌜ r ≡ indirectAt numbers k ⌝ }
+fn indirect_at(count: usize, negative: &[bool; 24], magnitude: &[u64; 24], k: usize) -> OperandAt
+    ensures { λ r. ⌜ r ≡ indirectAt (numbersIn count (now (negative .entry)) (now (magnitude .entry))) k ⌝ }
 {
-    let a = byte_at(numbers, k);
+    let a = byte_at(count, negative, magnitude, k);
     let ok = a.ok;
     let operand = Operand::Indirect(a.value);
     OperandAt {
@@ -53,10 +58,15 @@ fn indirect_at(numbers: Numbers, k: usize) -> OperandAt
     }
 }
 
-fn post_indirect_at(numbers: Numbers, k: usize) -> OperandAt
-    ensures { λ r. ⌜ r ≡ postIndirectAt numbers k ⌝ }
+fn post_indirect_at(
+    count: usize,
+    negative: &[bool; 24],
+    magnitude: &[u64; 24],
+    k: usize,
+) -> OperandAt
+    ensures { λ r. ⌜ r ≡ postIndirectAt (numbersIn count (now (negative .entry)) (now (magnitude .entry))) k ⌝ }
 {
-    let a = byte_at(numbers, k);
+    let a = byte_at(count, negative, magnitude, k);
     let ok = a.ok;
     let operand = Operand::PostIndirect(a.value);
     OperandAt {
@@ -66,10 +76,15 @@ fn post_indirect_at(numbers: Numbers, k: usize) -> OperandAt
     }
 }
 
-fn pre_indirect_at(numbers: Numbers, k: usize) -> OperandAt
-    ensures { λ r. ⌜ r ≡ preIndirectAt numbers k ⌝ }
+fn pre_indirect_at(
+    count: usize,
+    negative: &[bool; 24],
+    magnitude: &[u64; 24],
+    k: usize,
+) -> OperandAt
+    ensures { λ r. ⌜ r ≡ preIndirectAt (numbersIn count (now (negative .entry)) (now (magnitude .entry))) k ⌝ }
 {
-    let a = byte_at(numbers, k);
+    let a = byte_at(count, negative, magnitude, k);
     let ok = a.ok;
     let operand = Operand::PreIndirect(a.value);
     OperandAt {
@@ -79,11 +94,16 @@ fn pre_indirect_at(numbers: Numbers, k: usize) -> OperandAt
     }
 }
 
-fn indirect_displacement_at(numbers: Numbers, k: usize) -> OperandAt
-    ensures { λ r. ⌜ r ≡ indirectDisplacementAt numbers k ⌝ }
+fn indirect_displacement_at(
+    count: usize,
+    negative: &[bool; 24],
+    magnitude: &[u64; 24],
+    k: usize,
+) -> OperandAt
+    ensures { λ r. ⌜ r ≡ indirectDisplacementAt (numbersIn count (now (negative .entry)) (now (magnitude .entry))) k ⌝ }
 {
-    let a = signed_at(numbers, k);
-    let b = register_at(numbers, a.next);
+    let a = signed_at(count, negative, magnitude, k);
+    let b = register_at(count, negative, magnitude, a.next);
     let ok = a.ok & b.ok;
     let base = b.register;
     let operand = Operand::IndirectDisplacement {
@@ -97,12 +117,17 @@ fn indirect_displacement_at(numbers: Numbers, k: usize) -> OperandAt
     }
 }
 
-fn indirect_index_at(numbers: Numbers, k: usize) -> OperandAt
-    ensures { λ r. ⌜ r ≡ indirectIndexAt numbers k ⌝ }
+fn indirect_index_at(
+    count: usize,
+    negative: &[bool; 24],
+    magnitude: &[u64; 24],
+    k: usize,
+) -> OperandAt
+    ensures { λ r. ⌜ r ≡ indirectIndexAt (numbersIn count (now (negative .entry)) (now (magnitude .entry))) k ⌝ }
 {
-    let a = register_at(numbers, k);
-    let b = signed_at(numbers, a.next);
-    let c = index_at(numbers, b.next);
+    let a = register_at(count, negative, magnitude, k);
+    let b = signed_at(count, negative, magnitude, a.next);
+    let c = index_at(count, negative, magnitude, b.next);
     let ok = a.ok & b.ok & c.ok;
     let base = a.register;
     let index = c.index;
@@ -118,10 +143,15 @@ fn indirect_index_at(numbers: Numbers, k: usize) -> OperandAt
     }
 }
 
-fn pc_displacement_at(numbers: Numbers, k: usize) -> OperandAt
-    ensures { λ r. ⌜ r ≡ pcDisplacementAt numbers k ⌝ }
+fn pc_displacement_at(
+    count: usize,
+    negative: &[bool; 24],
+    magnitude: &[u64; 24],
+    k: usize,
+) -> OperandAt
+    ensures { λ r. ⌜ r ≡ pcDisplacementAt (numbersIn count (now (negative .entry)) (now (magnitude .entry))) k ⌝ }
 {
-    let a = long_at(numbers, k);
+    let a = long_at(count, negative, magnitude, k);
     let ok = a.ok;
     let operand = Operand::PcDisplacement { target: a.value };
     OperandAt {
@@ -131,11 +161,11 @@ fn pc_displacement_at(numbers: Numbers, k: usize) -> OperandAt
     }
 }
 
-fn pc_index_at(numbers: Numbers, k: usize) -> OperandAt
-    ensures { λ r. ⌜ r ≡ pcIndexAt numbers k ⌝ }
+fn pc_index_at(count: usize, negative: &[bool; 24], magnitude: &[u64; 24], k: usize) -> OperandAt
+    ensures { λ r. ⌜ r ≡ pcIndexAt (numbersIn count (now (negative .entry)) (now (magnitude .entry))) k ⌝ }
 {
-    let a = long_at(numbers, k);
-    let b = index_at(numbers, a.next);
+    let a = long_at(count, negative, magnitude, k);
+    let b = index_at(count, negative, magnitude, a.next);
     let ok = a.ok & b.ok;
     let index = b.index;
     let operand = Operand::PcIndex {
@@ -149,13 +179,13 @@ fn pc_index_at(numbers: Numbers, k: usize) -> OperandAt
     }
 }
 
-fn extended_at(numbers: Numbers, k: usize) -> OperandAt
-    ensures { λ r. ⌜ r ≡ extendedAt numbers k ⌝ }
+fn extended_at(count: usize, negative: &[bool; 24], magnitude: &[u64; 24], k: usize) -> OperandAt
+    ensures { λ r. ⌜ r ≡ extendedAt (numbersIn count (now (negative .entry)) (now (magnitude .entry))) k ⌝ }
 {
-    let a = byte_at(numbers, k);
-    let b = word_at(numbers, a.next);
-    let c = signed_at(numbers, b.next);
-    let d = signed_at(numbers, c.next);
+    let a = byte_at(count, negative, magnitude, k);
+    let b = word_at(count, negative, magnitude, a.next);
+    let c = signed_at(count, negative, magnitude, b.next);
+    let d = signed_at(count, negative, magnitude, c.next);
     let ok = a.ok & b.ok & c.ok & d.ok;
     let operand = Operand::Extended {
         base: a.value,
@@ -170,11 +200,11 @@ fn extended_at(numbers: Numbers, k: usize) -> OperandAt
     }
 }
 
-fn absolute_at(numbers: Numbers, k: usize) -> OperandAt
-    ensures { λ r. ⌜ r ≡ absoluteAt numbers k ⌝ }
+fn absolute_at(count: usize, negative: &[bool; 24], magnitude: &[u64; 24], k: usize) -> OperandAt
+    ensures { λ r. ⌜ r ≡ absoluteAt (numbersIn count (now (negative .entry)) (now (magnitude .entry))) k ⌝ }
 {
-    let a = unsigned_at(numbers, k, 18446744073709551615);
-    let b = address_width_at(numbers, a.next);
+    let a = unsigned_at(count, negative, magnitude, k, 18446744073709551615);
+    let b = address_width_at(count, negative, magnitude, a.next);
     let ok = a.ok & b.ok;
     let width = b.width;
     let operand = Operand::Absolute {
@@ -188,30 +218,36 @@ fn absolute_at(numbers: Numbers, k: usize) -> OperandAt
     }
 }
 
-fn operand_of(place: u64, numbers: Numbers, k: usize) -> OperandAt
-    ensures { λ r. ⌜ r ≡ operandOf place numbers k ⌝ }
+fn operand_of(
+    place: u64,
+    count: usize,
+    negative: &[bool; 24],
+    magnitude: &[u64; 24],
+    k: usize,
+) -> OperandAt
+    ensures { λ r. ⌜ r ≡ operandOf place (numbersIn count (now (negative .entry)) (now (magnitude .entry))) k ⌝ }
 {
     match place {
-        0 => immediate_at(numbers, k),
-        1 => register_operand_at(numbers, k),
-        2 => indirect_at(numbers, k),
-        3 => post_indirect_at(numbers, k),
-        4 => pre_indirect_at(numbers, k),
-        5 => indirect_displacement_at(numbers, k),
-        6 => indirect_index_at(numbers, k),
-        7 => pc_displacement_at(numbers, k),
-        8 => pc_index_at(numbers, k),
-        9 => extended_at(numbers, k),
-        10 => absolute_at(numbers, k),
-        _ => immediate_at(numbers, k),
+        0 => immediate_at(count, negative, magnitude, k),
+        1 => register_operand_at(count, negative, magnitude, k),
+        2 => indirect_at(count, negative, magnitude, k),
+        3 => post_indirect_at(count, negative, magnitude, k),
+        4 => pre_indirect_at(count, negative, magnitude, k),
+        5 => indirect_displacement_at(count, negative, magnitude, k),
+        6 => indirect_index_at(count, negative, magnitude, k),
+        7 => pc_displacement_at(count, negative, magnitude, k),
+        8 => pc_index_at(count, negative, magnitude, k),
+        9 => extended_at(count, negative, magnitude, k),
+        10 => absolute_at(count, negative, magnitude, k),
+        _ => immediate_at(count, negative, magnitude, k),
     }
 }
 
-pub fn operand_at(numbers: Numbers, k: usize) -> OperandAt
-    ensures { λ r. ⌜ r ≡ operandAt numbers k ⌝ }
+pub fn operand_at(count: usize, negative: &[bool; 24], magnitude: &[u64; 24], k: usize) -> OperandAt
+    ensures { λ r. ⌜ r ≡ operandAt (numbersIn count (now (negative .entry)) (now (magnitude .entry))) k ⌝ }
 {
-    let a = unsigned_at(numbers, k, 10);
-    let b = operand_of(a.value, numbers, a.next);
+    let a = unsigned_at(count, negative, magnitude, k, 10);
+    let b = operand_of(a.value, count, negative, magnitude, a.next);
     let operand = b.operand;
     OperandAt {
         ok: a.ok & b.ok,

@@ -1,2 +1,1 @@
-pub mod Pushed
-pub mod PushedLaws
+pub mod FormPushed

@@ -1,17 +1,14 @@
 // From an instruction to its numbers, the other way of numeric's build.
 ghost use Prim.Native.Nat.{_≤_};
 ghost use mathlib.Core.Path.{_≡_};
-ghost use Rattle.numeric_fields.specs.Form.{numbersFrom};
-ghost use Rattle.numeric_build.specs.Form.{formOf};
-ghost use Rattle.numeric_numbers.specs.Pushed.{pushedAll, none};
+ghost use Rattle.numeric_spec.specs.Entry.{numbersFrom};
+ghost use Rattle.numeric_spec.specs.Form.{formOf};
+ghost use Rattle.numeric_push.specs.Pushed.{pushedAll, none};
 use isa::Instruction;
-pub use numeric_fields::Numbers;
+use numeric_push::without_operand;
+pub use numeric_spec::Numbers;
 
-pub mod number; // numbers, one after the other
-pub mod operation; // the operations' places
-pub mod part; // enums and registers
-pub mod operand; // operands
-pub mod shape; // the instructions, shape by shape
+pub mod shape; // the instructions with operands, shape by shape
 
 // By shape.
 fn by_shape(instruction: Instruction) -> Numbers
@@ -34,36 +31,36 @@ fn by_shape(instruction: Instruction) -> Numbers
         } => shape::transfer(operation, direction, size, register, target),
         Instruction::Pair(op, o, d, s) => shape::pair(op, o, d, s),
         Instruction::Quick(op, v, o, s) => shape::quick(op, v, o, s),
-        Instruction::MOVEQ(v, r) => shape::moveq(v, r),
+        Instruction::MOVEQ(v, r) => without_operand::moveq(v, r),
         Instruction::ImmediateInto(op, v, o, s) => shape::immediate_into(op, v, o, s),
         Instruction::WordIntoData(op, o, r, sign) => shape::word_into_data(op, o, r, sign),
-        Instruction::SWAP(r) => shape::swap(r),
-        Instruction::EXG(x, y) => shape::exg(x, y),
+        Instruction::SWAP(r) => without_operand::swap(r),
+        Instruction::EXG(x, y) => without_operand::exg(x, y),
         Instruction::UnsizedIntoRegister(op, o, r) => shape::unsized_into_register(op, o, r),
         Instruction::UnsizedOne(op, o) => shape::unsized_one(op, o),
         Instruction::UnsizedPair(op, o, d) => shape::unsized_pair(op, o, d),
-        Instruction::EXT(r, from, to) => shape::ext(r, from, to),
+        Instruction::EXT(r, from, to) => without_operand::ext(r, from, to),
         Instruction::OneOperand(op, o, s) => shape::one_operand(op, o, s),
-        Instruction::Bcc(t, condition, s) => shape::bcc(t, condition, s),
+        Instruction::Bcc(t, condition, s) => without_operand::bcc(t, condition, s),
         Instruction::Scc(o, condition) => shape::scc(o, condition),
-        Instruction::DBcc(r, t, condition) => shape::dbcc(r, t, condition),
-        Instruction::Branch(op, t, s) => shape::branch(op, t, s),
-        Instruction::Link(op, r, d) => shape::link(op, r, d),
-        Instruction::UNLK(r) => shape::unlk(r),
+        Instruction::DBcc(r, t, condition) => without_operand::dbcc(r, t, condition),
+        Instruction::Branch(op, t, s) => without_operand::branch(op, t, s),
+        Instruction::Link(op, r, d) => without_operand::link(op, r, d),
+        Instruction::UNLK(r) => without_operand::unlk(r),
         Instruction::Shift(op, count, o, direction, s) => shape::shift(op, count, o, direction, s),
-        Instruction::Vector(op, v) => shape::vector(op, v),
-        Instruction::Status(op, w) => shape::status(op, w),
-        Instruction::ConditionCode(op, v) => shape::condition_code(op, v),
-        Instruction::MOVEUSP { to_usp, register } => shape::moveusp(to_usp, register),
-        Instruction::Raw(op, w) => shape::raw(op, w),
-        Instruction::NoOperand(op) => shape::no_operand(op),
-        Instruction::RTD(d) => shape::rtd(d),
+        Instruction::Vector(op, v) => without_operand::vector(op, v),
+        Instruction::Status(op, w) => without_operand::status(op, w),
+        Instruction::ConditionCode(op, v) => without_operand::condition_code(op, v),
+        Instruction::MOVEUSP { to_usp, register } => without_operand::moveusp(to_usp, register),
+        Instruction::Raw(op, w) => without_operand::raw(op, w),
+        Instruction::NoOperand(op) => without_operand::no_operand(op),
+        Instruction::RTD(d) => without_operand::rtd(d),
         Instruction::MOVEC {
             to_control,
             control,
             register,
-        } => shape::movec(to_control, control, register),
-        Instruction::TRAPcc(condition, x) => shape::trapcc(condition, x),
+        } => without_operand::movec(to_control, control, register),
+        Instruction::TRAPcc(condition, x) => without_operand::trapcc(condition, x),
         Instruction::MULL {
             source,
             low,
@@ -85,7 +82,7 @@ fn by_shape(instruction: Instruction) -> Numbers
             pointer1,
             pointer2,
             size,
-        } => shape::cas2(
+        } => without_operand::cas2(
             compare1,
             compare2,
             update1,

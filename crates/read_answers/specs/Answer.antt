@@ -6,7 +6,7 @@ use lib.IntN.{ℤ, pos}
 use lib.ListN.{take}
 use Rattle.base_text.specs.Written.{decimalOf, signedOf}
 use Rattle.base_text.specs.Wrote.{tab, refusedText, notInForm}
-use Rattle.numeric_build.specs.Form.{numbersOf}
+use Rattle.numeric_spec.specs.Form.{numbersOf}
 use Rattle.read_spec.specs.declared.Reading.{Reading}
 use Rattle.read_spec.specs.declared.Reading.the-variants.{Read, Short, Nothing}
 use Rattle.read_spec.specs.Read.{readOf, readingNumber}

@@ -11,10 +11,10 @@ use lib.Seq.{take-suc, take-length}
 use Rattle.isa.specs.declared.Instruction.{Instruction}
 use Rattle.base_text.specs.Written.{decimalOf, signedOf}
 use Rattle.base_text.specs.Wrote.{tab, notInForm}
-use Rattle.numeric_fields.specs.declared.Numbers.{Numbers}
-use Rattle.numeric_fields.specs.Form.{Entry, unsigned, numberOf, isNegative, pad, numbersFrom}
-use Rattle.numeric_build.specs.Form.{formOf, numbersOf}
-use Rattle.numeric_build.specs.RoundTrip.{form-length}
+use Rattle.numeric_spec.specs.declared.Numbers.{Numbers}
+use Rattle.numeric_spec.specs.Entry.{Entry, unsigned, numberOf, isNegative, pad, numbersFrom}
+use Rattle.numeric_spec.specs.Form.{formOf, numbersOf}
+use Rattle.numeric_laws.specs.RoundTrip.{form-length}
 use Rattle.read_runs.specs.declared.Run.{Run}
 use Rattle.read_runs.specs.Run.{runOf}
 use Rattle.read_runs.specs.RunLaws.{run-count, run-places}

@@ -3,7 +3,7 @@ use mathlib.Core.Path.{_≡_, refl}
 use mathlib.Core.List.{[], _∷_}
 use Rattle.base_text.specs.Written.{decimalOf}
 use Rattle.base_text.specs.Wrote.{refusedText}
-use Rattle.numeric_build.specs.Form.{formOf, numbersOf}
+use Rattle.numeric_spec.specs.Form.{formOf, numbersOf}
 use Rattle.read_spec.specs.Map.{map, groupAt}
 use Rattle.read_spec.specs.Read.{readOf}
 use Rattle.read_runs.specs.Run.{keptRun, noRun, runOf}

@@ -5,7 +5,7 @@ use Prim.Native.Nat.{ℕ, zero, suc}
 use lib.ListN.{getD}
 use Rattle.base_text.specs.Written.{decimalOf}
 use Rattle.base_text.specs.Wrote.{tab}
-use Rattle.numeric_fields.specs.declared.Numbers.{Numbers}
+use Rattle.numeric_spec.specs.declared.Numbers.{Numbers}
 
 -- `-` where it is negative
 abbrev pub signText : Bool → List ℕ

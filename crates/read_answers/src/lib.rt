@@ -8,7 +8,7 @@ ghost use Rattle.base_text.specs.Lines.{Answered};
 ghost use Rattle.read_answers.specs.Answer.{refusalText, readingText, runText, readAnswerOf};
 ghost use Rattle.read_answers.specs.Put.{signText, numberText, firstNumbers, putText};
 use base_text::Step;
-use numeric_fields::Numbers;
+use numeric_spec::Numbers;
 use read_runs::Run;
 use read_spec::Reading;
 

@@ -8,8 +8,8 @@ use lib.Dec.{leb}
 use lib.ListN.{length, List·getD-eq-default}
 use lib.IntN.{natAbs}
 use borrow.Author.Tests.{le-leb, lt-leb, leb-false}
-use Rattle.numeric_fields.specs.declared.Numbers.{Numbers}
-use Rattle.numeric_fields.specs.Form.{isNegative, pad}
+use Rattle.numeric_spec.specs.declared.Numbers.{Numbers}
+use Rattle.numeric_spec.specs.Entry.{isNegative, pad}
 use Rattle.numeric_build.specs.Build.{buildOf}
 use Rattle.sheet_spec.specs.declared.Kind.{Kind}
 use Rattle.sheet_spec.specs.Line.{Token, literal, label, invalid, Parsed, says, no, lineOf}

@@ -6,7 +6,7 @@ use mathlib.Core.List.{List, [], _∷_, _++_, map}
 use native.Mathlib.Omega.{arith}
 use lib.ListN.{length, set, length-append, length-map}
 use borrow.Author.Tests.{lt-ltb, le-ltb}
-use Rattle.numeric_fields.specs.Form.{pad}
+use Rattle.numeric_spec.specs.Entry.{pad}
 use Rattle.sheet_spec.specs.declared.Value.{Value}
 use Rattle.sheet_spec.specs.declared.Value.the-variants as value
 use Rattle.sheet_spec.specs.declared.Entries.{Entries}

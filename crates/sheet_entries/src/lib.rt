@@ -6,7 +6,7 @@ ghost use Rattle.sheet_spec.specs.Entries.{noEntries, entriesFrom};
 ghost use Rattle.sheet_entries.specs.With.{placedEntry, withValue};
 ghost use Rattle.sheet_entries.specs.Made.{namesOne, namesLines, resolvedNumber, numbersWith, madeWith};
 use numeric_build::Built;
-use numeric_fields::Numbers;
+use numeric_spec::Numbers;
 use sheet_spec::Entries;
 use sheet_spec::Value;
 

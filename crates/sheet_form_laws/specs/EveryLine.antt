@@ -10,9 +10,9 @@ use Rattle.isa.specs.declared.RawOperation.the-variants.{IllegalWord}
 use Rattle.isa.specs.declared.NoOperandOperation.the-variants.{SIMHALT}
 use Rattle.isa.specs.declared.Instruction.{Instruction}
 use Rattle.isa.specs.declared.Instruction.the-variants.{Raw, NoOperand}
-use Rattle.numeric_fields.specs.Form.{numberOf, Inside}
-use Rattle.numeric_build.specs.Form.{placeOf, formOf, numbersOf}
-use Rattle.numeric_build.specs.Form as numeric
+use Rattle.numeric_spec.specs.Entry.{numberOf, Inside}
+use Rattle.numeric_spec.specs.Form.{placeOf, formOf, numbersOf}
+use Rattle.numeric_spec.specs.Form as numeric
 use Rattle.numeric_build.specs.declared.Built.the-variants as built
 use Rattle.sheet_spec.specs.declared.Kind.the-variants as kind
 use Rattle.sheet_spec.specs.Names.{bytes, namesOf}

@@ -4,7 +4,7 @@ use mathlib.Core.Path.{_≡_, refl}
 use mathlib.Core.Bool.{true, false}
 use mathlib.Core.List.{List, [], _∷_, _++_, map}
 use lib.IntN.{pos, negsuc}
-use Rattle.numeric_fields.specs.Form.{Entry, unsigned, signed, numberOf, inside, Inside}
+use Rattle.numeric_spec.specs.Entry.{Entry, unsigned, signed, numberOf, inside, Inside}
 use Rattle.sheet_spec.specs.declared.Kind.{Kind}
 use Rattle.sheet_spec.specs.declared.Kind.the-variants as kind
 use Rattle.sheet_spec.specs.Line.{Token, literal, label}

@@ -5,8 +5,8 @@ use mathlib.Core.List.{List}
 use Rattle.isa.specs.declared.Instruction.{Instruction}
 use Rattle.numeric_build.specs.declared.Built.the-variants as built
 use Rattle.numeric_build.specs.Build.{buildOf}
-use Rattle.numeric_build.specs.Form.{formOf, numbersOf}
-use Rattle.numeric_build.specs.RoundTrip.{build-numbers}
+use Rattle.numeric_spec.specs.Form.{formOf, numbersOf}
+use Rattle.numeric_laws.specs.RoundTrip.{build-numbers}
 use Rattle.sheet_spec.specs.Line.{Token}
 use Rattle.sheet_spec.specs.Spell.{spell, Line}
 use Rattle.sheet_spec.specs.Made.{madeAs, madeOf}

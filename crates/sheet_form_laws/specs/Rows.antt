@@ -43,8 +43,9 @@ use Rattle.isa.specs.declared.RawOperation.the-variants.{LINEA, LINEF, IllegalW
 use Rattle.isa.specs.declared.NoOperandOperation.the-variants.{RTE, RESET, RTR, TRAPV, ILLEGAL, RTS, NOP, SIMHALT}
 use Rattle.isa.specs.declared.Instruction.{Instruction}
 use Rattle.isa.specs.declared.Instruction.the-variants.{IntoRegister, MOVEM, Transfer, Pair, Quick, MOVEQ, ImmediateInto, WordIntoData, SWAP, EXG, UnsizedIntoRegister, UnsizedOne, UnsizedPair, EXT, OneOperand, Bcc, Scc, DBcc, Branch, Link, UNLK, Shift, Vector, Status, ConditionCode, MOVEUSP, Raw, NoOperand, RTD, MOVEC, TRAPcc, MULL, Pack, CAS, CAS2, BF, DIVL}
-use Rattle.numeric_fields.specs.Form.{Entry, unsigned, flagPlace, sizePlace, targetDirectionPlace, addressWidthPlace, conditionPlace, branchSizePlace, shiftDirectionPlace, signPlace, bitFieldOperationPlace, registerForm, fieldValueForm, trapOperandForm, registerChoiceForm, operandForm}
-use Rattle.numeric_build.specs.Form.{placeOf}
+use Rattle.numeric_spec.specs.Entry.{Entry, unsigned}
+use Rattle.numeric_spec.specs.Field.{flagPlace, sizePlace, targetDirectionPlace, addressWidthPlace, conditionPlace, branchSizePlace, shiftDirectionPlace, signPlace, bitFieldOperationPlace, registerForm, fieldValueForm, trapOperandForm, registerChoiceForm, operandForm}
+use Rattle.numeric_spec.specs.Form.{placeOf}
 use Rattle.sheet_spec.specs.declared.Kind.{Kind}
 use Rattle.sheet_spec.specs.declared.Kind.the-variants as kind
 use Rattle.sheet_spec.specs.Grammar.{fieldsOf}

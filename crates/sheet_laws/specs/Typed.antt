@@ -12,8 +12,9 @@ use Rattle.isa.specs.declared.Operand.{Operand}
 use Rattle.isa.specs.declared.Operand.the-variants.{Immediate, Register, Indirect, PostIndirect, PreIndirect, IndirectDisplacement, IndirectIndex, PcDisplacement, PcIndex, Extended, Absolute}
 use Rattle.isa.specs.declared.Instruction.{Instruction}
 use Rattle.isa.specs.declared.Instruction.the-variants.{IntoRegister, MOVEM, Transfer, Pair, Quick, MOVEQ, ImmediateInto, WordIntoData, SWAP, EXG, UnsizedIntoRegister, UnsizedOne, UnsizedPair, EXT, OneOperand, Bcc, Scc, DBcc, Branch, Link, UNLK, Shift, Vector, Status, ConditionCode, MOVEUSP, Raw, NoOperand, RTD, MOVEC, TRAPcc, MULL, Pack, CAS, CAS2, BF, DIVL}
-use Rattle.numeric_fields.specs.Form.{Entry, Inside, sizeForm, conditionForm, shiftDirectionForm, signForm, flagForm, byteForm, wordForm, longForm, bitFieldForm, registerForm, registerChoiceForm, trapOperandForm, operandForm}
-use Rattle.numeric_fields.specs.Number.{isI32}
+use Rattle.numeric_spec.specs.Entry.{Entry, Inside}
+use Rattle.numeric_spec.specs.Field.{sizeForm, conditionForm, shiftDirectionForm, signForm, flagForm, byteForm, wordForm, longForm, bitFieldForm, registerForm, registerChoiceForm, trapOperandForm, operandForm}
+use Rattle.numeric_spec.specs.Number.{isI32}
 use Rattle.read_operand_laws.specs.Stands.{InTypes, Fits32}
 use Rattle.read_operand_laws.specs.Facts.{as-fits32, leb-is}
 use Rattle.read_laws.specs.Statements.{TrapInTypes, InstructionInTypes}

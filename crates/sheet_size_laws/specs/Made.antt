@@ -7,12 +7,12 @@ use native.Mathlib.Omega.{arith}
 use Rattle.isa.specs.declared.Instruction.{Instruction}
 use Rattle.isa.specs.declared.Measured.{Measured}
 use Rattle.encode_spec.specs.Encode.{sizeOf}
-use Rattle.numeric_fields.specs.Form.{Inside}
+use Rattle.numeric_spec.specs.Entry.{Inside}
 use Rattle.numeric_build.specs.declared.Built.{Built}
 use Rattle.numeric_build.specs.declared.Built.the-variants as built
 use Rattle.numeric_build.specs.Build.{buildOf}
-use Rattle.numeric_build.specs.Form.{formOf, numbersOf}
-use Rattle.numeric_build.specs.RoundTrip.{build-numbers}
+use Rattle.numeric_spec.specs.Form.{formOf, numbersOf}
+use Rattle.numeric_laws.specs.RoundTrip.{build-numbers}
 use Rattle.sheet_spec.specs.declared.Kind.the-variants as kind
 use Rattle.sheet_spec.specs.Line.{Token, says, lineOf}
 use Rattle.sheet_spec.specs.Spell.{numberAs, Fits}

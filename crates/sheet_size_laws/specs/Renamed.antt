@@ -28,8 +28,8 @@ use Rattle.isa.specs.declared.PackOperation.the-variants.{PACK, UNPK}
 use Rattle.isa.specs.declared.Instruction.{Instruction}
 use Rattle.isa.specs.declared.Instruction.the-variants.{IntoRegister, MOVEM, Transfer, Pair, Quick, MOVEQ, ImmediateInto, WordIntoData, SWAP, EXG, UnsizedIntoRegister, UnsizedOne, UnsizedPair, EXT, OneOperand, Bcc, Scc, DBcc, Branch, Link, UNLK, Shift, Vector, Status, ConditionCode, MOVEUSP, Raw, NoOperand, RTD, MOVEC, TRAPcc, MULL, Pack, CAS, CAS2, BF, DIVL}
 use Rattle.encode_spec.specs.Encode.{sizeOf}
-use Rattle.numeric_fields.specs.Form.{Entry, unsigned, Inside}
-use Rattle.numeric_build.specs.Form.{placeOf}
+use Rattle.numeric_spec.specs.Entry.{Entry, unsigned, Inside}
+use Rattle.numeric_spec.specs.Form.{placeOf}
 use Rattle.sheet_spec.specs.declared.Kind.the-variants as kind
 use Rattle.sheet_spec.specs.Names.{bytes, namesOf}
 use Rattle.sheet_spec.specs.Line.{Token}

@@ -4,7 +4,7 @@ use mathlib.Core.Bool.{Bool, true, false, cond}
 use mathlib.Core.List.{List, map}
 use lib.Dec.{leb}
 use lib.ListN.{length, replicate}
-use Rattle.numeric_fields.specs.Form.{pad}
+use Rattle.numeric_spec.specs.Entry.{pad}
 use Rattle.sheet_spec.specs.declared.Value.{Value}
 use Rattle.sheet_spec.specs.declared.Value.the-variants as value
 use Rattle.sheet_spec.specs.declared.Entries.{Entries}

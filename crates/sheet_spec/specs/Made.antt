@@ -5,8 +5,8 @@ use mathlib.Core.List.{List, [], _∷_, map}
 use lib.Dec.{leb}
 use lib.ListN.{length, getD}
 use lib.IntN.{natAbs}
-use Rattle.numeric_fields.specs.declared.Numbers.{Numbers}
-use Rattle.numeric_fields.specs.Form.{isNegative, pad}
+use Rattle.numeric_spec.specs.declared.Numbers.{Numbers}
+use Rattle.numeric_spec.specs.Entry.{isNegative, pad}
 use Rattle.numeric_build.specs.declared.Built.{Built}
 use Rattle.numeric_build.specs.declared.Built.the-variants as built
 use Rattle.numeric_build.specs.Build.{buildOf}

@@ -6,9 +6,9 @@ use mathlib.Core.List.{List, [], _∷_, _++_, map}
 use lib.ListN.{length, getD}
 use lib.IntN.{ℤ, pos}
 use Rattle.isa.specs.declared.Instruction.{Instruction}
-use Rattle.numeric_build.specs.Form.{formOf, numbersOf}
-use Rattle.numeric_fields.specs.Form.{Inside}
-use Rattle.numeric_fields.specs.Number.{minus}
+use Rattle.numeric_spec.specs.Form.{formOf, numbersOf}
+use Rattle.numeric_spec.specs.Entry.{Inside}
+use Rattle.numeric_spec.specs.Number.{minus}
 use Rattle.base_text.specs.Written.{decimalOf}
 use Rattle.sheet_spec.specs.declared.Kind.{Kind}
 use Rattle.sheet_spec.specs.declared.Kind.the-variants as kind

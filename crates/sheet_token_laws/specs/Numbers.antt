@@ -9,12 +9,12 @@ use lib.ListN.{length, getD, length-append, length-map, List·getD-map}
 use lib.IntN.{ℤ, pos, negsuc, natAbs}
 use borrow.Author.Tests.{ltb-true}
 use Rattle.isa.specs.declared.Instruction.{Instruction}
-use Rattle.numeric_fields.specs.Number.{minus, numberAt, present}
-use Rattle.numeric_fields.specs.Form.{Entry, unsigned, numberOf, Inside, Span, isNegative, pad, numbersFrom}
+use Rattle.numeric_spec.specs.Number.{minus, numberAt, present}
+use Rattle.numeric_spec.specs.Entry.{Entry, unsigned, numberOf, Inside, Span, isNegative, pad, numbersFrom}
 use Rattle.numeric_build.specs.declared.Built.the-variants as built
 use Rattle.numeric_build.specs.Build.{buildOf}
-use Rattle.numeric_build.specs.Form.{placeOf, fieldsOf, formOf, numbersOf}
-use Rattle.numeric_build.specs.FormLaws.{build-sound}
+use Rattle.numeric_spec.specs.Form.{placeOf, fieldsOf, formOf, numbersOf}
+use Rattle.numeric_laws.specs.FormLaws.{build-sound}
 use Rattle.sheet_spec.specs.Line.{Token, invalid, Parsed, says, no, lineOf}
 use Rattle.sheet_spec.specs.Spell.{numberAs, Line}
 use Rattle.sheet_spec.specs.Made.{numbersAs, madeAs, madeOf}

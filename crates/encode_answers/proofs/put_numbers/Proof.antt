@@ -4,8 +4,8 @@ use Rattle.encode_answers.proofs.put_numbers.Tie as tie
 use native.Mathlib.Omega.{arith}
 use Rattle.encode_answers.specs.AnswerLaws.{numbers-yes, numbers-no}
 
-long-at-requires : tie.Need-long-at-requires
-long-at-requires c κs = search needs
+long-in-requires : tie.Need-long-in-requires
+long-in-requires c κs = search needs
 
 build-requires : tie.Need-build-requires
 build-requires c κs = search needs
@@ -22,7 +22,7 @@ same-length c = search needs
 returns : tie.Need-returns
 returns c =
     let ns = c .before .before .before .before .before .before .before .before .args .numbers in
-    let l = c .before .before .before .before .before .before .long-at in
+    let l = c .before .before .before .before .before .before .long-in in
     let b = c .before .before .before .build in
     rw (numbers-yes ns (l .result) (l .ensures) (b .result) (b .ensures) (c .before .before .before .before .before .if1 .taken)) (c .before .before .put-built .ensures)
 
@@ -32,14 +32,14 @@ same-length-2 c = search needs
 returns-2 : tie.Need-returns-2
 returns-2 c =
     let ns = c .before .before .before .before .before .before .before .args .numbers in
-    let l = c .before .before .before .before .before .long-at in
+    let l = c .before .before .before .before .before .long-in in
     rw (numbers-no ns (l .result) (l .ensures) (c .before .before .before .before .if1 .left)) (c .before .before .put-not-in-form .ensures .0, omega arith)
 
 pub put-numbers-spec : {M : Type 1} → statement M
 put-numbers-spec =
     tie.close
     (tie.spec
-    long-at-requires
+    long-in-requires
     build-requires
     put-built-requires
     put-not-in-form-requires

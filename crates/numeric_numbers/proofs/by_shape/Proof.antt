@@ -2,228 +2,6 @@ use borrow.Author.Needs.{needs}
 use Rattle.numeric_numbers.proofs.by_shape.Statement.{statement}
 use Rattle.numeric_numbers.proofs.by_shape.Tie as tie
 
-enum-known-instruction : tie.Need-enum-known-instruction
-enum-known-instruction c = search needs
-
-into-register-requires : tie.Need-into-register-requires
-into-register-requires c κs = search needs
-
-enum-known-instruction-2 : tie.Need-enum-known-instruction-2
-enum-known-instruction-2 c = search needs
-
-movem-requires : tie.Need-movem-requires
-movem-requires c κs = search needs
-
-enum-known-instruction-3 : tie.Need-enum-known-instruction-3
-enum-known-instruction-3 c = search needs
-
-transfer-requires : tie.Need-transfer-requires
-transfer-requires c κs = search needs
-
-enum-known-instruction-4 : tie.Need-enum-known-instruction-4
-enum-known-instruction-4 c = search needs
-
-pair-requires : tie.Need-pair-requires
-pair-requires c κs = search needs
-
-enum-known-instruction-5 : tie.Need-enum-known-instruction-5
-enum-known-instruction-5 c = search needs
-
-quick-requires : tie.Need-quick-requires
-quick-requires c κs = search needs
-
-enum-known-instruction-6 : tie.Need-enum-known-instruction-6
-enum-known-instruction-6 c = search needs
-
-moveq-requires : tie.Need-moveq-requires
-moveq-requires c κs = search needs
-
-enum-known-instruction-7 : tie.Need-enum-known-instruction-7
-enum-known-instruction-7 c = search needs
-
-immediate-into-requires : tie.Need-immediate-into-requires
-immediate-into-requires c κs = search needs
-
-enum-known-instruction-8 : tie.Need-enum-known-instruction-8
-enum-known-instruction-8 c = search needs
-
-word-into-data-requires : tie.Need-word-into-data-requires
-word-into-data-requires c κs = search needs
-
-enum-known-instruction-9 : tie.Need-enum-known-instruction-9
-enum-known-instruction-9 c = search needs
-
-swap-requires : tie.Need-swap-requires
-swap-requires c κs = search needs
-
-enum-known-instruction-10 : tie.Need-enum-known-instruction-10
-enum-known-instruction-10 c = search needs
-
-exg-requires : tie.Need-exg-requires
-exg-requires c κs = search needs
-
-enum-known-instruction-11 : tie.Need-enum-known-instruction-11
-enum-known-instruction-11 c = search needs
-
-unsized-into-register-requires : tie.Need-unsized-into-register-requires
-unsized-into-register-requires c κs = search needs
-
-enum-known-instruction-12 : tie.Need-enum-known-instruction-12
-enum-known-instruction-12 c = search needs
-
-unsized-one-requires : tie.Need-unsized-one-requires
-unsized-one-requires c κs = search needs
-
-enum-known-instruction-13 : tie.Need-enum-known-instruction-13
-enum-known-instruction-13 c = search needs
-
-unsized-pair-requires : tie.Need-unsized-pair-requires
-unsized-pair-requires c κs = search needs
-
-enum-known-instruction-14 : tie.Need-enum-known-instruction-14
-enum-known-instruction-14 c = search needs
-
-ext-requires : tie.Need-ext-requires
-ext-requires c κs = search needs
-
-enum-known-instruction-15 : tie.Need-enum-known-instruction-15
-enum-known-instruction-15 c = search needs
-
-one-operand-requires : tie.Need-one-operand-requires
-one-operand-requires c κs = search needs
-
-enum-known-instruction-16 : tie.Need-enum-known-instruction-16
-enum-known-instruction-16 c = search needs
-
-bcc-requires : tie.Need-bcc-requires
-bcc-requires c κs = search needs
-
-enum-known-instruction-17 : tie.Need-enum-known-instruction-17
-enum-known-instruction-17 c = search needs
-
-scc-requires : tie.Need-scc-requires
-scc-requires c κs = search needs
-
-enum-known-instruction-18 : tie.Need-enum-known-instruction-18
-enum-known-instruction-18 c = search needs
-
-dbcc-requires : tie.Need-dbcc-requires
-dbcc-requires c κs = search needs
-
-enum-known-instruction-19 : tie.Need-enum-known-instruction-19
-enum-known-instruction-19 c = search needs
-
-branch-requires : tie.Need-branch-requires
-branch-requires c κs = search needs
-
-enum-known-instruction-20 : tie.Need-enum-known-instruction-20
-enum-known-instruction-20 c = search needs
-
-link-requires : tie.Need-link-requires
-link-requires c κs = search needs
-
-enum-known-instruction-21 : tie.Need-enum-known-instruction-21
-enum-known-instruction-21 c = search needs
-
-unlk-requires : tie.Need-unlk-requires
-unlk-requires c κs = search needs
-
-enum-known-instruction-22 : tie.Need-enum-known-instruction-22
-enum-known-instruction-22 c = search needs
-
-shift-requires : tie.Need-shift-requires
-shift-requires c κs = search needs
-
-enum-known-instruction-23 : tie.Need-enum-known-instruction-23
-enum-known-instruction-23 c = search needs
-
-vector-requires : tie.Need-vector-requires
-vector-requires c κs = search needs
-
-enum-known-instruction-24 : tie.Need-enum-known-instruction-24
-enum-known-instruction-24 c = search needs
-
-status-requires : tie.Need-status-requires
-status-requires c κs = search needs
-
-enum-known-instruction-25 : tie.Need-enum-known-instruction-25
-enum-known-instruction-25 c = search needs
-
-condition-code-requires : tie.Need-condition-code-requires
-condition-code-requires c κs = search needs
-
-enum-known-instruction-26 : tie.Need-enum-known-instruction-26
-enum-known-instruction-26 c = search needs
-
-moveusp-requires : tie.Need-moveusp-requires
-moveusp-requires c κs = search needs
-
-enum-known-instruction-27 : tie.Need-enum-known-instruction-27
-enum-known-instruction-27 c = search needs
-
-raw-requires : tie.Need-raw-requires
-raw-requires c κs = search needs
-
-enum-known-instruction-28 : tie.Need-enum-known-instruction-28
-enum-known-instruction-28 c = search needs
-
-no-operand-requires : tie.Need-no-operand-requires
-no-operand-requires c κs = search needs
-
-enum-known-instruction-29 : tie.Need-enum-known-instruction-29
-enum-known-instruction-29 c = search needs
-
-rtd-requires : tie.Need-rtd-requires
-rtd-requires c κs = search needs
-
-enum-known-instruction-30 : tie.Need-enum-known-instruction-30
-enum-known-instruction-30 c = search needs
-
-movec-requires : tie.Need-movec-requires
-movec-requires c κs = search needs
-
-enum-known-instruction-31 : tie.Need-enum-known-instruction-31
-enum-known-instruction-31 c = search needs
-
-trapcc-requires : tie.Need-trapcc-requires
-trapcc-requires c κs = search needs
-
-enum-known-instruction-32 : tie.Need-enum-known-instruction-32
-enum-known-instruction-32 c = search needs
-
-mull-requires : tie.Need-mull-requires
-mull-requires c κs = search needs
-
-enum-known-instruction-33 : tie.Need-enum-known-instruction-33
-enum-known-instruction-33 c = search needs
-
-pack-requires : tie.Need-pack-requires
-pack-requires c κs = search needs
-
-enum-known-instruction-34 : tie.Need-enum-known-instruction-34
-enum-known-instruction-34 c = search needs
-
-cas-requires : tie.Need-cas-requires
-cas-requires c κs = search needs
-
-enum-known-instruction-35 : tie.Need-enum-known-instruction-35
-enum-known-instruction-35 c = search needs
-
-cas2-requires : tie.Need-cas2-requires
-cas2-requires c κs = search needs
-
-enum-known-instruction-36 : tie.Need-enum-known-instruction-36
-enum-known-instruction-36 c = search needs
-
-bf-requires : tie.Need-bf-requires
-bf-requires c κs = search needs
-
-enum-known-instruction-37 : tie.Need-enum-known-instruction-37
-enum-known-instruction-37 c = search needs
-
-divl-requires : tie.Need-divl-requires
-divl-requires c κs = search needs
-
 returns : tie.Need-returns
 returns c = rw (c .into-register .ensures, c .before .before .instruction .given .1)
 
@@ -339,80 +117,80 @@ pub by-shape-spec : {M : Type 1} → statement M
 by-shape-spec =
     tie.close
     (tie.spec
-    enum-known-instruction
-    into-register-requires
-    enum-known-instruction-2
-    movem-requires
-    enum-known-instruction-3
-    transfer-requires
-    enum-known-instruction-4
-    pair-requires
-    enum-known-instruction-5
-    quick-requires
-    enum-known-instruction-6
-    moveq-requires
-    enum-known-instruction-7
-    immediate-into-requires
-    enum-known-instruction-8
-    word-into-data-requires
-    enum-known-instruction-9
-    swap-requires
-    enum-known-instruction-10
-    exg-requires
-    enum-known-instruction-11
-    unsized-into-register-requires
-    enum-known-instruction-12
-    unsized-one-requires
-    enum-known-instruction-13
-    unsized-pair-requires
-    enum-known-instruction-14
-    ext-requires
-    enum-known-instruction-15
-    one-operand-requires
-    enum-known-instruction-16
-    bcc-requires
-    enum-known-instruction-17
-    scc-requires
-    enum-known-instruction-18
-    dbcc-requires
-    enum-known-instruction-19
-    branch-requires
-    enum-known-instruction-20
-    link-requires
-    enum-known-instruction-21
-    unlk-requires
-    enum-known-instruction-22
-    shift-requires
-    enum-known-instruction-23
-    vector-requires
-    enum-known-instruction-24
-    status-requires
-    enum-known-instruction-25
-    condition-code-requires
-    enum-known-instruction-26
-    moveusp-requires
-    enum-known-instruction-27
-    raw-requires
-    enum-known-instruction-28
-    no-operand-requires
-    enum-known-instruction-29
-    rtd-requires
-    enum-known-instruction-30
-    movec-requires
-    enum-known-instruction-31
-    trapcc-requires
-    enum-known-instruction-32
-    mull-requires
-    enum-known-instruction-33
-    pack-requires
-    enum-known-instruction-34
-    cas-requires
-    enum-known-instruction-35
-    cas2-requires
-    enum-known-instruction-36
-    bf-requires
-    enum-known-instruction-37
-    divl-requires
+    (λ c. search needs)
+    (λ c κs. search needs)
+    (λ c. search needs)
+    (λ c κs. search needs)
+    (λ c. search needs)
+    (λ c κs. search needs)
+    (λ c. search needs)
+    (λ c κs. search needs)
+    (λ c. search needs)
+    (λ c κs. search needs)
+    (λ c. search needs)
+    (λ c κs. search needs)
+    (λ c. search needs)
+    (λ c κs. search needs)
+    (λ c. search needs)
+    (λ c κs. search needs)
+    (λ c. search needs)
+    (λ c κs. search needs)
+    (λ c. search needs)
+    (λ c κs. search needs)
+    (λ c. search needs)
+    (λ c κs. search needs)
+    (λ c. search needs)
+    (λ c κs. search needs)
+    (λ c. search needs)
+    (λ c κs. search needs)
+    (λ c. search needs)
+    (λ c κs. search needs)
+    (λ c. search needs)
+    (λ c κs. search needs)
+    (λ c. search needs)
+    (λ c κs. search needs)
+    (λ c. search needs)
+    (λ c κs. search needs)
+    (λ c. search needs)
+    (λ c κs. search needs)
+    (λ c. search needs)
+    (λ c κs. search needs)
+    (λ c. search needs)
+    (λ c κs. search needs)
+    (λ c. search needs)
+    (λ c κs. search needs)
+    (λ c. search needs)
+    (λ c κs. search needs)
+    (λ c. search needs)
+    (λ c κs. search needs)
+    (λ c. search needs)
+    (λ c κs. search needs)
+    (λ c. search needs)
+    (λ c κs. search needs)
+    (λ c. search needs)
+    (λ c κs. search needs)
+    (λ c. search needs)
+    (λ c κs. search needs)
+    (λ c. search needs)
+    (λ c κs. search needs)
+    (λ c. search needs)
+    (λ c κs. search needs)
+    (λ c. search needs)
+    (λ c κs. search needs)
+    (λ c. search needs)
+    (λ c κs. search needs)
+    (λ c. search needs)
+    (λ c κs. search needs)
+    (λ c. search needs)
+    (λ c κs. search needs)
+    (λ c. search needs)
+    (λ c κs. search needs)
+    (λ c. search needs)
+    (λ c κs. search needs)
+    (λ c. search needs)
+    (λ c κs. search needs)
+    (λ c. search needs)
+    (λ c κs. search needs)
     returns
     returns-2
     returns-3

@@ -1,6 +1,6 @@
 use mathlib.Core.Path.{sym, ap, _∙_}
 use borrow.Author.Needs.{needs}
-use Rattle.numeric_fields.specs.declared.Numbers.{Numbers}
+use Rattle.numeric_spec.specs.declared.Numbers.{Numbers}
 use Rattle.numeric_build.specs.Build.{buildOf}
 use Rattle.sheet_entries.proofs.Laws.{made-ok, made-not}
 use Rattle.sheet_entries.proofs.made.Statement.{statement}

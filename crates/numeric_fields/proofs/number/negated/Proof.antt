@@ -10,12 +10,6 @@ use borrow.Author.Needs.{needs}
 use Rattle.numeric_fields.proofs.number.negated.Statement.{statement}
 use Rattle.numeric_fields.proofs.number.negated.Tie as tie
 
-sub-n : tie.Need-sub-n
-sub-n c = search needs
-
-cast-n : tie.Need-cast-n
-cast-n c = search needs
-
 sub-result : tie.Need-sub-result
 sub-result c = rw (toZ-pos w32 {n = c .args .magnitude - 1} (omega arith), minus-one (pos (c .args .magnitude - 1))) (record { sfits = omega arith })
 
@@ -23,4 +17,4 @@ returns : tie.Need-returns
 returns c = rw (toZ-pos w32 {n = c .args .magnitude - 1} (omega arith), minus-one (pos (c .args .magnitude - 1))) (toZ-ofZ {w = w32} (record { sfits = omega arith }) ∙ negsuc-minus (c .args .magnitude) (c .pre .0))
 
 pub negated-spec : {M : Type 1} → statement M
-negated-spec = tie.close (tie.spec sub-n cast-n sub-result returns)
+negated-spec = tie.close (tie.spec (λ c. search needs) (λ c. search needs) sub-result returns)

@@ -5,18 +5,6 @@ use borrow.Author.Needs.{needs}
 use Rattle.numeric_fields.proofs.operand.extended_at.Statement.{statement}
 use Rattle.numeric_fields.proofs.operand.extended_at.Tie as tie
 
-byte-at-requires : tie.Need-byte-at-requires
-byte-at-requires c κs = search needs
-
-word-at-requires : tie.Need-word-at-requires
-word-at-requires c κs = search needs
-
-signed-at-requires : tie.Need-signed-at-requires
-signed-at-requires c κs = search needs
-
-signed-at-requires-2 : tie.Need-signed-at-requires-2
-signed-at-requires-2 c κs = search needs
-
 returns : tie.Need-returns
 unfolding extendedAt
 returns c = rw (toZ-ofZ {w = w32} {z = c .before .before .before .before .before .before .signed-at2 .result .value} (search needs), toZ-ofZ {w = w32} {z = c .before .before .before .before .before .before .before .signed-at .result .value} (search needs), c .before .before .before .before .before .before .signed-at2 .ensures, c .before .before .before .before .before .before .before .signed-at .ensures, c .before .before .before .before .before .before .before .before .word-at .ensures, c .before .before .before .before .before .before .before .before .before .byte-at .ensures)
@@ -24,4 +12,4 @@ returns c = rw (toZ-ofZ {w = w32} {z = c .before .before .before .before .before
 pub extended-at-spec : {M : Type 1} → statement M
 extended-at-spec =
     tie.close
-    (tie.spec byte-at-requires word-at-requires signed-at-requires signed-at-requires-2 returns)
+    (tie.spec (λ c κs. search needs) (λ c κs. search needs) (λ c κs. search needs) (λ c κs. search needs) returns)

@@ -3,12 +3,9 @@ use borrow.Author.Needs.{needs}
 use Rattle.numeric_fields.proofs.operand.immediate_at.Statement.{statement}
 use Rattle.numeric_fields.proofs.operand.immediate_at.Tie as tie
 
-long-at-requires : tie.Need-long-at-requires
-long-at-requires c κs = search needs
-
 returns : tie.Need-returns
 unfolding immediateAt
 returns c = rw (c .long-at .ensures)
 
 pub immediate-at-spec : {M : Type 1} → statement M
-immediate-at-spec = tie.close (tie.spec long-at-requires returns)
+immediate-at-spec = tie.close (tie.spec (λ c κs. search needs) returns)

@@ -5,16 +5,10 @@ use borrow.Author.Needs.{needs}
 use Rattle.numeric_fields.proofs.operand.indirect_displacement_at.Statement.{statement}
 use Rattle.numeric_fields.proofs.operand.indirect_displacement_at.Tie as tie
 
-signed-at-requires : tie.Need-signed-at-requires
-signed-at-requires c κs = search needs
-
-register-at-requires : tie.Need-register-at-requires
-register-at-requires c κs = search needs
-
 returns : tie.Need-returns
 unfolding indirectDisplacementAt
 returns c = rw (toZ-ofZ {w = w32} {z = c .before .before .before .before .signed-at .result .value} (search needs), c .before .before .before .register-at .ensures, c .before .before .before .before .signed-at .ensures)
 
 pub indirect-displacement-at-spec : {M : Type 1} → statement M
 indirect-displacement-at-spec =
-    tie.close (tie.spec signed-at-requires register-at-requires returns)
+    tie.close (tie.spec (λ c κs. search needs) (λ c κs. search needs) returns)

@@ -5,19 +5,10 @@ use borrow.Author.Needs.{needs}
 use Rattle.numeric_fields.proofs.operand.indirect_index_at.Statement.{statement}
 use Rattle.numeric_fields.proofs.operand.indirect_index_at.Tie as tie
 
-register-at-requires : tie.Need-register-at-requires
-register-at-requires c κs = search needs
-
-signed-at-requires : tie.Need-signed-at-requires
-signed-at-requires c κs = search needs
-
-index-at-requires : tie.Need-index-at-requires
-index-at-requires c κs = search needs
-
 returns : tie.Need-returns
 unfolding indirectIndexAt
 returns c = rw (toZ-ofZ {w = w32} {z = c .before .before .before .before .before .before .signed-at .result .value} (search needs), c .before .before .before .before .before .index-at .ensures, c .before .before .before .before .before .before .signed-at .ensures, c .before .before .before .before .before .before .before .register-at .ensures)
 
 pub indirect-index-at-spec : {M : Type 1} → statement M
 indirect-index-at-spec =
-    tie.close (tie.spec register-at-requires signed-at-requires index-at-requires returns)
+    tie.close (tie.spec (λ c κs. search needs) (λ c κs. search needs) (λ c κs. search needs) returns)

@@ -3,15 +3,9 @@ use borrow.Author.Needs.{needs}
 use Rattle.numeric_fields.proofs.operand.operand_at.Statement.{statement}
 use Rattle.numeric_fields.proofs.operand.operand_at.Tie as tie
 
-unsigned-at-requires : tie.Need-unsigned-at-requires
-unsigned-at-requires c κs = search needs
-
-operand-of-requires : tie.Need-operand-of-requires
-operand-of-requires c κs = search needs
-
 returns : tie.Need-returns
 unfolding operandAt
 returns c = rw (c .before .before .operand-of .ensures, c .before .before .before .unsigned-at .ensures)
 
 pub operand-at-spec : {M : Type 1} → statement M
-operand-at-spec = tie.close (tie.spec unsigned-at-requires operand-of-requires returns)
+operand-at-spec = tie.close (tie.spec (λ c κs. search needs) (λ c κs. search needs) returns)

@@ -6,42 +6,6 @@ use borrow.Author.Needs.{needs}
 use Rattle.numeric_fields.proofs.operand.operand_of.Statement.{statement}
 use Rattle.numeric_fields.proofs.operand.operand_of.Tie as tie
 
-immediate-at-requires : tie.Need-immediate-at-requires
-immediate-at-requires c κs = search needs
-
-register-operand-at-requires : tie.Need-register-operand-at-requires
-register-operand-at-requires c κs = search needs
-
-indirect-at-requires : tie.Need-indirect-at-requires
-indirect-at-requires c κs = search needs
-
-post-indirect-at-requires : tie.Need-post-indirect-at-requires
-post-indirect-at-requires c κs = search needs
-
-pre-indirect-at-requires : tie.Need-pre-indirect-at-requires
-pre-indirect-at-requires c κs = search needs
-
-indirect-displacement-at-requires : tie.Need-indirect-displacement-at-requires
-indirect-displacement-at-requires c κs = search needs
-
-indirect-index-at-requires : tie.Need-indirect-index-at-requires
-indirect-index-at-requires c κs = search needs
-
-pc-displacement-at-requires : tie.Need-pc-displacement-at-requires
-pc-displacement-at-requires c κs = search needs
-
-pc-index-at-requires : tie.Need-pc-index-at-requires
-pc-index-at-requires c κs = search needs
-
-extended-at-requires : tie.Need-extended-at-requires
-extended-at-requires c κs = search needs
-
-absolute-at-requires : tie.Need-absolute-at-requires
-absolute-at-requires c κs = search needs
-
-immediate-at-requires-2 : tie.Need-immediate-at-requires-2
-immediate-at-requires-2 c κs = search needs
-
 returns : tie.Need-returns
 unfolding operandOf
 returns c = rw (c .before .match .keys1, c .immediate-at .ensures)
@@ -94,18 +58,18 @@ pub operand-of-spec : {M : Type 1} → statement M
 operand-of-spec =
     tie.close
     (tie.spec
-    immediate-at-requires
-    register-operand-at-requires
-    indirect-at-requires
-    post-indirect-at-requires
-    pre-indirect-at-requires
-    indirect-displacement-at-requires
-    indirect-index-at-requires
-    pc-displacement-at-requires
-    pc-index-at-requires
-    extended-at-requires
-    absolute-at-requires
-    immediate-at-requires-2
+    (λ c κs. search needs)
+    (λ c κs. search needs)
+    (λ c κs. search needs)
+    (λ c κs. search needs)
+    (λ c κs. search needs)
+    (λ c κs. search needs)
+    (λ c κs. search needs)
+    (λ c κs. search needs)
+    (λ c κs. search needs)
+    (λ c κs. search needs)
+    (λ c κs. search needs)
+    (λ c κs. search needs)
     returns
     returns-2
     returns-3

@@ -3,12 +3,9 @@ use borrow.Author.Needs.{needs}
 use Rattle.numeric_fields.proofs.operand.post_indirect_at.Statement.{statement}
 use Rattle.numeric_fields.proofs.operand.post_indirect_at.Tie as tie
 
-byte-at-requires : tie.Need-byte-at-requires
-byte-at-requires c κs = search needs
-
 returns : tie.Need-returns
 unfolding postIndirectAt
 returns c = rw (c .byte-at .ensures)
 
 pub post-indirect-at-spec : {M : Type 1} → statement M
-post-indirect-at-spec = tie.close (tie.spec byte-at-requires returns)
+post-indirect-at-spec = tie.close (tie.spec (λ c κs. search needs) returns)

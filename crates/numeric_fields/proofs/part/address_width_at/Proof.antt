@@ -3,15 +3,9 @@ use borrow.Author.Needs.{needs}
 use Rattle.numeric_fields.proofs.part.address_width_at.Statement.{statement}
 use Rattle.numeric_fields.proofs.part.address_width_at.Tie as tie
 
-unsigned-at-requires : tie.Need-unsigned-at-requires
-unsigned-at-requires c κs = search needs
-
-address-width-of-requires : tie.Need-address-width-of-requires
-address-width-of-requires c κs = search needs
-
 returns : tie.Need-returns
 unfolding addressWidthAt
 returns c = rw (c .address-width-of .ensures, c .before .unsigned-at .ensures)
 
 pub address-width-at-spec : {M : Type 1} → statement M
-address-width-at-spec = tie.close (tie.spec unsigned-at-requires address-width-of-requires returns)
+address-width-at-spec = tie.close (tie.spec (λ c κs. search needs) (λ c κs. search needs) returns)

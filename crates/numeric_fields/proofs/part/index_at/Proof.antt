@@ -3,15 +3,9 @@ use borrow.Author.Needs.{needs}
 use Rattle.numeric_fields.proofs.part.index_at.Statement.{statement}
 use Rattle.numeric_fields.proofs.part.index_at.Tie as tie
 
-register-at-requires : tie.Need-register-at-requires
-register-at-requires c κs = search needs
-
-size-at-requires : tie.Need-size-at-requires
-size-at-requires c κs = search needs
-
 returns : tie.Need-returns
 unfolding indexAt
 returns c = rw (c .before .before .size-at .ensures, c .before .before .before .register-at .ensures)
 
 pub index-at-spec : {M : Type 1} → statement M
-index-at-spec = tie.close (tie.spec register-at-requires size-at-requires returns)
+index-at-spec = tie.close (tie.spec (λ c κs. search needs) (λ c κs. search needs) returns)

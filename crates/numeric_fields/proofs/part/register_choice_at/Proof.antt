@@ -3,16 +3,10 @@ use borrow.Author.Needs.{needs}
 use Rattle.numeric_fields.proofs.part.register_choice_at.Statement.{statement}
 use Rattle.numeric_fields.proofs.part.register_choice_at.Tie as tie
 
-unsigned-at-requires : tie.Need-unsigned-at-requires
-unsigned-at-requires c κs = search needs
-
-register-choice-of-requires : tie.Need-register-choice-of-requires
-register-choice-of-requires c κs = search needs
-
 returns : tie.Need-returns
 unfolding registerChoiceAt
 returns c = rw (c .before .before .register-choice-of .ensures, c .before .before .before .unsigned-at .ensures)
 
 pub register-choice-at-spec : {M : Type 1} → statement M
 register-choice-at-spec =
-    tie.close (tie.spec unsigned-at-requires register-choice-of-requires returns)
+    tie.close (tie.spec (λ c κs. search needs) (λ c κs. search needs) returns)

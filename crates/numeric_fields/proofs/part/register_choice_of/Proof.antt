@@ -6,9 +6,6 @@ use borrow.Author.Needs.{needs}
 use Rattle.numeric_fields.proofs.part.register_choice_of.Statement.{statement}
 use Rattle.numeric_fields.proofs.part.register_choice_of.Tie as tie
 
-byte-at-requires : tie.Need-byte-at-requires
-byte-at-requires c κs = search needs
-
 returns : tie.Need-returns
 unfolding registerChoiceOf
 returns c = rw (c .match .keys1)
@@ -22,4 +19,4 @@ unfolding registerChoiceOf
 returns-3 c = let h : 2 ≤ c .before .args .place = rest-le 2 _ (c .match .rest) in rw (List·getD-eq-default)
 
 pub register-choice-of-spec : {M : Type 1} → statement M
-register-choice-of-spec = tie.close (tie.spec byte-at-requires returns returns-2 returns-3)
+register-choice-of-spec = tie.close (tie.spec (λ c κs. search needs) returns returns-2 returns-3)

@@ -3,15 +3,9 @@ use borrow.Author.Needs.{needs}
 use Rattle.numeric_fields.proofs.part.trap_operand_at.Statement.{statement}
 use Rattle.numeric_fields.proofs.part.trap_operand_at.Tie as tie
 
-unsigned-at-requires : tie.Need-unsigned-at-requires
-unsigned-at-requires c κs = search needs
-
-trap-operand-of-requires : tie.Need-trap-operand-of-requires
-trap-operand-of-requires c κs = search needs
-
 returns : tie.Need-returns
 unfolding trapOperandAt
 returns c = rw (c .before .before .trap-operand-of .ensures, c .before .before .before .unsigned-at .ensures)
 
 pub trap-operand-at-spec : {M : Type 1} → statement M
-trap-operand-at-spec = tie.close (tie.spec unsigned-at-requires trap-operand-of-requires returns)
+trap-operand-at-spec = tie.close (tie.spec (λ c κs. search needs) (λ c κs. search needs) returns)

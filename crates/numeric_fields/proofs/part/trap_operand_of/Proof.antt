@@ -6,12 +6,6 @@ use borrow.Author.Needs.{needs}
 use Rattle.numeric_fields.proofs.part.trap_operand_of.Statement.{statement}
 use Rattle.numeric_fields.proofs.part.trap_operand_of.Tie as tie
 
-word-at-requires : tie.Need-word-at-requires
-word-at-requires c κs = search needs
-
-long-at-requires : tie.Need-long-at-requires
-long-at-requires c κs = search needs
-
 returns : tie.Need-returns
 unfolding trapOperandOf
 returns c = rw (c .match .keys1)
@@ -30,4 +24,4 @@ returns-4 c = let h : 3 ≤ c .before .args .place = rest-le 3 _ (c .match .rest
 
 pub trap-operand-of-spec : {M : Type 1} → statement M
 trap-operand-of-spec =
-    tie.close (tie.spec word-at-requires long-at-requires returns returns-2 returns-3 returns-4)
+    tie.close (tie.spec (λ c κs. search needs) (λ c κs. search needs) returns returns-2 returns-3 returns-4)

@@ -1,0 +1,4 @@
+pub mod FieldLaws
+pub mod Standing
+pub mod FormLaws
+pub mod RoundTrip

@@ -1,0 +1,5 @@
+pub mod Shape
+pub mod Table
+pub mod Row
+pub mod Slot
+pub mod Made

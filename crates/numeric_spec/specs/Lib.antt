@@ -1,0 +1,4 @@
+pub mod Number
+pub mod Entry
+pub mod Field
+pub mod Form
