@@ -11,7 +11,7 @@ use mir.Facts.{toZ-ofZ}
 use native.Mathlib.Omega.{arith}
 use native.Mathlib.Nat.{zero-add}
 use borrow.Author.Tests.{le-ltb, ltb-true}
-use Rattle.base_signed.specs.Signed.{bitsOf}
+use Rattle.base_spec.specs.Signed.{bitsOf}
 
 -- the complement, -1 - z
 abbrev pub comp : ℤ → ℤ

@@ -1,7 +1,7 @@
 // Two's complement: signed numbers and their bits.
 ghost use mathlib.Core.Path.{_≡_};
 ghost use Prim.Native.Nat.{_%_};
-ghost use Rattle.base_signed.specs.Signed.{signed32, signed64, bitsOf, difference};
+ghost use Rattle.base_spec.specs.Signed.{signed32, signed64, bitsOf, difference};
 
 // A 32-bit number read as signed.
 pub fn to_signed(x: u32) -> i64

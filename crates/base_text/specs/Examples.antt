@@ -5,11 +5,12 @@ use mathlib.Core.List.{List, [], _∷_}
 use Prim.Native.Nat.{ℕ}
 use lib.ListN.{replicate}
 use lib.IntN.{negsuc}
-use Rattle.base_text.specs.declared.Number.the-variants.{Is, No}
-use Rattle.base_text.specs.Parts.{partEnd, fields}
-use Rattle.base_text.specs.Number.{numberOf}
-use Rattle.base_text.specs.Numbers.{noNumbers, gathered, numbersOf}
-use Rattle.base_text.specs.Written.{hex4Of, hex8Of, decimalOf, signedOf}
+use Rattle.base_spec.specs.declared.Number.the-variants.{Is, No}
+use Rattle.base_text.specs.Parts.{partEnd}
+use Rattle.base_spec.specs.Parts.{fields}
+use Rattle.base_spec.specs.Number.{numberOf}
+use Rattle.base_spec.specs.Numbers.{noNumbers, gathered, numbersOf}
+use Rattle.base_spec.specs.Written.{hex4Of, hex8Of, decimalOf, signedOf}
 
 -- 1⇥⇥-2
 line : List ℕ

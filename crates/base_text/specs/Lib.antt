@@ -1,7 +1,6 @@
 pub mod Parts
 pub mod Number
 pub mod Numbers
-pub mod Written
 pub mod PartLaws
 pub mod NumberLaws
 pub mod NumbersLaws
@@ -10,5 +9,4 @@ pub mod ReadBack
 pub mod Examples
 pub mod Wrote
 pub mod WroteLaws
-pub mod Lines
 pub mod LinesLaws

@@ -7,11 +7,12 @@ use native.Mathlib.Omega.{arith}
 use lib.ListN.{length, take, drop, length-append, length-take, length-drop}
 use lib.Seq.{take-at, drop-at, drop-drop}
 use lib.Dec.{eqb}
-use Rattle.base_text.specs.Parts.{before, partEnd, onto}
+use Rattle.base_text.specs.Parts.{before, partEnd}
+use Rattle.base_spec.specs.Parts.{onto}
 use Rattle.base_text.specs.PartLaws.{part-is}
 use Rattle.base_text.specs.Wrote.{Wrote}
 use borrow.Author.Tests.{lt-ltb, le-ltb}
-use Rattle.base_text.specs.Lines.{linesOf, answersTo, answersOf, stepOver, stepOf}
+use Rattle.base_spec.specs.Lines.{linesOf, answersTo, answersOf, stepOver, stepOf}
 
 lines-first : (b : ℕ) (bs : List ℕ) → linesOf (b ∷ bs) ≡ before 10 (b ∷ bs) ∷ linesOf (drop (suc (length (before 10 (b ∷ bs)))) (b ∷ bs))
 lines-first b [] = go (eqb b 10)

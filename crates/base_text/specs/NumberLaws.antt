@@ -9,9 +9,11 @@ use lib.ListN.{length, take, drop, getD, drop-of-length-le}
 use lib.Seq.{drop-cons, take-all}
 use lib.Dec.{ltb}
 use borrow.Author.Tests.{le-leb, lt-leb, lt-ltb, le-ltb, eq-eqb, ne-eqb}
-use Rattle.base_text.specs.declared.Number.{Number}
-use Rattle.base_text.specs.declared.Number.the-variants.{Is, No}
-use Rattle.base_text.specs.Number.{isDigit, allDigits, valueFrom, digitsFrom, unsignedOf, negated, numberOf}
+use Rattle.base_spec.specs.declared.Number.{Number}
+use Rattle.base_spec.specs.declared.Number.the-variants.{Is, No}
+use Rattle.base_text.specs.Number.{digitsFrom}
+use Rattle.base_spec.specs.Number.{isDigit, allDigits, valueFrom, unsignedOf, negated, numberOf}
+use Rattle.base_facts.specs.Tests.{and-yes}
 
 pub value-grows : (a : ℕ) (l : List ℕ) → a ≤ valueFrom a l
 value-grows a [] = omega arith
@@ -57,13 +59,9 @@ unsigned-zeros [] e h = refl
 unsigned-zeros (b ∷ []) e h = absurd (h refl)
 unsigned-zeros (b ∷ (x ∷ bs)) e h = rw (eq-eqb b 48 e)
 
-and-true : (t : Bool) → t && true ≡ t
-and-true true = refl
-and-true false = refl
-
 pub unsigned-digits : (f : List ℕ) → (length f ≡ 0 → ⊥) → (getD f 0 0 ≡ 48 → ⊥) → unsignedOf f ≡ digitsFrom 0 f
 unsigned-digits [] h e = absurd (h refl)
-unsigned-digits (b ∷ []) h e = rw (and-true (isDigit b))
+unsigned-digits (b ∷ []) h e = rw (and-yes (isDigit b))
 unsigned-digits (b ∷ (x ∷ bs)) h e = rw (ne-eqb b 48 e)
 
 pub number-nil : (f : List ℕ) → length f ≡ 0 → numberOf f ≡ No

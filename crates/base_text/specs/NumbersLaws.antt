@@ -9,13 +9,16 @@ use lib.ListN.{length, replicate, set, length-append, length-map, drop, take}
 use lib.Seq.{set-at, append-snoc}
 use lib.Dec.{leb, ltb}
 use borrow.Author.Tests.{le-leb, lt-leb, lt-ltb, le-ltb, leb-true, ltb-true}
-use Rattle.base_text.specs.declared.Number.{Number}
-use Rattle.base_text.specs.declared.Number.the-variants.{Is, No}
-use Rattle.base_text.specs.declared.Numbers.{Numbers}
-use Rattle.base_text.specs.Parts.{before, partEnd, fields}
+use Rattle.base_spec.specs.declared.Number.{Number}
+use Rattle.base_spec.specs.declared.Number.the-variants.{Is, No}
+use Rattle.base_spec.specs.declared.Numbers.{Numbers}
+use Rattle.base_text.specs.Parts.{partEnd}
+use Rattle.base_spec.specs.Parts.{fields}
 use Rattle.base_text.specs.PartLaws.{partsFrom, parts-at, parts-start, parts-past, part-is}
-use Rattle.base_text.specs.Number.{numberOf}
-use Rattle.base_text.specs.Numbers.{isNumber, negativeOf, magnitudeOf, allNumbers, places, noNumbers, gathered, numbersOf, placedNumber, withNumber}
+use Rattle.base_spec.specs.Number.{numberOf}
+use Rattle.base_text.specs.Numbers.{placedNumber, withNumber}
+use Rattle.base_spec.specs.Numbers.{isNumber, negativeOf, magnitudeOf, allNumbers, places, noNumbers, gathered, numbersOf}
+use Rattle.base_facts.specs.Tests.{and-false}
 
 all-more : (ns : List Number) (n : Number) → allNumbers (ns ++ (n ∷ [])) ≡ allNumbers ns && isNumber n
 all-more [] (Is s m) = refl
@@ -71,10 +74,6 @@ place ns s n a h =
 full : (ns : List Number) (s : Bool) (n : ℕ) → 24 ≤ length ns → placedNumber (numbersIf true ns) s n ≡ noNumbers
 unfolding placedNumber
 full ns s n h = rw (le-ltb (length ns) 24 h)
-
-and-false : (t : Bool) → t && false ≡ false
-and-false true = refl
-and-false false = refl
 
 module _ (ns : List Number) (s : Bool) (n : ℕ) where
   over : 24 ≤ length ns → gathered (ns ++ (Is s n ∷ [])) ≡ noNumbers

@@ -10,7 +10,8 @@ use lib.ListN.{length, drop, take, getD, drop-of-length-le, length-drop}
 use lib.Seq.{drop-drop, drop-cons}
 use lib.Dec.{leb, eqb, leb·suc-suc}
 use borrow.Author.Tests.{le-leb, lt-leb, eq-eqb, ne-eqb}
-use Rattle.base_text.specs.Parts.{before, partEnd, onto, parts}
+use Rattle.base_text.specs.Parts.{before, partEnd}
+use Rattle.base_spec.specs.Parts.{onto, parts}
 
 module _ (stop : ℕ) where
   module _ (s : List ℕ) (i : ℕ) (h : i < length s) where

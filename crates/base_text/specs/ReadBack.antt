@@ -8,10 +8,10 @@ use lib.ListN.{length, getD, length-append, List·getD-append}
 use lib.Dec.{ltb}
 use lib.IntN.{negsuc}
 use borrow.Author.Tests.{le-leb, lt-ltb, ltb-true, ltb-false, ne-eqb}
-use Rattle.base_text.specs.declared.Number.the-variants.{Is}
-use Rattle.base_text.specs.Number.{isDigit, allDigits, valueFrom, value, unsignedOf, numberOf}
+use Rattle.base_spec.specs.declared.Number.the-variants.{Is}
+use Rattle.base_spec.specs.Number.{isDigit, allDigits, valueFrom, value, unsignedOf, numberOf}
 use Rattle.base_text.specs.NumberLaws.{unsigned-digits, number-plain}
-use Rattle.base_text.specs.Written.{decimalOf, signedOf}
+use Rattle.base_spec.specs.Written.{decimalOf, signedOf}
 use Rattle.base_text.specs.WrittenLaws.{decimal-small, decimal-more}
 
 is-digit : (d : ℕ) → d < 10 → isDigit (48 + d) ≡ true

@@ -11,8 +11,8 @@ use lib.IntN.{ℤ, pos, negsuc}
 use mir.Val.{SFits}
 use mir.Syntax.{w64}
 use borrow.Author.Tests.{ltb-true, ltb-false}
-use Rattle.base_text.specs.Written.{placed, digitsTo, decimalOf, signedOf}
-use Rattle.base_signed.specs.Signed.{bitsOf}
+use Rattle.base_spec.specs.Written.{placed, digitsTo, decimalOf, signedOf}
+use Rattle.base_spec.specs.Signed.{bitsOf}
 
 pub placed-length : (buf : List ℕ) (at : ℕ) (t : List ℕ) → at + length t ≤ length buf → length (placed buf at t) ≡ length buf
 placed-length buf at t h = rw (length-append, length-append, length-take, length-drop) (omega arith)

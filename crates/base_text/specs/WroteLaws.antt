@@ -8,7 +8,7 @@ use lib.Seq.{paste-zero}
 use lib.IntN.{ℤ, pos, negsuc}
 use mir.Val.{SFits}
 use mir.Syntax.{w64}
-use Rattle.base_text.specs.Written.{placed, decimalOf, signedOf}
+use Rattle.base_spec.specs.Written.{placed, decimalOf, signedOf}
 use Rattle.base_text.specs.WrittenLaws.{placed-then, decimal-length, decimal-19}
 use Rattle.base_text.specs.Wrote.{Wrote}
 

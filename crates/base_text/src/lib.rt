@@ -4,10 +4,15 @@ ghost use mathlib.Core.List.{[], _∷_};
 ghost use Prim.Native.Nat.{_+_, _%_, _≤_};
 ghost use lib.ListN.{length};
 ghost use Rattle.base_text.specs.Parts.{partEnd};
-ghost use Rattle.base_text.specs.Number.{digitsFrom, unsignedOf, negated, numberOf};
-ghost use Rattle.base_text.specs.Numbers.{noNumbers, placedNumber, withNumber, numbersOf};
-ghost use Rattle.base_text.specs.Written.{placed, hexDigit, hex4Of, hex8Of, decimalOf, signedOf};
-ghost use Rattle.base_text.specs.Wrote.{Wrote, fieldText, refusedText, notInForm};
+ghost use Rattle.base_text.specs.Number.{digitsFrom};
+ghost use Rattle.base_spec.specs.Number.{unsignedOf, negated, numberOf};
+ghost use Rattle.base_text.specs.Numbers.{placedNumber, withNumber};
+ghost use Rattle.base_spec.specs.Numbers.{noNumbers, numbersOf};
+ghost use Rattle.base_spec.specs.Written.{placed, hexDigit, hex4Of, hex8Of, decimalOf, signedOf};
+ghost use Rattle.base_text.specs.Wrote.{Wrote};
+ghost use Rattle.base_spec.specs.Refused.{fieldText, refusedText, notInForm};
+use base_spec::Number;
+use base_spec::Numbers;
 
 // Where the part that begins at `from` ends: the next `stop`, or the end.
 pub fn part_end(s: &[u8], from: usize, stop: u8) -> usize
@@ -36,11 +41,6 @@ pub fn field_end(line: &[u8], from: usize) -> usize
     ensures { λ r. ⌜ (r ≡ partEnd 9 (now (line .entry)) from) × (r ≤ length (now (line .entry))) ⌝ }
 {
     part_end(line, from, 9)
-}
-
-pub enum Number {
-    Is { negative: bool, magnitude: u64 },
-    No,
 }
 
 fn wide(b: u8) -> u64
@@ -130,14 +130,6 @@ pub fn read_number(f: &[u8]) -> Number
         return below_zero(unsigned(&f[1..]));
     }
     unsigned(f)
-}
-
-// The numbers of a line, where all its fields are numbers and at most 24.
-pub struct Numbers {
-    pub ok: bool,
-    pub count: usize,
-    pub negative: [bool; 24],
-    pub magnitude: [u64; 24],
 }
 
 fn no_numbers() -> Numbers
@@ -277,12 +269,6 @@ pub fn put_signed(out: &mut [u8], at: usize, v: i64) -> usize
     }
     let next = put_byte(out, at, 45);
     put_digits(out, next, 0xFFFF_FFFF_FFFF_FFFF - b + 1)
-}
-
-// The next place in the text, and how many bytes were written.
-pub struct Step {
-    pub next: usize,
-    pub count: usize,
 }
 
 // A number and a tab.

@@ -11,11 +11,11 @@ use Rattle.numeric_fields.specs.declared.LongAt.{LongAt}
 use Rattle.numeric_build.specs.declared.Built.{Built}
 use Rattle.numeric_fields.specs.Number.{longAt}
 use Rattle.numeric_build.specs.Build.{buildOf}
-use Rattle.base_text.specs.declared.Numbers as read
-use Rattle.base_text.specs.Numbers.{numbersOf}
-use Rattle.base_text.specs.Written.{hex4Of}
-use Rattle.base_text.specs.Wrote.{tab, notInForm}
-use Rattle.encode_answers.specs.Answer.{wordsText, builtText, numbersText, numbersIn, answerOf}
+use Rattle.base_spec.specs.declared.Numbers as read
+use Rattle.base_spec.specs.Numbers.{numbersOf}
+use Rattle.base_spec.specs.Written.{hex4Of}
+use Rattle.base_spec.specs.Refused.{tab, notInForm}
+use Rattle.print_spec.specs.EncodeAnswer.{wordsText, builtText, numbersText, numbersIn, answerOf}
 
 words-more : (ws : List ℕ) (w : ℕ) → wordsText (ws ++ (w ∷ [])) ≡ wordsText ws ++ (hex4Of w ++ tab)
 words-more [] w = refl

@@ -2,11 +2,11 @@
 ghost use mathlib.Core.Path.{_≡_};
 ghost use Prim.Native.Nat.{_+_, _≤_};
 ghost use lib.ListN.{length, take};
-ghost use Rattle.base_text.specs.Written.{placed};
+ghost use Rattle.base_spec.specs.Written.{placed};
 ghost use Rattle.base_text.specs.Wrote.{Wrote};
-ghost use Rattle.base_text.specs.Lines.{Answered};
-ghost use Rattle.encode_answers.specs.Answer.{wordsText, encodedText, measuredText, resultText, builtText, numbersText, numbersIn, answerOf};
-use base_text::Step;
+ghost use Rattle.base_spec.specs.Lines.{Answered};
+ghost use Rattle.print_spec.specs.EncodeAnswer.{wordsText, encodedText, measuredText, resultText, builtText, numbersText, numbersIn, answerOf};
+use base_spec::Step;
 use isa::Encoded;
 use isa::Measured;
 use numeric_build::Built;
@@ -85,7 +85,7 @@ fn put_numbers(out: &mut [u8], at: usize, numbers: Numbers) -> usize
     }
 }
 
-fn numbers_in(n: base_text::Numbers) -> Numbers
+fn numbers_in(n: base_spec::Numbers) -> Numbers
     ensures { λ r. ⌜ r ≡ numbersIn n ⌝ }
 {
     let negative = n.negative;

@@ -3,7 +3,7 @@ ghost use mathlib.Core.Path.{_≡_};
 ghost use Prim.Native.Nat.{_<_};
 ghost use Rattle.encode_spec.specs.Item.{check};
 ghost use Rattle.encode_spec.specs.Item as item;
-ghost use Rattle.isa.specs.ExtensionWord.{isFull};
+ghost use Rattle.isa_spec.specs.ExtensionWord.{isFull};
 ghost use Rattle.encode_spec.specs.Ea.{distance, wordItems, immediateWords, immediateItems, indexSizeVerdict, briefItems, displacementItems, baseDisplacement, fullItems, briefField, scaledItems, extendedItems, absoluteItems, eaItems};
 ghost use Rattle.encode_spec.specs.Ea as ea;
 ghost use Rattle.isa.specs.declared.Field.the-variants as field;

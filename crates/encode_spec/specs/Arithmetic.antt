@@ -10,7 +10,7 @@ use Rattle.isa.specs.declared.RegisterOperand.{RegisterOperand}
 use Rattle.isa.specs.declared.Operand.{Operand}
 use Rattle.isa.specs.declared.Field.the-variants as field
 use Rattle.encode_spec.specs.Item.{Part, word, range, register, dataRegister, allow, operation, fixed}
-use Rattle.isa.specs.Code.{sizeCode, isByte, longBit, bit, numberOfRegister, registerBits, general}
+use Rattle.isa_spec.specs.Code.{sizeCode, isByte, longBit, bit, numberOfRegister, registerBits, general}
 use Rattle.encode_spec.specs.Ea.{everyMode, dataModes, alterable, dataAlterable, memoryAlterable, control, dataNotImmediate, byteOfAddress, eaField, registerField, immediateItems, effective, isRegister, registerIn, registerNumber, bothOf, paired, memoryBit, single, withData, withAddress, fromData}
 use Rattle.isa.specs.declared.ImmediateOperation.{ImmediateOperation}
 use Rattle.isa.specs.declared.ImmediateOperation.the-variants.{ADDI, SUBI, ANDI, ORI, EORI, CMPI}

@@ -7,9 +7,9 @@ use Rattle.isa.specs.declared.RegisterOperand.{RegisterOperand}
 use Rattle.isa.specs.declared.Operand.{Operand}
 use Rattle.isa.specs.declared.Field.{Field}
 use Rattle.isa.specs.declared.Field.the-variants as field
-use Rattle.base_signed.specs.Signed.{signed32, bitsOf, difference}
+use Rattle.base_spec.specs.Signed.{signed32, bitsOf, difference}
 use Rattle.encode_spec.specs.Item.{Item, Part, word, range, dataRegister, allow, operation, fixed, placed}
-use Rattle.isa.specs.Code.{registerBits, conditionCode}
+use Rattle.isa_spec.specs.Code.{registerBits, conditionCode}
 use Rattle.encode_spec.specs.Ea.{dataAlterable, control, distance, longItems, wordItems, single}
 use Rattle.isa.specs.declared.Condition.{Condition}
 use Rattle.isa.specs.declared.BranchSize.{BranchSize}

@@ -17,10 +17,10 @@ use Rattle.isa.specs.declared.Operand.{Operand}
 use Rattle.isa.specs.declared.Operand.the-variants.{Immediate, Register, Indirect, PostIndirect, PreIndirect, IndirectDisplacement, IndirectIndex, PcDisplacement, PcIndex, Extended, Absolute}
 use Rattle.isa.specs.declared.Field.{Field}
 use Rattle.isa.specs.declared.Field.the-variants as field
-use Rattle.base_signed.specs.Signed.{signed32, signed64, bitsOf, difference}
+use Rattle.base_spec.specs.Signed.{signed32, signed64, bitsOf, difference}
 use Rattle.encode_spec.specs.Item.{Item, Part, Verdict, fine, malformed, noEncoding, word, check, range, unless, register, dataRegister, addressRegister, allow, operation, fixed}
-use Rattle.isa.specs.Code.{sizeCode, numberOfRegister, registerBits, general, longBit, isByte, bit}
-use Rattle.isa.specs.ExtensionWord.{isFull, baseSuppressed, baseSize, outerSize, isCanonical}
+use Rattle.isa_spec.specs.Code.{sizeCode, numberOfRegister, registerBits, general, longBit, isByte, bit}
+use Rattle.isa_spec.specs.ExtensionWord.{isFull, baseSuppressed, baseSize, outerSize, isCanonical}
 
 -- The modes, 0 to 11 as the Rust orders them: Dn An (An) (An)+ -(An) d16(An) d8(An,Xn) (xxx).W (xxx).L d16(PC) d8(PC,Xn) #.
 abbrev pub registerMode : RegisterOperand → ℕ

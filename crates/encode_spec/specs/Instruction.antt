@@ -33,7 +33,7 @@ use Rattle.isa.specs.declared.LinkOperation.the-variants.{LINK, LINKL}
 use Rattle.isa.specs.declared.Instruction.{Instruction}
 use Rattle.isa.specs.declared.Instruction.the-variants.{IntoRegister, MOVEM, Transfer, Pair, Quick, MOVEQ, ImmediateInto, WordIntoData, SWAP, EXG, UnsizedIntoRegister, UnsizedOne, UnsizedPair, EXT, OneOperand, Bcc, Scc, DBcc, Branch, Link, UNLK, Shift, Vector, Status, ConditionCode, MOVEUSP, Raw, NoOperand, RTD, MOVEC, TRAPcc, MULL, Pack, CAS, CAS2, BF, DIVL}
 use Rattle.encode_spec.specs.Item.{Part, fixed}
-use Rattle.isa.specs.Code.{sizeCode}
+use Rattle.isa_spec.specs.Code.{sizeCode}
 use Rattle.encode_spec.specs.Ea.{dataModes, dataAlterable, control, typed, single, withData, withAddress, fromData}
 use Rattle.encode_spec.specs.Movement.{moveParts, moveaParts, movemParts, movepParts, moveqParts, exgParts, linkParts, linklParts, unlkParts}
 use Rattle.encode_spec.specs.Arithmetic.{immediateParts, quickParts, intoDataParts, arithmeticParts, intoAddressParts, boundsParts, extendedParts, cmpmParts, signedBit, mullParts, divlParts, tstParts, extParts, swapParts}

@@ -8,7 +8,7 @@ use Rattle.isa.specs.declared.RegisterOperand.{RegisterOperand}
 use Rattle.isa.specs.declared.RegisterOperand.the-variants.{Address, Data}
 use Rattle.isa.specs.declared.Field.{Field}
 use Rattle.isa.specs.declared.Field.the-variants as field
-use Rattle.isa.specs.Field.{holds, numberOf}
+use Rattle.isa_spec.specs.Field.{holds, numberOf}
 
 -- what a check says: that it passes, or the refusal (01, "Where a thing is turned back")
 pub data Verdict : Type 0 where

@@ -8,3 +8,5 @@ pub mod Control
 pub mod System
 pub mod Instruction
 pub mod Encode
+pub mod Promises
+pub mod Cases

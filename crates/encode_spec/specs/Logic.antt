@@ -10,7 +10,7 @@ use Rattle.isa.specs.declared.RegisterOperand.{RegisterOperand}
 use Rattle.isa.specs.declared.Operand.{Operand}
 use Rattle.isa.specs.declared.Field.the-variants as field
 use Rattle.encode_spec.specs.Item.{Item, Part, noEncoding, word, check, range, register, dataRegister, allow, operation, fixed}
-use Rattle.isa.specs.Code.{sizeCode, isWord, bit, registerBits}
+use Rattle.isa_spec.specs.Code.{sizeCode, isWord, bit, registerBits}
 use Rattle.encode_spec.specs.Ea.{dataModes, memoryAlterable, isRegister, isImmediate, registerIn, immediateIn, single, withData, fromData}
 use Rattle.isa.specs.declared.ShiftOperation.{ShiftOperation}
 use Rattle.isa.specs.declared.ShiftOperation.the-variants.{ASd, ROd, LSd, ROXd}

@@ -8,9 +8,9 @@ use Rattle.isa.specs.declared.RegisterOperand.the-variants.{Address, Data}
 use Rattle.isa.specs.declared.Operand.{Operand}
 use Rattle.isa.specs.declared.Operand.the-variants.{Immediate, Register, Indirect, PostIndirect, PreIndirect, IndirectDisplacement, IndirectIndex, PcDisplacement, PcIndex, Extended, Absolute}
 use Rattle.isa.specs.declared.Field.the-variants as field
-use Rattle.base_signed.specs.Signed.{signed32}
+use Rattle.base_spec.specs.Signed.{signed32}
 use Rattle.encode_spec.specs.Item.{Item, Part, noEncoding, word, check, register, dataRegister, addressRegister, allow, operation, fixed}
-use Rattle.isa.specs.Code.{moveCode, isByte, longBit, bit, numberOfRegister, registerBits, general, toMemory, fromMemory}
+use Rattle.isa_spec.specs.Code.{moveCode, isByte, longBit, bit, numberOfRegister, registerBits, general, toMemory, fromMemory}
 use Rattle.encode_spec.specs.Ea.{everyMode, dataAlterable, movemToMemory, movemFromMemory, byteOfAddress, eaField, modeField, registerField, longItems, wordItems, effective, withAddress}
 use Rattle.isa.specs.declared.TargetDirection.{TargetDirection}
 use Rattle.isa.specs.declared.TargetDirection.the-variants.{ToMemory, FromMemory}

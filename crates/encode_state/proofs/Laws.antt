@@ -3,7 +3,7 @@ use mathlib.Core.Bool.{Bool, true, false}
 use mathlib.Core.Path.{_≡_, ap}
 use lib.IntN.{ℤ}
 use Rattle.isa.specs.declared.Field.{Field}
-use Rattle.isa.specs.Field.{holds}
+use Rattle.isa_spec.specs.Field.{holds}
 use Rattle.encode_spec.specs.Item.{Verdict, outOfRange, range, ranged, unless}
 use Rattle.encode_state.specs.declared.Encoder.{Encoder}
 use Rattle.encode_state.specs.Encoder.{step, marked}

@@ -6,7 +6,7 @@ use lib.Dec.{ltb, eqb}
 use lib.ListN.{set, length}
 use lib.IntN.{ℤ, pos}
 use Rattle.encode_state.specs.declared.Encoder.{Encoder}
-use Rattle.isa.specs.Field.{numberOf}
+use Rattle.isa_spec.specs.Field.{numberOf}
 use Rattle.encode_spec.specs.Item.{Item, Part, Verdict, fine, malformed, outOfRange, noEncoding, word, check, range, ranged}
 use Rattle.encode_spec.specs.Encode.{padded}
 

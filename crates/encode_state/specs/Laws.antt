@@ -1,7 +1,7 @@
 -- Laws of the encoder's state: what a run of items leaves, and where each part begins.
 use Prim.Native.Nat.{ℕ, suc, _+_, _-_, _%_, _^_, _<_}
 use mathlib.Core.Bool.{Bool, true, false, cond}
-use mathlib.Core.List.{List, [], _∷_, _++_, append-assoc}
+use mathlib.Core.List.{List, [], _∷_, _++_, append-assoc, append-nil}
 use mathlib.Core.Path.{_≡_, refl, ap, sym, _∙_}
 use lib.Dec.{eqb}
 use lib.ListN.{set, length, replicate, length-append}
@@ -10,10 +10,11 @@ use native.Mathlib.Omega.{arith}
 use borrow.Author.Tests.{lt-ltb}
 use Rattle.encode_state.specs.declared.Encoder.{Encoder}
 use Rattle.isa.specs.declared.Encoded.{Encoded}
-use Rattle.isa.specs.Field.{numberOf}
+use Rattle.isa_spec.specs.Field.{numberOf}
 use Rattle.encode_spec.specs.Item.{Item, Part, Verdict, fine, malformed, outOfRange, noEncoding, word, check, range, ranged, wordsIn, countOf, placed, laid, orElse, failure}
 use Rattle.encode_spec.specs.Encode.{padded, encodedAs}
 use Rattle.encode_state.specs.Encoder.{pushed, refused, marked, step, run, nextAddress, runParts, holding}
+use Rattle.encode_facts.specs.Items.{words-count, count-append, placed-placed}
 
 -- ---- a refused state stays as it is
 abbrev pub Refused : Encoder → Type 0
@@ -99,10 +100,6 @@ module _ (Q : Type 0) where
   by-verdict (outOfRange f z) a b ws p q = q refl
   by-verdict (noEncoding r) a b ws p q = q refl
 
-append-nil : (ws : List ℕ) → ws ++ [] ≡ ws
-append-nil [] = refl
-append-nil (w ∷ ws) = ap (λ (l : List ℕ). w ∷ l) (append-nil ws)
-
 module _ (a : ℕ) (b : Bool) (Q : Encoder → Type 0) where
   after-check : (v : Verdict) (xs : List Item) (ws : List ℕ)
       → (v ≡ fine → Q (run xs (holding a b ws)))
@@ -128,21 +125,6 @@ module _ (a : ℕ) (b : Bool) (Q : Encoder → Type 0) where
 next-holding : (a : ℕ) (b : Bool) (ws : List ℕ) → length ws < 12 → nextAddress (holding a b ws) ≡ placed a (length ws)
 unfolding nextAddress
 next-holding a b ws m = let e : length ws % 16 ≡ length ws = omega arith in rw e
-
-words-count : (xs : List Item) → length (wordsIn xs) ≡ countOf xs
-words-count [] = refl
-words-count (word w ∷ xs) = let e = words-count xs in omega arith
-words-count (check v ∷ xs) = words-count xs
-words-count (range f z ∷ xs) = words-count xs
-
-count-append : (xs ys : List Item) → countOf (xs ++ ys) ≡ countOf xs + countOf ys
-count-append [] ys = omega arith
-count-append (word w ∷ xs) ys = let e = count-append xs ys in omega arith
-count-append (check v ∷ xs) ys = count-append xs ys
-count-append (range f z ∷ xs) ys = count-append xs ys
-
-placed-placed : (a n k : ℕ) → placed (placed a n) k ≡ placed a (n + k)
-placed-placed a n k = omega arith
 
 pub parts-run : (a : ℕ) (b : Bool) (ps : List Part) (ws : List ℕ) → length ws + countOf (laid ps (placed a (length ws))) < 12
     → runParts ps (holding a b ws) ≡ run (laid ps (placed a (length ws))) (holding a b ws)

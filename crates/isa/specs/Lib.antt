@@ -1,3 +1,0 @@
-pub mod Field
-pub mod ExtensionWord
-pub mod Code

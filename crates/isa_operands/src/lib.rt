@@ -5,7 +5,7 @@ ghost use Rattle.encode_spec.specs.Ea.{registerMode, absoluteMode, extendedMode
 ghost use Rattle.encode_spec.specs.Movement.{movemModes};
 ghost use mathlib.Core.Bool.{_&&_};
 ghost use lib.Dec.{leb};
-ghost use Rattle.isa.specs.ExtensionWord.{isCanonical};
+ghost use Rattle.isa_spec.specs.ExtensionWord.{isCanonical};
 use isa::AddressWidth;
 use isa::Operand;
 use isa::RegisterOperand;

@@ -21,7 +21,7 @@ use Rattle.isa.specs.declared.Size.{Size}
 use Rattle.isa.specs.declared.Size.the-variants.{Byte, Word, Long}
 use Rattle.isa_values.specs.Condition.{both}
 use Rattle.isa.specs.declared.Range.{Range}
-use Rattle.isa.specs.Field.{isZero, between, ranges, narrowed, topOf}
+use Rattle.isa_spec.specs.Field.{isZero, between, ranges, narrowed, topOf}
 
 abbrev lowFit : List Range → Bool
 lowFit [] = true

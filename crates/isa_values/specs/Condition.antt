@@ -8,16 +8,8 @@ use lib.ListN.{getD, length}
 use native.Mathlib.Omega.{arith}
 use Rattle.isa.specs.declared.Condition.{Condition}
 use Rattle.isa.specs.declared.Condition.the-variants.{True, False, High, LowOrSame, CarryClear, CarrySet, NotEqual, Equal, OverflowClear, OverflowSet, Plus, Minus, GreaterThanOrEqual, LessThan, GreaterThan, LessThanOrEqual}
-use Rattle.isa.specs.Code.{conditionCode}
-
--- in the order of their codes
-abbrev pub conditions : List Condition
-conditions =
-    True ∷ False ∷ High ∷ LowOrSame ∷ CarryClear ∷ CarrySet ∷ NotEqual ∷ Equal ∷ OverflowClear ∷ OverflowSet ∷ Plus ∷ Minus
-    ∷ GreaterThanOrEqual ∷ LessThan ∷ GreaterThan ∷ LessThanOrEqual ∷ []
-
-abbrev pub conditionOf : ℕ → Condition
-conditionOf k = getD conditions (k % 16) True
+use Rattle.isa_spec.specs.Code.{conditionCode}
+use Rattle.isa_spec.specs.Condition.{conditionOf, conditions}
 
 pub of-code : (c : Condition) → conditionOf (conditionCode c) ≡ c
 of-code True = refl

@@ -3,7 +3,7 @@ use Prim.Native.Nat.{ℕ}
 use mathlib.Core.Path.{_≡_, refl}
 use Rattle.isa.specs.declared.DisplacementSize.{DisplacementSize}
 use Rattle.isa.specs.declared.DisplacementSize.the-variants.{Null, Word, Long}
-use Rattle.isa.specs.ExtensionWord.{sizeOfCode}
+use Rattle.isa_spec.specs.ExtensionWord.{sizeOfCode}
 
 abbrev pub displacementBytes : DisplacementSize → ℕ
 displacementBytes Null = 0

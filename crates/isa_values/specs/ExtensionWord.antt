@@ -10,8 +10,8 @@ use Rattle.isa.specs.declared.IndexRegister.{IndexRegister}
 use Rattle.isa.specs.declared.DisplacementSize.{DisplacementSize}
 use Rattle.isa.specs.declared.Indirection.{Indirection}
 use Rattle.isa.specs.declared.Indirection.the-variants as indirect
-use Rattle.isa.specs.Code.{longBit, general, bit}
-use Rattle.isa.specs.ExtensionWord.{isFull, indexSuppressed, baseSize, outerSize}
+use Rattle.isa_spec.specs.Code.{longBit, general, bit}
+use Rattle.isa_spec.specs.ExtensionWord.{isFull, indexSuppressed, baseSize, outerSize}
 use Rattle.isa_values.specs.DisplacementSize.{displacementBytes, displacementCode}
 use Rattle.isa_values.specs.declared.extension_word.IndexChoice.{IndexChoice}
 use Rattle.isa_values.specs.declared.extension_word.IndexChoice.the-variants as choice

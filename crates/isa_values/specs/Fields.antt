@@ -4,7 +4,7 @@ use mathlib.Core.Path.{_≡_, refl, sym, _∙_}
 use mathlib.Core.Bool.{Bool, true, false, _&&_}
 use lib.IntN.{pos}
 use lib.Dec.{ltb, leb, leb·zero, leb·suc-suc}
-use Rattle.isa.specs.Field.{holds, ranges}
+use Rattle.isa_spec.specs.Field.{holds, ranges}
 use Rattle.isa.specs.declared.Field.the-variants as field
 
 -- 0 is the lowest, and only ShortBranch has a further rule

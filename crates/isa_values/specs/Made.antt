@@ -14,8 +14,8 @@ use Rattle.isa.specs.declared.DisplacementSize.{DisplacementSize}
 use Rattle.isa.specs.declared.DisplacementSize.the-variants.{Null, Word, Long}
 use Rattle.isa.specs.declared.Indirection.{Indirection}
 use Rattle.isa.specs.declared.Indirection.the-variants.{None, Preindexed, Postindexed}
-use Rattle.isa.specs.Code.{longBit, general, bit}
-use Rattle.isa.specs.ExtensionWord.{isFull, baseSuppressed, indexSuppressed, baseSize, indirectionOf, outerSizeAs, outerSize}
+use Rattle.isa_spec.specs.Code.{longBit, general, bit}
+use Rattle.isa_spec.specs.ExtensionWord.{isFull, baseSuppressed, indexSuppressed, baseSize, indirectionOf, outerSizeAs, outerSize}
 use Rattle.isa_values.specs.DisplacementSize.{displacementCode}
 use Rattle.isa_values.specs.ExtensionWord.{indexOperand, indexSize, scaleShift, scaleCode, indexBits, indirectionCode, fullWord}
 

@@ -1,7 +1,7 @@
 // The values of an instruction as fields of words.
 ghost use mathlib.Core.Path.{_≡_};
 ghost use Prim.Native.Nat.{_<_};
-ghost use Rattle.isa.specs.Code.{sizeCode, moveCode, isByte, isWord, longBit, bit, numberOfRegister, registerBits, general, toMemory, fromMemory};
+ghost use Rattle.isa_spec.specs.Code.{sizeCode, moveCode, isByte, isWord, longBit, bit, numberOfRegister, registerBits, general, toMemory, fromMemory};
 use isa::RegisterOperand;
 use isa::Size;
 use isa::TargetDirection;

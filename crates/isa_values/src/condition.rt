@@ -1,8 +1,8 @@
 // Conditions and their four-bit codes.
 ghost use mathlib.Core.Path.{_≡_};
 ghost use Prim.Native.Nat.{_<_};
-ghost use Rattle.isa.specs.Code.{conditionCode};
-ghost use Rattle.isa_values.specs.Condition.{conditionOf};
+ghost use Rattle.isa_spec.specs.Code.{conditionCode};
+ghost use Rattle.isa_spec.specs.Condition.{conditionOf};
 use isa::Condition;
 
 // Every condition, in the order of its code.

@@ -1,7 +1,7 @@
 // The widths of the displacements of a full extension word.
 ghost use mathlib.Core.Path.{_≡_};
 ghost use Prim.Native.Nat.{_<_};
-ghost use Rattle.isa.specs.ExtensionWord.{sizeOfCode};
+ghost use Rattle.isa_spec.specs.ExtensionWord.{sizeOfCode};
 ghost use Rattle.isa_values.specs.DisplacementSize.{displacementBytes, displacementCode};
 use isa::DisplacementSize;
 

@@ -1,7 +1,7 @@
 // The fields that hold a number.
 ghost use mathlib.Core.Path.{_≡_};
 ghost use Prim.Native.Nat.{_<_};
-ghost use Rattle.isa.specs.Field.{numberOf, lowest, highest, topOf, holds};
+ghost use Rattle.isa_spec.specs.Field.{numberOf, lowest, highest, topOf, holds};
 use isa::Field;
 use isa::Range;
 use isa::Size;

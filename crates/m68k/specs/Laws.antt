@@ -1,5 +1,5 @@
 -- Laws of the encoder, over every instruction and address.
-use Prim.Native.Nat.{ℕ, zero, suc, _+_, _*_, _-_, _≤_, _<_}
+use Prim.Native.Nat.{ℕ, zero, suc, _*_, _-_, _≤_, _<_}
 use mathlib.Core.Bool.{Bool, true, false}
 use mathlib.Core.List.{List, [], _∷_, _++_}
 use mathlib.Core.Path.{_≡_, refl, ap, sym, _∙_}
@@ -12,10 +12,12 @@ use Rattle.isa.specs.declared.Field.{Field}
 use Rattle.isa.specs.declared.Instruction.{Instruction}
 use Rattle.isa.specs.declared.Encoded.{Encoded}
 use Rattle.isa.specs.declared.Measured.{Measured}
-use Rattle.isa.specs.Field.{holds}
-use Rattle.encode_spec.specs.Item.{Item, Verdict, fine, malformed, outOfRange, noEncoding, word, check, range, unless, ranged, countOf, wordsIn, orElse, failure}
-use Rattle.encode_spec.specs.Encode.{itemsOf, wordsOf, refusalOf, padded, refusedWords, encodedAs, encodeOf, measuredAs, sizeOf, bytesIn, short, bytesAs, bytesOf, lentAs, lentOf}
+use Rattle.isa_spec.specs.Field.{holds}
+use Rattle.encode_spec.specs.Item.{Item, Verdict, fine, malformed, outOfRange, noEncoding, word, check, range, unless, ranged, countOf, orElse, failure}
+use Rattle.encode_spec.specs.Encode.{itemsOf, wordsOf, refusalOf, padded, encodedAs, encodeOf, measuredAs, sizeOf, bytesIn, short, bytesAs, bytesOf, lentAs, lentOf}
+use Rattle.encode_spec.specs.Promises.{OnlyOutOfRange, accepted, outside, Counted}
 use Rattle.m68k.specs.Lays.{alike-count, alike-failure, instruction-lays}
+use Rattle.encode_facts.specs.Items.{words-count, fine-both}
 
 -- ---- lists of items
 -- what fails only where ranges are checked is a range
@@ -27,29 +29,17 @@ range-verdict : (f : Field) (z : ℤ) (b : Bool) → holds f z ≡ b → (v : Ve
 range-verdict f z true h v r = r
 range-verdict f z false h v r = fails f z h
 
-verdict-first : (v u : Verdict) → orElse v u ≡ fine → (v ≡ fine) × (u ≡ fine)
-verdict-first fine u h = (refl, h)
-verdict-first malformed u h = let z : _≡_ {A = ℕ} 0 1 = cc in absurd (omega arith)
-verdict-first (outOfRange f y) u h = let z : _≡_ {A = ℕ} 0 1 = cc in absurd (omega arith)
-verdict-first (noEncoding r) u h = let z : _≡_ {A = ℕ} 0 1 = cc in absurd (omega arith)
-
 range-only : (xs : List Item) → failure false xs ≡ fine → RangeOnly (failure true xs)
 range-only [] h = passes
 range-only (word w ∷ xs) h = range-only xs h
-range-only (check v ∷ xs) h = let p = verdict-first v (failure false xs) h in rw (p .0) (range-only xs (p .1))
+range-only (check v ∷ xs) h = let p = fine-both v (failure false xs) h in rw (p .0) (range-only xs (p .1))
 range-only (range f z ∷ xs) h = range-verdict f z (holds f z) refl (failure true xs) (range-only xs h)
 
 fewer : (xs : List Item) → failure true xs ≡ fine → failure false xs ≡ fine
 fewer [] h = refl
 fewer (word w ∷ xs) h = fewer xs h
-fewer (check v ∷ xs) h = let p = verdict-first v (failure true xs) h in rw (p .0) (fewer xs (p .1))
-fewer (range f z ∷ xs) h = fewer xs (verdict-first (ranged true f z) (failure true xs) h .1)
-
-words-count : (xs : List Item) → length (wordsIn xs) ≡ countOf xs
-words-count [] = refl
-words-count (word w ∷ xs) = let e = words-count xs in omega arith
-words-count (check v ∷ xs) = words-count xs
-words-count (range f z ∷ xs) = words-count xs
+fewer (check v ∷ xs) h = let p = fine-both v (failure true xs) h in rw (p .0) (fewer xs (p .1))
+fewer (range f z ∷ xs) h = fewer xs (fine-both (ranged true f z) (failure true xs) h .1)
 
 -- ---- an accepted result has the verdict fine
 encoded-fine : (v : Verdict) (ws : List ℕ) → encodedAs v ws .number ≡ 0 → v ≡ fine
@@ -65,15 +55,12 @@ measured-fine (outOfRange f z) n h = absurd (omega arith)
 measured-fine (noEncoding r) n h = absurd (omega arith)
 
 -- ---- where `encode` refuses and `size` does not, the number is 2 and the field does not hold the value
-pub data Outcome (e : Encoded) : Type 0 where
-  accepted : e .number ≡ 0 → Outcome e
-  outside : (f : Field) (z : ℤ) → e ≡ refusedWords (outOfRange f z) → holds f z ≡ false → Outcome e
 
-outcome : {v : Verdict} (ws : List ℕ) → RangeOnly v → Outcome (encodedAs v ws)
+outcome : {v : Verdict} (ws : List ℕ) → RangeOnly v → OnlyOutOfRange (encodedAs v ws)
 outcome ws passes = accepted refl
 outcome ws (fails f z h) = outside f z refl h
 
-pub range-law : (i : Instruction) (a : ℕ) → sizeOf i .number ≡ 0 → Outcome (encodeOf i a)
+pub range-law : (i : Instruction) (a : ℕ) → sizeOf i .number ≡ 0 → OnlyOutOfRange (encodeOf i a)
 unfolding sizeOf encodeOf
 range-law i a h =
     let s = alike-failure (itemsOf i a) (itemsOf i 0) (instruction-lays i .alike a 0) in
@@ -97,9 +84,6 @@ size-law i a h =
     (rw (count-as (refusalOf true i a) (wordsOf i a) v) (ap (λ (n : ℕ). 2 * n) same))
 
 -- ---- every accepted count is 1 to 11
-pub record Counted (e : Encoded) : Type 0 where
-  pub least : 1 ≤ e .count
-  pub most : e .count ≤ 11
 
 pub few : (i : Instruction) (a : ℕ) → countOf (itemsOf i a) < 12
 few i a = omega (arith, instruction-lays i .most a)

@@ -61,7 +61,7 @@ use Rattle.isa.specs.declared.Condition.{Condition}
 use Rattle.isa.specs.declared.QuickOperation.{QuickOperation}
 use Rattle.isa.specs.declared.Instruction.{Instruction}
 use Rattle.isa.specs.declared.Instruction.the-variants.{IntoRegister, MOVEM, Transfer, Pair, Quick, MOVEQ, ImmediateInto, WordIntoData, SWAP, EXG, UnsizedIntoRegister, UnsizedOne, UnsizedPair, EXT, OneOperand, Bcc, Scc, DBcc, Branch, Link, UNLK, Shift, Vector, Status, ConditionCode, MOVEUSP, Raw, NoOperand, RTD, MOVEC, TRAPcc, MULL, Pack, CAS, CAS2, BF, DIVL}
-use Rattle.isa.specs.Code.{sizeCode}
+use Rattle.isa_spec.specs.Code.{sizeCode}
 use Rattle.encode_spec.specs.Movement.{moveParts, moveaParts, movemParts, movepParts, movepItems, moveqParts, exgParts, linkParts, linklParts, unlkParts}
 use Rattle.encode_spec.specs.Arithmetic.{immediateParts, quickParts, intoDataParts, arithmeticParts, intoAddressParts, boundsParts, extendedParts, cmpmParts, mullParts, divlParts, tstParts, extParts, swapParts}
 use Rattle.encode_spec.specs.Logic.{logicalParts, shiftParts, shiftRegisterParts, shiftMemoryParts, countItems}
@@ -69,9 +69,10 @@ use Rattle.encode_spec.specs.Bits.{bitParts, dynamicParts, staticParts, bitFiel
 use Rattle.encode_spec.specs.Control.{branchParts, bccParts, dbccParts, sccParts, trapccParts, rtdParts, relativeWord, relativeLong, shortBranch}
 use Rattle.encode_spec.specs.System.{statusParts, conditionCodeParts, vectorParts, moveuspParts, movecParts, movesParts, casParts, cas2Parts, rawParts, noOperandParts}
 use Rattle.encode_spec.specs.Instruction.{partsOf, registerParts, transferParts, pairParts, wordParts, unsizedRegisterParts, unsizedOneParts, unsizedPairParts, oneParts, branchesParts, linksParts, packsParts}
-use Rattle.isa.specs.ExtensionWord.{isFull, baseSize, outerSize}
+use Rattle.isa_spec.specs.ExtensionWord.{isFull, baseSize, outerSize}
 use Rattle.encode_spec.specs.Item.{Item, Part, Verdict, noEncoding, dataVerdict, operation, word, check, range, fixed, countOf, laid, placed, failure}
 use Rattle.encode_spec.specs.Ea.{immediateWords, displacementItems, fullItems, scaledItems, baseDisplacement, eaItems, effective, single, withData, withAddress, fromData, eaField, isRegister, isImmediate, registerIn, immediateIn, memoryAlterable, dataModes}
+use Rattle.encode_facts.specs.Items.{count-append}
 
 -- the same words and checks in the same order, whatever the words hold and the ranges ask
 abbrev pub Alike : List Item → List Item → Type 0
@@ -150,12 +151,6 @@ pub record Lays (m n : ℕ) (ps : List Part) : Type 0 where
   pub least : (a : ℕ) → m ≤ countOf (laid ps a)
   pub most : (a : ℕ) → countOf (laid ps a) ≤ n
   pub alike : (a b : ℕ) → Alike (laid ps a) (laid ps b)
-
-pub count-append : (xs ys : List Item) → countOf (xs ++ ys) ≡ countOf xs + countOf ys
-count-append [] ys = omega arith
-count-append (word w ∷ xs) ys = let e = count-append xs ys in omega arith
-count-append (check v ∷ xs) ys = count-append xs ys
-count-append (range f z ∷ xs) ys = count-append xs ys
 
 pub none : Lays 0 0 []
 none = record { least = λ a. omega arith; most = λ a. omega arith; alike = λ a b. tt }

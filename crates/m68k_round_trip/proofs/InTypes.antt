@@ -15,9 +15,9 @@ use Rattle.isa.specs.declared.TrapOperand.the-variants as trap
 use Rattle.isa.proofs.TrapOperand as trap-type
 use Rattle.isa.proofs.Operand as operand
 use Rattle.isa.proofs.Instruction as instruction
-use Rattle.read_operand_laws.specs.Facts.{as-fits32, ltb-true}
-use Rattle.read_operand_laws.specs.Stands.{Fits32, InTypes}
-use Rattle.read_laws.specs.Statements.{InstructionInTypes, TrapInTypes}
+use Rattle.read_operand_laws.specs.Facts.{as-fits32}
+use Rattle.base_facts.specs.Tests.{ltb-true}
+use Rattle.read_spec.specs.Accepted.{Fits32, InTypes, TrapInTypes, InstructionInTypes}
 
 extended-typed : (base w : ℕ) (z outer : ℤ) (vs : List Val) → Is (row operand.the-type) (Extended base w z outer) vs → (w < 65536) × Fits32 z × Fits32 outer
 extended-typed base w (pos m) (pos n) vs h = (omega (arith, h), as-fits32 (pos m) (ltb-true m _ (omega (arith, h))), as-fits32 (pos n) (ltb-true n _ (omega (arith, h))))

@@ -2,7 +2,7 @@
 use Prim.Native.Nat.{ℕ, _+_, _*_, _/_, _%_, _^_, _<_}
 use mathlib.Core.Path.{_≡_, refl, ap, sym, _∙_}
 use mathlib.Core.Bool.{true}
-use mathlib.Core.List.{List, [], _∷_, _++_}
+use mathlib.Core.List.{List, [], _∷_, append-nil}
 use native.Mathlib.Omega.{arith}
 use lib.Dec.{leb}
 use lib.ListN.{length}
@@ -14,29 +14,22 @@ use Rattle.isa.specs.declared.Condition.{Condition}
 use Rattle.isa.specs.declared.Instruction.{Instruction}
 use Rattle.isa.specs.declared.Instruction.the-variants.{Branch, Bcc}
 use Rattle.encode_spec.specs.Item.{fine, noEncoding, unless, placed}
-use Rattle.isa.specs.Code.{conditionCode}
+use Rattle.isa_spec.specs.Code.{conditionCode}
 use Rattle.encode_spec.specs.Ea.{distance}
 use Rattle.encode_spec.specs.Control.{branchParts, bccParts}
 use Rattle.encode_spec.specs.Instruction.{branchesParts}
 use Rattle.encode_spec.specs.Encode.{wordsOf, refusalOf}
-use Rattle.isa_values.specs.Condition.{conditionOf, of-code, code-of}
+use Rattle.isa_values.specs.Condition.{of-code, code-of}
+use Rattle.isa_spec.specs.Condition.{conditionOf}
 use Rattle.read_spec.specs.declared.Reading.the-variants as reading
 use Rattle.read_spec.specs.Number.{reach}
 use Rattle.read_spec.specs.Plain.{plain}
 use Rattle.read_spec.specs.Read.{readOf}
-use Rattle.read_operand_laws.specs.Facts.{reach-distance, placed-lt, leb-is, fine-both, unless-reason}
-use Rattle.read_laws.specs.Statements.{Accepted, InstructionInTypes}
+use Rattle.read_operand_laws.specs.Facts.{reach-distance}
+use Rattle.encode_facts.specs.Items.{placed-lt, fine-both, unless-reason}
+use Rattle.base_facts.specs.Tests.{leb-is}
+use Rattle.read_spec.specs.Accepted.{InstructionInTypes, Accepted, MinusOne, always, where-true, Accepts, minus-one, not-left-out}
 use Rattle.read_laws.specs.ReaderLaws.{complete, one, short-exactly}
-
--- a short branch of -1, at a
-pub data MinusOne (a : ℕ) : Instruction → Type 0 where
-  always : (op : BranchOperation) (t : ℕ) → distance t (placed a 1) ≡ negsuc 0 → MinusOne a (Branch op t Short)
-  where-true : (t : ℕ) (c : Condition) → distance t (placed a 1) ≡ negsuc 0 → MinusOne a (Bcc t c Short)
-
--- what `encode` accepts, IllegalWord and SIMHALT apart
-pub data Accepts (a : ℕ) (i : Instruction) : Type 0 where
-  not-left-out : Accepted a i → Accepts a i
-  minus-one : InstructionInTypes i → refusalOf true i a ≡ fine → MinusOne a i → Accepts a i
 
 -- its word, by the condition's code
 abbrev wordFor : ℕ → ℕ
@@ -84,10 +77,6 @@ bcc-short a c h = short-exactly a (wordFor (conditionCode c) ∷ []) (_, _, Bcc 
 left-short : (a : ℕ) (i : Instruction) → refusalOf true i a ≡ fine → MinusOne a i → readOf (wordsOf i a) a ≡ reading.Short
 left-short a i e (always op t h) = rw (branch-word a t op h) (branch-short a op)
 left-short a i e (where-true t c h) = rw (bcc-word a t c h) (bcc-short a c (bcc-fine a t c e))
-
-append-nil : (ws : List ℕ) → ws ++ [] ≡ ws
-append-nil [] = refl
-append-nil (w ∷ ws) = ap (λ (l : List ℕ). w ∷ l) (append-nil ws)
 
 apart : {C : Type 0} (a : ℕ) (i j : Instruction) → refusalOf true i a ≡ fine → MinusOne a i → Accepted a j → wordsOf i a ≡ wordsOf j a → C
 apart a i j e m h w =

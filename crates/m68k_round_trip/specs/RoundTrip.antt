@@ -2,7 +2,7 @@
 use Prim.Native.Nat.{ℕ, suc, _*_, _-_, _<_, _≤_}
 use mathlib.Core.Path.{_≡_, refl, ap, sym, _∙_}
 use mathlib.Core.Bool.{true, false}
-use mathlib.Core.List.{List, [], _∷_, _++_}
+use mathlib.Core.List.{List, [], _∷_, _++_, append-nil}
 use native.Mathlib.Omega.{arith}
 use lib.ListN.{length, take, replicate, getD, length-take}
 use lib.Seq.{take-at}
@@ -16,10 +16,9 @@ use Rattle.read_spec.specs.declared.Reading.{Reading}
 use Rattle.read_spec.specs.declared.Reading.the-variants.{Read, Short, Nothing}
 use Rattle.read_spec.specs.Plain.{plain}
 use Rattle.read_spec.specs.Read.{readOf, readingNumber}
-use Rattle.read_operand_laws.specs.TreeLaws.{Words}
 use Rattle.read_spec.specs.LeftOut.{leftOut}
 use Rattle.m68k.specs.Laws.{size-law}
-use Rattle.read_laws.specs.Statements.{Accepted, InstructionInTypes}
+use Rattle.read_spec.specs.Accepted.{InstructionInTypes, Accepted, Words}
 use Rattle.read_laws.specs.ReaderLaws.{complete, sound}
 
 -- what the two ways round give
@@ -75,10 +74,6 @@ accepted-is i a h = go (refusalOf true i a) h
     go malformed e = absurd (omega (arith, e))
     go (outOfRange f z) e = absurd (omega (arith, e))
     go (noEncoding r) e = absurd (omega (arith, e))
-
-append-nil : (ws : List ℕ) → ws ++ [] ≡ ws
-append-nil [] = refl
-append-nil (w ∷ ws) = ap (λ (l : List ℕ). w ∷ l) (append-nil ws)
 
 pub reads-back : (i : Instruction) (a : ℕ) (r : Reading) → InstructionInTypes i → r ≡ readBackOf i a → ReadsBack i a r
 unfolding readBackOf

@@ -9,16 +9,16 @@ use lib.IntN.{ℤ, pos, negsuc, natAbs}
 use lib.ListN.{length, take, getD, List·getD-map}
 use lib.Seq.{take-suc, take-length}
 use Rattle.isa.specs.declared.Instruction.{Instruction}
-use Rattle.base_text.specs.Written.{decimalOf, signedOf}
-use Rattle.base_text.specs.Wrote.{tab, notInForm}
+use Rattle.base_spec.specs.Written.{decimalOf, signedOf}
+use Rattle.base_spec.specs.Refused.{tab, notInForm}
 use Rattle.numeric_spec.specs.declared.Numbers.{Numbers}
 use Rattle.numeric_spec.specs.Entry.{Entry, unsigned, numberOf, isNegative, pad, numbersFrom}
 use Rattle.numeric_spec.specs.Form.{formOf, numbersOf}
 use Rattle.numeric_laws.specs.RoundTrip.{form-length}
-use Rattle.read_runs.specs.declared.Run.{Run}
-use Rattle.read_runs.specs.Run.{runOf}
+use Rattle.print_spec.specs.declared.Run.{Run}
+use Rattle.print_spec.specs.Run.{runOf}
 use Rattle.read_runs.specs.RunLaws.{run-count, run-places}
-use Rattle.read_answers.specs.Answer.{numbersText, readText, runText, readAnswerOf}
+use Rattle.print_spec.specs.ReadAnswer.{numbersText, readText, runText, readAnswerOf}
 use Rattle.read_answers.specs.Put.{numberText, firstNumbers, putText}
 
 cond-true : (t : Bool) (a b : List ℕ) → t ≡ true → cond t a b ≡ a

@@ -1,13 +1,13 @@
 -- The definition at work.
 use mathlib.Core.Path.{_≡_, refl}
 use mathlib.Core.List.{[], _∷_}
-use Rattle.base_text.specs.Written.{decimalOf}
-use Rattle.base_text.specs.Wrote.{refusedText}
+use Rattle.base_spec.specs.Written.{decimalOf}
+use Rattle.base_spec.specs.Refused.{refusedText}
 use Rattle.numeric_spec.specs.Form.{formOf, numbersOf}
 use Rattle.read_spec.specs.Map.{map, groupAt}
 use Rattle.read_spec.specs.Read.{readOf}
-use Rattle.read_runs.specs.Run.{keptRun, noRun, runOf}
-use Rattle.read_answers.specs.Answer.{readText, runText, readAnswerOf}
+use Rattle.print_spec.specs.Run.{keptRun, noRun, runOf}
+use Rattle.print_spec.specs.ReadAnswer.{readText, runText, readAnswerOf}
 
 -- 0⇥4e71 prints 81⇥=>⇥2
 nop : readAnswerOf (48 ∷ 9 ∷ 52 ∷ 101 ∷ 55 ∷ 49 ∷ []) ≡ 56 ∷ 49 ∷ 9 ∷ 61 ∷ 62 ∷ 9 ∷ 50 ∷ 10 ∷ []

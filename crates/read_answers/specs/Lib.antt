@@ -1,4 +1,3 @@
-pub mod Answer
 pub mod Put
 pub mod AnswerLaws
 pub mod Examples

@@ -3,8 +3,8 @@ use mathlib.Core.Bool.{Bool, false, cond}
 use mathlib.Core.List.{List, [], _∷_, _++_}
 use Prim.Native.Nat.{ℕ, zero, suc}
 use lib.ListN.{getD}
-use Rattle.base_text.specs.Written.{decimalOf}
-use Rattle.base_text.specs.Wrote.{tab}
+use Rattle.base_spec.specs.Written.{decimalOf}
+use Rattle.base_spec.specs.Refused.{tab}
 use Rattle.numeric_spec.specs.declared.Numbers.{Numbers}
 
 -- `-` where it is negative

@@ -4,15 +4,15 @@ use mathlib.Core.Bool.{Bool, true, false, cond, _&&_}
 use mathlib.Core.List.{List, [], _∷_}
 use Prim.Native.Nat.{ℕ}
 use lib.ListN.{take}
-use Rattle.base_text.specs.Parts.{fields}
-use Rattle.base_text.specs.Number.{numberOf}
-use Rattle.base_text.specs.Numbers.{magnitudeOf}
-use Rattle.base_text.specs.Wrote.{notInForm}
+use Rattle.base_spec.specs.Parts.{fields}
+use Rattle.base_spec.specs.Number.{numberOf}
+use Rattle.base_spec.specs.Numbers.{magnitudeOf}
+use Rattle.base_spec.specs.Refused.{notInForm}
 use Rattle.read_spec.specs.Read.{readOf}
 use Rattle.read_laws.specs.Kept.{read-kept}
-use Rattle.read_runs.specs.Run.{isAddress, allWords, wordsIn, keptRun, noRun, runIn, runOf}
+use Rattle.print_spec.specs.Run.{isAddress, allWords, wordsIn, keptRun, noRun, runIn, runOf}
 use Rattle.read_runs.specs.RunLaws.{kept-words}
-use Rattle.read_answers.specs.Answer.{readingText, runText, readAnswerOf}
+use Rattle.print_spec.specs.ReadAnswer.{readingText, runText, readAnswerOf}
 
 -- the fields of a line: an address, then words
 abbrev pub answerTo : List (List ℕ) → List ℕ

@@ -2,14 +2,14 @@
 ghost use mathlib.Core.Path.{_≡_};
 ghost use Prim.Native.Nat.{_+_, _≤_};
 ghost use lib.ListN.{length};
-ghost use Rattle.base_text.specs.Written.{placed};
+ghost use Rattle.base_spec.specs.Written.{placed};
 ghost use Rattle.base_text.specs.Wrote.{Wrote};
-ghost use Rattle.base_text.specs.Lines.{Answered};
-ghost use Rattle.read_answers.specs.Answer.{refusalText, readingText, runText, readAnswerOf};
+ghost use Rattle.base_spec.specs.Lines.{Answered};
+ghost use Rattle.print_spec.specs.ReadAnswer.{refusalText, readingText, runText, readAnswerOf};
 ghost use Rattle.read_answers.specs.Put.{signText, numberText, firstNumbers, putText};
-use base_text::Step;
+use base_spec::Step;
 use numeric_spec::Numbers;
-use read_runs::Run;
+use print_spec::Run;
 use read_spec::Reading;
 
 fn put_sign(out: &mut [u8], at: usize, negative: bool) -> usize

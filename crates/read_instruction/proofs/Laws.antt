@@ -24,7 +24,7 @@ use Rattle.encode_spec.specs.Ea.{modeOf}
 use Rattle.read_spec.proofs.Group.{the-type, enum}
 use Rattle.read_spec.specs.declared.Group.{Group}
 use Rattle.read_spec.specs.declared.Group.the-variants as group
-use Rattle.read_spec.specs.Map.{groups, groupNumber}
+use Rattle.read_places.specs.Groups.{groups, groupNumber}
 use Rattle.read_spec.specs.Operation.{sizeAt}
 use Rattle.read_spec.specs.Decoded.{movepDecoded, dynamicDecoded, cmpmTo, cmpmDecoded, compareDecoded, decoded}
 use Rattle.read_spec.specs.Tree.{Tree, ret, fail}

@@ -6,7 +6,7 @@ use Rattle.isa.specs.declared.Operand.{Operand}
 use Rattle.encode_spec.specs.Ea.{modeOf}
 use Rattle.read_spec.specs.declared.Group.{Group}
 use Rattle.read_spec.specs.declared.Group.the-variants.{Unused, DynamicBit, Compare}
-use Rattle.read_spec.specs.Map.{groupNumber}
+use Rattle.read_places.specs.Groups.{groupNumber}
 
 abbrev pub movepTakes : ℕ → Operand → Bool
 movepTakes ea o = not (eqb (ea / 8) 1) || eqb (modeOf o) 5

@@ -13,13 +13,15 @@ use Rattle.read_spec.specs.declared.Group.{Group}
 use Rattle.read_spec.specs.declared.Tail.{Tail}
 use Rattle.read_spec.specs.declared.Reading.{Reading}
 use Rattle.read_spec.specs.declared.Reading.the-variants.{Short, Nothing}
-use Rattle.read_spec.specs.Tree.{Tree, ret, fail, more, bind, run, At, found, ended, refused, runAt}
-use Rattle.read_spec.specs.Map.{groupAt, groupOf}
+use Rattle.read_spec.specs.Tree.{Tree, ret, fail, more, bind, run}
+use Rattle.read_places.specs.RunAt.{At, found, ended, refused, runAt}
+use Rattle.read_spec.specs.Map.{groupAt}
+use Rattle.read_places.specs.Groups.{groupOf}
 use Rattle.read_spec.specs.Layout.{tailTree}
 use Rattle.read_spec.specs.Layouts.{layoutOf}
 use Rattle.read_spec.specs.Decoded.{decoded}
 use Rattle.read_spec.specs.Read.{readingOf, readOf}
-use Rattle.read_spec.specs.Depth.{Within, depth-within, tail-depth}
+use Rattle.read_places.specs.Depth.{Within, depth-within, tail-depth}
 use Rattle.read_operands.specs.declared.Followed.{Followed}
 use Rattle.read_operands.specs.declared.Followed.the-variants.{Got}
 use Rattle.read_operands.specs.declared.Followed.the-variants as follow

@@ -5,7 +5,7 @@ ghost use Prim.Native.Nat.{ℕ, _<_};
 ghost use lib.Dec.{eqb};
 ghost use Rattle.encode_spec.specs.Ea.{modeOf};
 ghost use Rattle.read_spec.specs.Decoded.{decoded};
-ghost use Rattle.read_spec.specs.Map.{groupNumber};
+ghost use Rattle.read_places.specs.Groups.{groupNumber};
 ghost use Rattle.read_spec.specs.Tree.{ret};
 ghost use Rattle.read_instruction.specs.Forms.{forms};
 ghost use Rattle.read_instruction.specs.ReadAt.{Ends};

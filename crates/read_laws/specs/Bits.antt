@@ -17,9 +17,9 @@ use Rattle.isa.specs.declared.ConditionCodeOperation.{ConditionCodeOperation}
 use Rattle.isa.specs.declared.ConditionCodeOperation.the-variants.{ANDItoCCR, ORItoCCR, EORItoCCR}
 use Rattle.isa.specs.declared.Operand.{Operand}
 use Rattle.isa.specs.declared.Instruction.the-variants.{ImmediateInto, ConditionCode, Status, UnsizedPair, Transfer}
-use Rattle.isa.specs.Field.{topOf, holds}
+use Rattle.isa_spec.specs.Field.{topOf, holds}
 use Rattle.encode_spec.specs.Item.{fine, failure, operation, wordsIn, countOf, placed, Item, Part, malformed, unless, word, range, dataRegister, dataVerdict, laid, noEncoding}
-use Rattle.isa.specs.Code.{sizeCode, registerBits, isByte, longBit, toMemory}
+use Rattle.isa_spec.specs.Code.{sizeCode, registerBits, isByte, longBit, toMemory}
 use Rattle.encode_spec.specs.Ea.{dataAlterable, dataNotImmediate, eaField, typed, immediateWords, immediateItems, dataModes, isTyped, withData, eaItems}
 use Rattle.encode_spec.specs.Arithmetic.{immediateKind, immediateModes, immediateReason, immediateParts}
 use Rattle.encode_spec.specs.System.{conditionCodeOperation, conditionCodeParts, statusOperation, statusParts}
@@ -34,7 +34,9 @@ use Rattle.read_spec.specs.Decoded.{wordOf, movepDecoded}
 use Rattle.read_spec.specs.Map.{groupAt, map}
 use Rattle.read_spec.specs.Operation.{sizeAt, immediateAt, toStatus, conditionCodeAt, statusAt, bitAt, toMemoryAt}
 use Rattle.read_operand_laws.specs.TailStands.{specifierWords, SpecifierStands, TailStands, tailWords}
-use Rattle.read_operand_laws.specs.Facts.{fine-both, immediate-holds, ltb-is, ltb-true, eqb-is, eqb-eq, and-true, true-not-false, bit-number-holds, lt-number, reason-not, leb-true, unless-reason, true-unless, Eq, leb-is, eq?}
+use Rattle.read_operand_laws.specs.Facts.{immediate-holds, bit-number-holds}
+use Rattle.encode_facts.specs.Items.{fine-both, lt-number, reason-not, unless-reason, true-unless}
+use Rattle.base_facts.specs.Tests.{ltb-is, ltb-true, eqb-is, eqb-eq, and-true, true-not-false, leb-true, Eq, leb-is, eq?}
 use Rattle.isa.specs.declared.RegisterOperand.{RegisterOperand}
 use Rattle.isa.specs.declared.RegisterOperand.the-variants.{Address, Data}
 use Rattle.isa.specs.declared.Operand.the-variants.{Immediate, Register, PostIndirect, IndirectDisplacement}
@@ -45,10 +47,11 @@ use Rattle.isa.specs.declared.TargetDirection.the-variants.{ToMemory, FromMemor
 use Rattle.isa.specs.declared.TransferOperation.the-variants.{MOVEP}
 use Rattle.isa.specs.declared.Instruction.{Instruction}
 use Rattle.encode_spec.specs.Movement.{movepParts}
-use Rattle.base_signed.specs.Signed.{bitsOf}
+use Rattle.base_spec.specs.Signed.{bitsOf}
 use Rattle.read_spec.specs.Operand.{permitted}
 use Rattle.read_operand_laws.specs.Stands.{Stands}
-use Rattle.read_laws.specs.Statements.{Accepted, Reads, reads, Encodes, Sound}
+use Rattle.read_laws.specs.Statements.{Reads, reads, Encodes, Sound}
+use Rattle.read_spec.specs.Accepted.{Accepted}
 use Rattle.read_laws.specs.Tests.{Said, equal, yes, no, said, says, implies, among, each, facts-below, modes-say}
 use Rattle.read_laws.specs.MapLaws.{At, at-code, at-below, at-sizes, at-line, in-group, each-size, size-code}
 use Rattle.read_laws.specs.DecodedLaws.{Kind, displaced, post, other, kind?}

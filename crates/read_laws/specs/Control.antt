@@ -4,15 +4,17 @@ use mathlib.Core.Path.{_≡_, ap, sym, _∙_, refl, subst}
 use mathlib.Core.Bool.{true, not, _&&_, false, cond}
 use native.Mathlib.Omega.{arith}
 use lib.IntN.{ℤ, pos, negsuc}
-use Rattle.base_signed.specs.Signed.{signed32, bitsOf, difference}
+use Rattle.base_spec.specs.Signed.{signed32, bitsOf, difference}
 use Rattle.encode_spec.specs.Item.{placed, noEncoding, wordsIn, laid, range, allow}
 use Rattle.encode_spec.specs.Ea.{distance, alterable, dataAlterable, byteOfAddress, eaField, single}
 use Rattle.read_spec.specs.Number.{signed16, reach, signed8}
 use Rattle.read_spec.specs.Decoded.{extended, quickDecoded, wordOf, branchTo, branchDecoded}
-use Rattle.read_operand_laws.specs.Facts.{placed-placed, fits, fits-wider, as-fits32, signed16-low, signed32-low, low-signed32, signed16-fits, distance-reach, reach-distance, placed-lt, and-true, true-and, unless-reason, true-unless, count-holds, leb-is, leb-true, ltb-true, eqb-eq, Eq, eq?, reach-lt, low-signed16, lt-number, word-branch-holds, eqb-is, true-not-false, ltb-is, eqb-not, low, low8, short-branch-holds, Lt, lt?, signed8-fits, low-signed8, signed8-low}
+use Rattle.read_operand_laws.specs.Facts.{fits, fits-wider, as-fits32, signed16-low, signed32-low, low-signed32, signed16-fits, distance-reach, reach-distance, count-holds, reach-lt, low-signed16, word-branch-holds, low, low8, short-branch-holds, signed8-fits, low-signed8, signed8-low}
+use Rattle.encode_facts.specs.Items.{placed-placed, placed-lt, unless-reason, true-unless, lt-number}
 use Rattle.isa.specs.declared.Condition.{Condition}
-use Rattle.isa_values.specs.Condition.{of-code, code-of, conditionOf}
-use Rattle.isa.specs.Code.{conditionCode, sizeCode, isByte}
+use Rattle.isa_values.specs.Condition.{of-code, code-of}
+use Rattle.isa_spec.specs.Condition.{conditionOf}
+use Rattle.isa_spec.specs.Code.{conditionCode, sizeCode, isByte}
 use mathlib.Core.List.{List, _∷_, []}
 use lib.Dec.{ltb, eqb, leb}
 use Rattle.isa.specs.declared.Size.{Size}
@@ -44,15 +46,17 @@ use Rattle.isa.specs.declared.BranchSize.{BranchSize}
 use Rattle.isa.specs.declared.BranchSize.the-variants as branch
 use Rattle.isa.specs.declared.BranchOperation.{BranchOperation}
 use Rattle.isa.specs.declared.BranchOperation.the-variants.{BRA, BSR}
-use Rattle.isa.specs.Field.{holds, isZero}
+use Rattle.isa_spec.specs.Field.{holds, isZero}
 use Rattle.encode_spec.specs.Instruction.{branchesParts}
 use Rattle.read_spec.specs.LeftOut.{isMinusOne, branchLeftOut}
 use Rattle.encode_spec.specs.Movement.{moveqParts}
-use Rattle.read_laws.specs.Statements.{Accepted, Reads, Encodes, Sound, TrapInTypes}
+use Rattle.read_laws.specs.Statements.{Reads, Encodes, Sound}
+use Rattle.read_spec.specs.Accepted.{TrapInTypes, Accepted}
 use Rattle.read_laws.specs.Tests.{equal, yes, no, implies, among, each, facts-below, modes-say, not-true}
 use Rattle.read_laws.specs.MapLaws.{At, at-registers, at-line, in-group, each-size}
 use Rattle.read_laws.specs.Forms.{Passing, passed, checked, Form, form-as, form-byte, form-reads, form-encodes, decoded-as, word-as, alone-reads, alone-encodes, either-encodes, form-behind, form-bare}
 use Rattle.read_laws.specs.Operands.{data-is}
+use Rattle.base_facts.specs.Tests.{Lt, lt?, and-true, true-and, leb-is, leb-true, ltb-true, eqb-eq, Eq, eq?, eqb-is, true-not-false, ltb-is, eqb-not}
 
 -- ---- ADDQ SUBQ
 abbrev quickOpmode : QuickOperation → Size → ℕ
@@ -416,7 +420,7 @@ short-holds byte h n m =
   where
     go : Lt byte (2 ^ 7) → (not (isZero (signed8 byte)) ≡ true) × (isMinusOne (signed8 byte) ≡ false)
     go (Lt.less l e) = rw (e, eqb-not byte 0 n) (refl, refl)
-    go (Lt.notLess l e) = rw e (refl, eqb-not (255 - byte) 0 (λ q. m (omega (arith, q, h))))
+    go (Lt.past l e) = rw e (refl, eqb-not (255 - byte) 0 (λ q. m (omega (arith, q, h))))
 
 jump-short : (a byte : ℕ) → byte < 256 → (byte ≡ 0 → ⊥) → (byte ≡ 255 → ⊥) → Jump a byte 0 (reach (placed a 1) (signed8 byte)) branch.Short
 jump-short a byte h n m =

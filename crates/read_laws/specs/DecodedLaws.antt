@@ -18,7 +18,7 @@ use Rattle.read_spec.specs.declared.Tail.{Tail}
 use Rattle.read_spec.specs.Tree.{Tree, ret, fail, more, run, got, short}
 use Rattle.read_spec.specs.Layouts.{layoutOf}
 use Rattle.read_spec.specs.Decoded.{decoded, movepDecoded, cmpmDecoded, cmpmTo}
-use Rattle.read_operand_laws.specs.Facts.{all, eqb-is}
+use Rattle.base_facts.specs.Tests.{all, eqb-is}
 use Rattle.read_operand_laws.specs.TreeLaws.{none-no, none-short, got-short, got-subst}
 use Rattle.read_operand_laws.specs.TailStands.{TailStands}
 use lib.IntN.{ℤ}

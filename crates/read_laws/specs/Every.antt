@@ -15,7 +15,8 @@ use Rattle.isa.specs.declared.Instruction.{Instruction}
 use Rattle.isa.specs.declared.Instruction.the-variants.{IntoRegister, MOVEM, Transfer, Pair, Quick, MOVEQ, ImmediateInto, WordIntoData, SWAP, EXG, UnsizedIntoRegister, UnsizedOne, UnsizedPair, EXT, OneOperand, Bcc, Scc, DBcc, Branch, Link, UNLK, Shift, Vector, Status, ConditionCode, MOVEUSP, Raw, NoOperand, RTD, MOVEC, TRAPcc, MULL, Pack, CAS, CAS2, BF, DIVL}
 use Rattle.read_spec.specs.declared.Group.{Group}
 use Rattle.read_spec.specs.declared.Group.the-variants as group
-use Rattle.read_laws.specs.Statements.{Accepted, Reads, Sound}
+use Rattle.read_laws.specs.Statements.{Reads, Sound}
+use Rattle.read_spec.specs.Accepted.{Accepted}
 use Rattle.read_laws.specs.FromData.{addx-reads, arithmetic-sound, subx-reads, cmpm-reads, compare-sound, eor-reads, abcd-reads, decimal-sound, sbcd-reads, exchange-sound, exg-reads, pack-reads, pack-sound, add-reads, and-reads, or-reads, sub-reads}
 use Rattle.read_laws.specs.Bits.{bit-reads, dynamic-bit-sound, static-bit-sound, condition-code-reads, immediate-into-reads, immediate-into-sound, status-reads, movep-reads}
 use Rattle.read_laws.specs.Shift.{bf-reads, bit-field-sound, shift-memory-sound, shift-reads, shift-register-sound}

@@ -12,7 +12,7 @@ use Rattle.isa.specs.declared.RegisterOperation.the-variants.{CHK2, CMP2}
 use Rattle.isa.specs.declared.Operand.{Operand}
 use Rattle.isa.specs.declared.Instruction.the-variants.{IntoRegister, Transfer, MULL, DIVL, CAS, CAS2}
 use Rattle.encode_spec.specs.Item.{numberVerdict, fine, word, register, noEncoding, allow}
-use Rattle.isa.specs.Code.{sizeCode, numberOfRegister, toMemory, bit, longBit, isByte, general}
+use Rattle.isa_spec.specs.Code.{sizeCode, numberOfRegister, toMemory, bit, longBit, isByte, general}
 use Rattle.encode_spec.specs.Ea.{control, memoryAlterable, dataModes, eaField}
 use Rattle.encode_spec.specs.Arithmetic.{boundsParts, signedBit, highNumber, highBits, mullParts, divlParts}
 use Rattle.encode_spec.specs.Instruction.{registerParts, transferParts}
@@ -24,8 +24,10 @@ use Rattle.read_spec.specs.Operation.{sizeAt, toMemoryAt, signAt}
 use Rattle.read_spec.specs.Map.{groupAt, map}
 use Rattle.read_spec.specs.Layout.{one, valid, alone}
 use Rattle.read_spec.specs.Decoded.{boundsDecoded, wordOf, movesDecoded, highAt, mullDecoded, divlDecoded, cas2Decoded}
-use Rattle.read_operand_laws.specs.Facts.{Eq, eq?, and-true, eqb-eq, below, true-and, true-not-false, unless-reason, eqb-is, number-lt, lt-number, true-unless}
-use Rattle.read_laws.specs.Statements.{Accepted, Reads, Sound, Encodes}
+use Rattle.encode_facts.specs.Items.{unless-reason, number-lt, lt-number, true-unless}
+use Rattle.base_facts.specs.Tests.{Eq, eq?, and-true, eqb-eq, below, true-and, true-not-false, eqb-is}
+use Rattle.read_laws.specs.Statements.{Reads, Sound, Encodes}
+use Rattle.read_spec.specs.Accepted.{Accepted}
 use Rattle.read_operand_laws.specs.IndexLaws.{general-lt}
 use Rattle.read_laws.specs.Operands.{general-of, of-general, generalWord, word-fields, fields-word}
 use Rattle.isa.specs.declared.TargetDirection.{TargetDirection}

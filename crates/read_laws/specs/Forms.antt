@@ -14,9 +14,9 @@ use Rattle.isa.specs.declared.RegisterOperand.the-variants.{Data}
 use Rattle.isa.specs.declared.Operand.{Operand}
 use Rattle.isa.specs.declared.Operand.the-variants.{Immediate, Register, Indirect, PostIndirect, PreIndirect, IndirectDisplacement, IndirectIndex, PcDisplacement, PcIndex, Extended, Absolute}
 use Rattle.isa.specs.declared.Instruction.{Instruction}
-use Rattle.isa.specs.Field.{holds}
+use Rattle.isa_spec.specs.Field.{holds}
 use Rattle.encode_spec.specs.Item.{Item, word, check, range, fine, malformed, noEncoding, unless, ranged, operation, failure, wordsIn, placed}
-use Rattle.isa.specs.Code.{isByte}
+use Rattle.isa_spec.specs.Code.{isByte}
 use Rattle.encode_spec.specs.Ea.{isTyped, typed, permits, byteOfAddress, modeOf, eaField, eaItems, effective}
 use Rattle.encode_spec.specs.Encode.{itemsOf, wordsOf, refusalOf}
 use Rattle.read_spec.specs.declared.Group.{Group}
@@ -25,18 +25,20 @@ use Rattle.read_spec.specs.declared.Specifier.the-variants as specifier
 use Rattle.read_spec.specs.declared.Layout.{Layout}
 use Rattle.read_spec.specs.declared.Tail.{Tail}
 use Rattle.read_spec.specs.Tree.{Tree, ret}
-use Rattle.read_spec.specs.Plain.{plain, plainOperand, plainTail}
+use Rattle.read_spec.specs.Plain.{plain, plainOperand}
 use Rattle.read_spec.specs.LeftOut.{leftOut}
 use Rattle.read_spec.specs.Operand.{permitted}
 use Rattle.read_spec.specs.Layout.{one, alone}
 use Rattle.read_spec.specs.Layouts.{layoutOf}
 use Rattle.read_spec.specs.Decoded.{decoded, wordOf}
-use Rattle.read_operand_laws.specs.Stands.{Stands, InTypes}
-use Rattle.read_operand_laws.specs.TailStands.{specifierWords, SpecifierStands, sourceAt, destinationAt, TailStands, tailWords}
-use Rattle.read_operand_laws.specs.Facts.{and-yes, Lt, lt?, all, below, and-true, true-and, fine-both, both-fine, unless-reason, unless-malformed, true-unless, range-holds, holds-range, words-in-append}
+use Rattle.read_operand_laws.specs.Stands.{Stands}
+use Rattle.read_spec.specs.Accepted.{InTypes, InstructionInTypes, Accepted}
+use Rattle.read_operand_laws.specs.TailStands.{specifierWords, SpecifierStands, sourceAt, destinationAt, TailStands, tailWords, plainTail}
+use Rattle.encode_facts.specs.Items.{fine-both, both-fine, unless-reason, unless-malformed, true-unless, range-holds, holds-range, words-in-append}
 use Rattle.read_operand_laws.specs.OperandLaws.{permits-is, stands-lt, mode-lt}
-use Rattle.read_laws.specs.Statements.{InstructionInTypes, Accepted, Reads, reads, Encodes}
+use Rattle.read_laws.specs.Statements.{Reads, reads, Encodes}
 use Rattle.read_laws.specs.MapLaws.{At}
+use Rattle.base_facts.specs.Tests.{Lt, lt?, and-yes, all, below, and-true, true-and}
 
 -- ---- what it is for the checks of items to pass
 abbrev pub Passing : List Item → Type 0
@@ -104,7 +106,7 @@ no-words s at (Extended base w z outer) h = go (lt? base 8) (h .3)
   where
     go : Lt base 8 → cond (ltb base 8) 6 7 * 8 + cond (ltb base 8) (base % 8) 3 ≡ 0 → wordsIn (eaItems (Extended base w z outer) s at) ≡ []
     go (Lt.less p g) e = absurd (omega (arith, rw g at e))
-    go (Lt.notLess p g) e = absurd (omega (arith, rw g at e))
+    go (Lt.past p g) e = absurd (omega (arith, rw g at e))
 no-words s at (Absolute a width.Word) h = absurd (omega (arith, h .3))
 no-words s at (Absolute a width.Long) h = absurd (omega (arith, h .3))
 

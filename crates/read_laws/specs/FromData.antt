@@ -14,7 +14,7 @@ use Rattle.isa.specs.declared.Operand.the-variants.{Register, PreIndirect, Post
 use Rattle.isa.specs.declared.Instruction.{Instruction}
 use Rattle.isa.specs.declared.Instruction.the-variants.{Pair, UnsizedPair, Pack, EXG}
 use Rattle.encode_spec.specs.Item.{fine, numberVerdict, Item, allow, register, dataRegister, failure, noEncoding}
-use Rattle.isa.specs.Code.{sizeCode, registerBits, numberOfRegister, general}
+use Rattle.isa_spec.specs.Code.{sizeCode, registerBits, numberOfRegister, general}
 use Rattle.encode_spec.specs.Ea.{memoryAlterable, permits, isRegister, registerIn, eaField, fromData, registerField, registerNumber, bothOf, paired, memoryBit, dataAlterable, modeOf, typed, withData}
 use Rattle.encode_spec.specs.Arithmetic.{arithmeticParts, extendedParts, cmpmParts}
 use Rattle.encode_spec.specs.Logic.{logicalParts}
@@ -24,16 +24,17 @@ use Rattle.read_spec.specs.declared.Specifier.{Specifier}
 use Rattle.read_spec.specs.declared.Specifier.the-variants as specifier
 use Rattle.read_spec.specs.declared.Tail.{Tail}
 use Rattle.read_spec.specs.Tree.{Tree, ret}
-use Rattle.read_spec.specs.Plain.{plainOperand, plainTail, plain}
+use Rattle.read_spec.specs.Plain.{plainOperand, plain}
 use Rattle.read_spec.specs.Map.{groupAt, map}
 use Rattle.read_spec.specs.Operand.{permitted, modeAt}
 use Rattle.read_spec.specs.Operation.{sizeAt, pairAt, eitherAt, extendAt}
 use Rattle.read_spec.specs.Layout.{one, alone, two}
 use Rattle.read_spec.specs.Layouts.{layoutOf, isExchange}
 use Rattle.read_spec.specs.Decoded.{dataOperand, decoded, wordOf, exchanged, cmpmDecoded}
-use Rattle.read_operand_laws.specs.Stands.{Stands, InTypes}
-use Rattle.read_operand_laws.specs.TailStands.{specifierWords, SpecifierStands, TailStands, tailWords}
-use Rattle.read_operand_laws.specs.Facts.{Lt, lt?, lt-number, true-not-false, ltb-true, ltb-not, and-true, true-and, ltb-is, leb-true, eqb-eq, leb-not, eqb-is, number-lt, fine-both, both-fine, unless-reason, true-unless}
+use Rattle.read_operand_laws.specs.Stands.{Stands}
+use Rattle.read_spec.specs.Accepted.{InTypes, InstructionInTypes, Accepted}
+use Rattle.read_operand_laws.specs.TailStands.{specifierWords, SpecifierStands, TailStands, tailWords, plainTail}
+use Rattle.encode_facts.specs.Items.{lt-number, number-lt, fine-both, both-fine, unless-reason, true-unless}
 use lib.Dec.{ltb, eqb}
 use Rattle.encode_spec.specs.Encode.{refusalOf, itemsOf, wordsOf}
 use Rattle.read_spec.specs.LeftOut.{leftOut}
@@ -47,12 +48,13 @@ use Rattle.encode_spec.specs.Bits.{packParts}
 use Rattle.encode_spec.specs.Movement.{isAddress, exgOpmode, exgParts}
 use Rattle.read_laws.specs.IntoRegister.{into-reads}
 use Rattle.read_spec.specs.declared.Layout.{Layout}
-use Rattle.read_laws.specs.Statements.{Accepted, Reads, reads, Encodes, Sound, InstructionInTypes}
+use Rattle.read_laws.specs.Statements.{Reads, reads, Encodes, Sound}
 use Rattle.read_laws.specs.Tests.{equal, yes, no, among, each, facts-below, modes-say}
 use Rattle.read_laws.specs.MapLaws.{At, at-among, in-group, each-size, upper-size}
 use Rattle.read_laws.specs.DecodedLaws.{mode-is}
 use Rattle.read_laws.specs.Forms.{Passing, passing, passed, checked, missing, one-back, Form, form-reads, form-encodes, decoded-as, word-as, alone-reads, alone-encodes, either-encodes, form-behind}
 use Rattle.read_laws.specs.Operands.{by-register, simple-is, data-bits}
+use Rattle.base_facts.specs.Tests.{Lt, lt?, true-not-false, ltb-true, ltb-not, and-true, true-and, ltb-is, leb-true, eqb-eq, leb-not, eqb-is}
 
 -- ---- the encoder's `fromData`: the source is a data register
 abbrev sourceChecks : Operand → List Item
@@ -192,7 +194,7 @@ joined-encodes a J reason line opmode ws j ea x he hx = go (lt? ea 8)
         let t = passed (pairingChecks reason (Register (Data (ea % 8))) (Register (Data x)))
         (refl, (refl, (refl, (lt-number x hx, (lt-number (ea % 8) (omega arith), tt))))) in
         rw e (word-as a _ _ _ _ (omega arith) ((n (tt, tt), c ∙ t, u), p, w))
-    go (Lt.notLess l e) =
+    go (Lt.past l e) =
         let (c, w, n, u, p) = j (PreIndirect (ea % 8)) (PreIndirect x) in
         let t = passed (pairingChecks reason (PreIndirect (ea % 8)) (PreIndirect x))
         (refl, (refl, (refl, (lt-number x hx, (lt-number (ea % 8) (omega arith), tt))))) in
@@ -376,13 +378,13 @@ exchanged-encodes a x opmode ea t hx e =
   where
     five : Lt ea 8 → isExchange 5 ea ≡ true → Encodes a (exchanged x 5 ea) (wordOf 12 x 5 ea ∷ [])
     five (Lt.less l g) y = rw g (word-as a _ _ _ [] (omega arith) (exg-encodes a (Data x) (Data (ea % 8)) (refl, hx, omega arith)))
-    five (Lt.notLess l g) y =
+    five (Lt.past l g) y =
         let b = ltb-is ea 16 (and-true (ltb ea 16) _ y .0) in
         rw g (word-as a _ _ _ [] (omega arith) (exg-encodes a (Address x) (Address (ea % 8)) (refl, hx, omega arith)))
 
     six : Lt ea 8 → isExchange 6 ea ≡ true → Encodes a (exchanged x 6 ea) (wordOf 12 x 6 ea ∷ [])
     six (Lt.less l g) y = true-not-false (and-true (ltb ea 16) _ y .1) (leb-not 8 ea l)
-    six (Lt.notLess l g) y =
+    six (Lt.past l g) y =
         let b = ltb-is ea 16 (and-true (ltb ea 16) _ y .0) in
         rw g (word-as a _ _ _ [] (omega arith) (exg-encodes a (Data x) (Address (ea % 8)) (refl, hx, omega arith)))
 

@@ -13,7 +13,7 @@ use Rattle.isa.specs.declared.Operand.{Operand}
 use Rattle.isa.specs.declared.RegisterOperation.the-variants.{ADDA, SUBA, CMPA, CMP}
 use Rattle.isa.specs.declared.Instruction.the-variants.{IntoRegister, WordIntoData, Pair}
 use Rattle.encode_spec.specs.Item.{fine, noEncoding, placed, dataVerdict, allow, addressRegister, dataRegister}
-use Rattle.isa.specs.Code.{isByte, longBit, registerBits, sizeCode}
+use Rattle.isa_spec.specs.Code.{isByte, longBit, registerBits, sizeCode}
 use Rattle.encode_spec.specs.Ea.{everyMode, dataModes, withData, byteOfAddress, typed, withAddress}
 use Rattle.encode_spec.specs.Arithmetic.{intoAddressParts, signedBit, intoDataParts, arithmeticParts}
 use Rattle.encode_spec.specs.Instruction.{registerParts, wordParts, pairParts}
@@ -23,7 +23,7 @@ use Rattle.read_spec.specs.Plain.{plain, plainOperand}
 use Rattle.read_spec.specs.Map.{groupAt, map}
 use Rattle.read_spec.specs.Operation.{addressAt, signAt, sizeAt, pairAt}
 use Rattle.read_spec.specs.Decoded.{wordOf}
-use Rattle.read_operand_laws.specs.Facts.{lt-number, unless-reason, true-unless}
+use Rattle.encode_facts.specs.Items.{lt-number, unless-reason, true-unless}
 use Rattle.isa.specs.declared.Sign.{Sign}
 use Rattle.isa.specs.declared.Sign.the-variants.{Signed, Unsigned}
 use Rattle.isa.specs.declared.WordOperation.{WordOperation}
@@ -33,8 +33,8 @@ use Rattle.isa.specs.declared.Instruction.{Instruction}
 use Rattle.encode_spec.specs.Logic.{logicalParts}
 use Rattle.read_spec.specs.LeftOut.{leftOut}
 use Rattle.read_spec.specs.Layouts.{readableModes}
-use Rattle.read_operand_laws.specs.Stands.{InTypes}
-use Rattle.read_laws.specs.Statements.{Accepted, Reads, Sound, InstructionInTypes}
+use Rattle.read_spec.specs.Accepted.{InTypes, InstructionInTypes, Accepted}
+use Rattle.read_laws.specs.Statements.{Reads, Sound}
 use Rattle.read_laws.specs.Tests.{equal, yes, among, each}
 use Rattle.read_laws.specs.MapLaws.{At, at-registers, at-among, in-group, each-size, size-code}
 use Rattle.encode_spec.specs.Encode.{itemsOf}

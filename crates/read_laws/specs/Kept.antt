@@ -6,8 +6,9 @@ use lib.ListN.{take}
 use Rattle.isa.specs.declared.Instruction.{Instruction}
 use Rattle.read_spec.specs.declared.Reading.{Reading}
 use Rattle.read_spec.specs.declared.Reading.the-variants.{Read, Short, Nothing}
-use Rattle.read_spec.specs.Tree.{Tree, ret, fail, more, bind, run, Out, got, short, none, At, found, ended, refused}
-use Rattle.read_spec.specs.Depth.{Depth, tail-depth, atOut, depth-take}
+use Rattle.read_spec.specs.Tree.{Tree, ret, fail, more, bind, run, Out, got, short, none}
+use Rattle.read_places.specs.RunAt.{At, found, ended, refused}
+use Rattle.read_places.specs.Depth.{Depth, tail-depth, atOut, depth-take}
 use Rattle.read_spec.specs.Map.{groupAt}
 use Rattle.read_spec.specs.Layout.{tailTree}
 use Rattle.read_spec.specs.Layouts.{layoutOf}

@@ -8,12 +8,13 @@ use lib.Dec.{eqb, ltb, leb}
 use lib.ListN.{getD}
 use Rattle.isa.specs.declared.Size.{Size}
 use Rattle.isa.specs.declared.Size.the-variants.{Byte, Word, Long}
-use Rattle.isa.specs.Code.{sizeCode}
+use Rattle.isa_spec.specs.Code.{sizeCode}
 use Rattle.read_spec.specs.declared.Group.{Group}
 use Rattle.read_spec.specs.declared.Group.the-variants as group
-use Rattle.read_spec.specs.Map.{Row, row, map, inRow, groupIn, firstOf, groupAt, groupNumber, groups}
+use Rattle.read_spec.specs.Map.{Row, row, map, inRow, groupIn, firstOf, groupAt}
+use Rattle.read_places.specs.Groups.{groupNumber, groups}
 use Rattle.read_spec.specs.Operation.{sizeAt}
-use Rattle.read_operand_laws.specs.Facts.{all, below, and-true, eqb-eq, eqb-is, ltb-is, leb-is}
+use Rattle.base_facts.specs.Tests.{all, below, and-true, eqb-eq, eqb-is, ltb-is, leb-is}
 use Rattle.read_laws.specs.Tests.{Fact, said, Said, says, implies, among, allIn, each-test}
 
 pub number-group : (s : Group) → getD groups (groupNumber s) group.Unused ≡ s

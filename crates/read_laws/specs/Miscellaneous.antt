@@ -25,7 +25,7 @@ use Rattle.isa.specs.declared.LinkOperation.the-variants.{LINKL}
 use Rattle.isa.specs.declared.Instruction.{Instruction}
 use Rattle.isa.specs.declared.Instruction.the-variants.{OneOperand, UnsizedOne, UnsizedIntoRegister, NoOperand, Link, SWAP, Vector, EXT, MOVEM}
 use Rattle.encode_spec.specs.Item.{word, allow, noEncoding, dataRegister, addressRegister}
-use Rattle.isa.specs.Code.{sizeCode, isByte, longBit, fromMemory, registerBits}
+use Rattle.isa_spec.specs.Code.{sizeCode, isByte, longBit, fromMemory, registerBits}
 use Rattle.encode_spec.specs.Ea.{everyMode, dataModes, dataAlterable, control, movemToMemory, byteOfAddress, eaField, single, withData, withAddress}
 use Rattle.encode_spec.specs.Movement.{movemModes, movemReason, movemParts, linklParts}
 use Rattle.encode_spec.specs.Arithmetic.{tstParts, extOpmode, extParts, swapParts}
@@ -36,20 +36,22 @@ use Rattle.read_spec.specs.declared.Group.the-variants as group
 use Rattle.read_spec.specs.declared.Specifier.the-variants as specifier
 use Rattle.read_spec.specs.declared.Tail.{Tail}
 use Rattle.read_spec.specs.Tree.{ret}
-use Rattle.read_spec.specs.Plain.{plainTail}
 use Rattle.read_spec.specs.Layout.{one, alone, bare}
 use Rattle.read_spec.specs.Layouts.{readableModes, unsizedModes, unsizedSize, unsizedLayout}
 use Rattle.read_spec.specs.Map.{groupAt, map}
 use Rattle.read_spec.specs.Operand.{permitted}
 use Rattle.read_spec.specs.Operation.{sizeAt, oneAt, unsizedAt, toMemoryAt}
 use Rattle.read_spec.specs.Decoded.{wordOf}
-use Rattle.read_operand_laws.specs.TailStands.{TailStands, tailWords}
-use Rattle.read_operand_laws.specs.Facts.{Lt, less, notLess, lt?, and-true, ltb-true, ltb-not, ltb-is, eqb-eq, lt-number, true-unless, unless-reason, breakpoint-vector-holds}
-use Rattle.read_laws.specs.Statements.{Accepted, Reads, Encodes, Sound}
+use Rattle.read_operand_laws.specs.TailStands.{TailStands, tailWords, plainTail}
+use Rattle.read_operand_laws.specs.Facts.{breakpoint-vector-holds}
+use Rattle.encode_facts.specs.Items.{lt-number, true-unless, unless-reason}
+use Rattle.read_laws.specs.Statements.{Reads, Encodes, Sound}
+use Rattle.read_spec.specs.Accepted.{Accepted}
 use Rattle.read_laws.specs.Tests.{equal, yes, no, implies, modes-say}
 use Rattle.read_laws.specs.MapLaws.{At, at-code, at-registers, at-sizes, in-group, size-code}
 use Rattle.read_laws.specs.Forms.{Passing, passed, checked, Form, form-byte, form-reads, form-encodes, decoded-as, word-as, alone-reads, alone-encodes, either-encodes, form-word, form-bare, form-behind}
 use Rattle.read_laws.specs.Operands.{data-is, address-is, data-bits, address-bits}
+use Rattle.base_facts.specs.Tests.{Lt, less, past, lt?, and-true, ltb-true, ltb-not, ltb-is, eqb-eq, and-false}
 
 -- ---- NEGX CLR NEG NOT TST: bits 11 to 9
 abbrev oneCode : OneOperation → ℕ
@@ -243,7 +245,7 @@ swap-or-encodes a ea h = go (lt? ea 8)
   where
     go : Lt ea 8 → Encodes a (swapOr ea) (wordOf 4 4 1 ea ∷ [])
     go (less l e) = rw e (swap-encodes a ea l)
-    go (notLess l e) = let m : 8 + ea % 8 ≡ ea = omega arith in rw e (rw m at (bkpt-encodes a (ea % 8) (omega arith)))
+    go (past l e) = let m : 8 + ea % 8 ≡ ea = omega arith in rw e (rw m at (bkpt-encodes a (ea % 8) (omega arith)))
 
 nested : {A : Type 0} (b c : Bool) (x y z : A) → (b ≡ true → c ≡ true) → cond b x (cond c y z) ≡ cond c (cond b x y) z
 nested true true x y z h = refl
@@ -362,17 +364,13 @@ lea-form : (a : ℕ) (o : Operand) (r : RegisterOperand) (v : ℕ)
 unfolding unsizedRegisterParts withAddress
 lea-form a o r v = form-bare (addressRegister r ∷ []) 34 refl refl
 
-and-no : (b : Bool) → b && false ≡ false
-and-no true = refl
-and-no false = refl
-
 -- EXTB.L stands where LEA has no mode
 lea-reads : (a : ℕ) (o : Operand) (r : RegisterOperand) → Accepted a (UnsizedIntoRegister LEA o r) → Reads a (UnsizedIntoRegister LEA o r)
 unfolding groupAt map
 lea-reads a o r (n, e, l) =
     form-reads (lea-form a o r 0) (at-registers group.LeaExtb 4 7 refl (registerBits r) (omega arith)) e n (λ c m.
     let t = modes-say control (λ ea. no (ltb ea 8) ∷ []) refl (eaField o) m .0 in
-    let u = and-no (eqb (registerBits r) 4) in
+    let u = and-false (eqb (registerBits r) 4) in
     (rw (t, u), refl, rw (t, u, address-bits r (c .0))))
 
 pub lea-sound : Sound group.LeaExtb

@@ -16,7 +16,7 @@ use Rattle.isa.specs.declared.Operand.{Operand}
 use Rattle.isa.specs.declared.Operand.the-variants.{Immediate, Register, Indirect, PostIndirect, PreIndirect, IndirectDisplacement, IndirectIndex, PcDisplacement, PcIndex, Extended, Absolute}
 use Rattle.isa.specs.declared.Instruction.the-variants.{Pair, IntoRegister}
 use Rattle.encode_spec.specs.Item.{Item, fine, malformed, noEncoding, addressRegister, allow, wordsIn, countOf, placed}
-use Rattle.isa.specs.Code.{moveCode, isByte, registerBits}
+use Rattle.isa_spec.specs.Code.{moveCode, isByte, registerBits}
 use Rattle.encode_spec.specs.Ea.{everyMode, dataModes, dataAlterable, byteOfAddress, permits, isTyped, modeField, registerField, eaField, eaItems, effective, withAddress}
 use Rattle.encode_spec.specs.Movement.{moveParts, moveaParts}
 use Rattle.encode_spec.specs.Instruction.{registerParts, pairParts}
@@ -24,7 +24,6 @@ use Rattle.encode_spec.specs.Encode.{itemsOf, wordsOf, refusalOf}
 use Rattle.read_spec.specs.declared.Group.the-variants as group
 use Rattle.read_spec.specs.declared.Specifier.the-variants as specifier
 use Rattle.read_spec.specs.declared.Tail.{Tail}
-use Rattle.read_spec.specs.Plain.{plainTail}
 use Rattle.read_spec.specs.Operand.{permitted}
 use Rattle.read_spec.specs.Layout.{one, two, noLayout}
 use Rattle.read_spec.specs.Layouts.{readableModes, moveLayout, moveaLayout}
@@ -32,10 +31,12 @@ use Rattle.read_spec.specs.Map.{groupAt, map}
 use Rattle.read_spec.specs.Operation.{moveSize}
 use Rattle.read_spec.specs.Decoded.{wordOf}
 use Rattle.read_operand_laws.specs.Stands.{Stands}
-use Rattle.read_operand_laws.specs.TailStands.{TailStands, tailWords}
-use Rattle.read_operand_laws.specs.Facts.{and-true, true-and, words-in-append, unless-malformed, unless-reason, eqb-eq, lt-number, true-unless}
+use Rattle.read_operand_laws.specs.TailStands.{TailStands, tailWords, plainTail}
+use Rattle.encode_facts.specs.Items.{words-in-append, unless-malformed, unless-reason, lt-number, true-unless}
+use Rattle.base_facts.specs.Tests.{and-true, true-and, eqb-eq}
 use Rattle.read_operand_laws.specs.OperandLaws.{permits-is, stands-lt}
-use Rattle.read_laws.specs.Statements.{Accepted, Reads, reads, Encodes, Sound}
+use Rattle.read_laws.specs.Statements.{Reads, reads, Encodes, Sound}
+use Rattle.read_spec.specs.Accepted.{Accepted}
 use Rattle.read_laws.specs.Tests.{equal, no, modes-say, not-true}
 use Rattle.read_laws.specs.MapLaws.{At, at-line, in-group, each-size}
 use Rattle.read_laws.specs.Forms.{Passing, passing-apart, passing-both, passing, passed, checked, Fitting, fitting, fitted, byte-modes, Form, form-reads, form-encodes, word-as, either-encodes, form-behind}

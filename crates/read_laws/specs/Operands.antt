@@ -12,13 +12,14 @@ use Rattle.isa.specs.declared.Operand.{Operand}
 use Rattle.isa.specs.declared.Operand.the-variants.{Immediate, Register, Indirect, PostIndirect, PreIndirect, IndirectDisplacement, IndirectIndex, PcDisplacement, PcIndex, Extended, Absolute}
 use Rattle.isa.specs.declared.AddressWidth.the-variants as width
 use Rattle.encode_spec.specs.Item.{fine, dataVerdict, addressVerdict}
-use Rattle.isa.specs.Code.{registerBits, numberOfRegister, general}
+use Rattle.isa_spec.specs.Code.{registerBits, numberOfRegister, general}
 use Rattle.encode_spec.specs.Ea.{isRegister, isImmediate, modeOf, registerNumber}
-use Rattle.read_operand_laws.specs.Facts.{eqb-eq, number-lt, reason-not, Lt, lt?, ltb-true, ltb-not, eqb-is}
+use Rattle.encode_facts.specs.Items.{number-lt, reason-not}
 use Rattle.read_spec.specs.Operand.{generalOf}
 use Rattle.read_spec.specs.declared.Specifier.the-variants as specifier
 use Rattle.read_operand_laws.specs.IndexLaws.{general-lt}
 use Rattle.read_operand_laws.specs.TailStands.{SpecifierStands}
+use Rattle.base_facts.specs.Tests.{Lt, lt?, eqb-eq, ltb-true, ltb-not, eqb-is}
 
 -- a data register, or an address register, in three bits
 pub data-bits : (r : RegisterOperand) → dataVerdict r ≡ fine → Data (registerBits r) ≡ r
@@ -94,7 +95,7 @@ of-general k h = go (lt? k 8)
   where
     go : Lt k 8 → (general (generalOf k) ≡ k) × (numberOfRegister (generalOf k) < 8)
     go (Lt.less l e) = rw e (omega arith, l)
-    go (Lt.notLess l e) = rw e (omega arith, omega arith)
+    go (Lt.past l e) = rw e (omega arith, omega arith)
 
 -- a register and bit 11 in a word
 abbrev pub generalWord : RegisterOperand → ℕ → ℕ

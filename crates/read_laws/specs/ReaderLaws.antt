@@ -11,15 +11,16 @@ use Rattle.read_spec.specs.declared.Group.{Group}
 use Rattle.read_spec.specs.declared.Tail.{Tail}
 use Rattle.read_spec.specs.declared.Reading.the-variants.{Read, Short, Nothing}
 use Rattle.read_spec.specs.Tree.{Tree, run, Out, got, short, none}
-use Rattle.read_spec.specs.Plain.{plain, plainTail}
+use Rattle.read_spec.specs.Plain.{plain}
 use Rattle.read_spec.specs.Map.{groupAt}
 use Rattle.read_spec.specs.Layout.{tailTree}
 use Rattle.read_spec.specs.Layouts.{layoutOf}
 use Rattle.read_spec.specs.Decoded.{decoded, wordOf}
 use Rattle.read_spec.specs.Read.{groupTree, wordTree, reader, readingOf, readOf}
-use Rattle.read_operand_laws.specs.TreeLaws.{Words, words-append, short-no, none-no, none-short, longer-got, longer-none, completed, after, run-bind, bind-got, bind-then}
-use Rattle.read_operand_laws.specs.TailStands.{tailWords}
-use Rattle.read_laws.specs.Statements.{Accepted, Reads, reads}
+use Rattle.read_operand_laws.specs.TreeLaws.{words-append, short-no, none-no, none-short, longer-got, longer-none, completed, after, run-bind, bind-got, bind-then}
+use Rattle.read_operand_laws.specs.TailStands.{tailWords, plainTail}
+use Rattle.read_laws.specs.Statements.{Reads, reads}
+use Rattle.read_spec.specs.Accepted.{Accepted, Words, Longer}
 use Rattle.read_operand_laws.specs.TailLaws.{tail-complete, tail-sound, tail-clean}
 use Rattle.read_laws.specs.Every.{instruction-reads, group-sound}
 use Rattle.read_laws.specs.DecodedLaws.{Flat, decoded-flat, flat-got, flat-short, live-is, decoded-live}
@@ -166,9 +167,6 @@ from-short none e = let z : _≡_ {A = ℕ} 0 1 = cc in absurd (omega arith)
 zero-words : (n : ℕ) → Words (replicate n 0)
 zero-words zero = tt
 zero-words (suc n) = (omega arith, zero-words n)
-
-abbrev Longer : ℕ → List ℕ → Type 0
-Longer a ws = (v : ℕ) × (rest : List ℕ) × (i : Instruction) × Accepted a i × (wordsOf i a ≡ ws ++ (v ∷ rest))
 
 -- the fields are short, since nothing formed looks at a word more
 fields-short : (a : ℕ) (o : Out Tail) (k : Tail → Tree Instruction) → ((f : Tail) → Flat (k f)) → after o a k ≡ short → o ≡ short

@@ -20,7 +20,7 @@ use Rattle.isa.specs.declared.Operand.the-variants.{Immediate, Register}
 use Rattle.isa.specs.declared.Instruction.{Instruction}
 use Rattle.isa.specs.declared.Instruction.the-variants.{Shift, BF}
 use Rattle.encode_spec.specs.Item.{fine, numberVerdict, check, register, word, allow}
-use Rattle.isa.specs.Code.{sizeCode, isWord, registerBits, bit}
+use Rattle.isa_spec.specs.Code.{sizeCode, isWord, registerBits, bit}
 use Rattle.encode_spec.specs.Ea.{memoryAlterable, isRegister, bitFieldRead, bitFieldWritten, typed, single}
 use Rattle.encode_spec.specs.Logic.{shiftKind, leftBit, countBits, countItems, isOne, shiftRegisterParts, shiftMemoryParts, shiftParts}
 use Rattle.read_spec.specs.declared.Group.the-variants as group
@@ -29,8 +29,10 @@ use Rattle.read_spec.specs.Tree.{ret}
 use Rattle.read_spec.specs.Map.{groupAt, map}
 use Rattle.read_spec.specs.Operation.{sizeAt, shiftAt, directionAt, shiftCount, countAt, bitFieldAt, valueAt}
 use Rattle.read_spec.specs.Decoded.{dataOperand, shiftDecoded, wordOf}
-use Rattle.read_operand_laws.specs.Facts.{below, and-true, true-and, ltb-is, eqb-eq, lt-number, count-holds, reason-not, eqb-is, number-lt, unless-range, true-unless, unless-reason}
-use Rattle.isa.specs.Field.{holds}
+use Rattle.read_operand_laws.specs.Facts.{count-holds}
+use Rattle.encode_facts.specs.Items.{lt-number, reason-not, number-lt, unless-range, true-unless, unless-reason}
+use Rattle.base_facts.specs.Tests.{below, and-true, true-and, ltb-is, eqb-eq, eqb-is}
+use Rattle.isa_spec.specs.Field.{holds}
 use Rattle.read_laws.specs.Control.{count-eight}
 use Rattle.read_laws.specs.FromData.{memory-not}
 use native.Mathlib.Nat.{div-div-eq-div-mul}
@@ -43,7 +45,8 @@ use Rattle.encode_spec.specs.Bits.{bitFieldCode, writes, valueBits, valueHolds,
 use Rattle.read_spec.specs.Layout.{valuePart, valid}
 use Rattle.read_operand_laws.specs.TailStands.{SpecifierStands}
 use Rattle.encode_spec.specs.Encode.{itemsOf}
-use Rattle.read_laws.specs.Statements.{Accepted, Reads, Encodes, Sound}
+use Rattle.read_laws.specs.Statements.{Reads, Encodes, Sound}
+use Rattle.read_spec.specs.Accepted.{Accepted}
 use Rattle.read_laws.specs.Tests.{equal, yes, among, implies, facts-below}
 use Rattle.read_laws.specs.MapLaws.{At, at-code, at-upto, at-among, in-group}
 use Rattle.read_laws.specs.Forms.{Passing, passed, checked, one-back, Form, form-as, form-reads, form-encodes, decoded-as, word-as, alone-reads, alone-encodes, form-word, form-behind}

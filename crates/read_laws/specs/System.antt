@@ -14,9 +14,9 @@ use Rattle.isa.specs.declared.NoOperandOperation.{NoOperandOperation}
 use Rattle.isa.specs.declared.NoOperandOperation.the-variants.{RTE, RESET, RTR, TRAPV, ILLEGAL, RTS, NOP, SIMHALT}
 use Rattle.isa.specs.declared.Instruction.{Instruction}
 use Rattle.isa.specs.declared.Instruction.the-variants.{Link, UNLK, Vector, Status, MOVEUSP, NoOperand, RTD, MOVEC, Raw}
-use Rattle.base_signed.specs.Signed.{signed32, bitsOf}
+use Rattle.base_spec.specs.Signed.{signed32, bitsOf}
 use Rattle.encode_spec.specs.Item.{fine, malformed, unless}
-use Rattle.isa.specs.Code.{bit, numberOfRegister, general}
+use Rattle.isa_spec.specs.Code.{bit, numberOfRegister, general}
 use Rattle.encode_spec.specs.Movement.{linkParts, unlkParts}
 use Rattle.encode_spec.specs.Control.{rtdParts}
 use Rattle.encode_spec.specs.System.{vectorParts, statusParts, moveuspParts, movecParts, noOperandParts, rawParts}
@@ -36,8 +36,10 @@ use Rattle.read_spec.specs.Layout.{alone, noLayout, bare}
 use Rattle.read_spec.specs.Layouts.{systemLayout, layoutOf}
 use Rattle.read_spec.specs.Decoded.{extended, systemDecoded, wordOf, decoded}
 use Rattle.read_operand_laws.specs.TailStands.{TailStands, tailWords, specifierWords, SpecifierStands}
-use Rattle.read_operand_laws.specs.Facts.{all, number-lt, lt-number, trap-vector-holds, link-displacement-holds, rtd-displacement-holds, ltb-is, ltb-true, eqb-eq, signed16-fits, low-signed16, Lt, lt?, true-not-false, unless-malformed, true-unless, eqb-is}
-use Rattle.read_laws.specs.Statements.{Accepted, Reads, Encodes, Sound, reads}
+use Rattle.read_operand_laws.specs.Facts.{trap-vector-holds, link-displacement-holds, rtd-displacement-holds, signed16-fits, low-signed16}
+use Rattle.encode_facts.specs.Items.{number-lt, lt-number, unless-malformed, true-unless}
+use Rattle.read_laws.specs.Statements.{Reads, Encodes, Sound, reads}
+use Rattle.read_spec.specs.Accepted.{Accepted}
 use Rattle.read_laws.specs.Control.{word-extended, extended-word}
 use Rattle.read_operand_laws.specs.IndexLaws.{general-lt}
 use Rattle.read_laws.specs.Operands.{general-of, of-general, address-is}
@@ -48,6 +50,7 @@ use Rattle.read_spec.specs.LeftOut.{leftOut}
 use Rattle.read_laws.specs.Tests.{Fact, Said, yes, no, equal, said, facts-below, each-eight}
 use Rattle.read_laws.specs.MapLaws.{At, at-code, at-line, in-group}
 use Rattle.read_laws.specs.Forms.{missing, passed, checked, decoded-as, alone-reads, alone-encodes}
+use Rattle.base_facts.specs.Tests.{Lt, lt?, all, ltb-is, ltb-true, eqb-eq, true-not-false, eqb-is}
 
 -- ---- what the low six bits name: a specifier, and an instruction by its value, which encodes so
 data Named (a ea : ℕ) (k : Specifier) (j : ℕ → Instruction) : Type 0 where
@@ -78,7 +81,7 @@ trap-named a n h =
   where
     go : Lt n 8 → (v : ℕ) → systemDecoded n v ≡ Vector TRAP n
     go (Lt.less l e) v = let q : n / 8 ≡ 0 = omega arith in rw q
-    go (Lt.notLess l e) v = let q : n / 8 ≡ 1 = omega arith in rw q
+    go (Lt.past l e) v = let q : n / 8 ≡ 1 = omega arith in rw q
 
 extended-lt : (v : ℕ) → extended v < 2 ^ 32
 extended-lt v = omega arith

@@ -6,7 +6,7 @@ use mathlib.Core.List.{List, [], _∷_}
 use native.Mathlib.Omega.{arith}
 use lib.Dec.{eqb}
 use Rattle.read_spec.specs.Operand.{permitted}
-use Rattle.read_operand_laws.specs.Facts.{Eq, eq?, all, below, and-true, eqb-eq}
+use Rattle.base_facts.specs.Tests.{Eq, eq?, all, below, and-true, eqb-eq}
 use Rattle.read_operand_laws.specs.OperandLaws.{permitted-lt}
 
 -- two numbers are equal, a test holds, or it fails

@@ -14,7 +14,7 @@ use Rattle.isa.specs.declared.Field.{Field}
 use Rattle.isa.specs.declared.Field.the-variants as field
 use Rattle.isa.specs.declared.Operand.{Operand}
 use Rattle.isa.specs.declared.Operand.the-variants.{Immediate, Register, Indirect, PostIndirect, PreIndirect, IndirectDisplacement, IndirectIndex, PcDisplacement, PcIndex, Extended, Absolute}
-use Rattle.isa.specs.ExtensionWord.{isFull, baseSize, outerSize}
+use Rattle.isa_spec.specs.ExtensionWord.{isFull, baseSize, outerSize}
 use Rattle.encode_spec.specs.Item.{Item, fine, ranged, wordsIn}
 use Rattle.encode_spec.specs.Ea.{eaItems, displacementItems, baseDisplacement, fullItems, scaledItems, immediateWords}
 use Rattle.read_spec.specs.declared.Specifier.{Specifier}
@@ -22,8 +22,11 @@ use Rattle.read_spec.specs.declared.Specifier.the-variants as specifier
 use Rattle.read_spec.specs.declared.Layout.{Layout}
 use Rattle.read_spec.specs.declared.Tail.{Tail}
 use Rattle.read_spec.specs.Decoded.{wordOf}
-use Rattle.read_operand_laws.specs.Facts.{fine-both, range-holds, immediate-holds, ltb-is, words-in-append}
-use Rattle.read_operand_laws.specs.TreeLaws.{Words, words-append}
+use Rattle.read_operand_laws.specs.Facts.{immediate-holds}
+use Rattle.encode_facts.specs.Items.{fine-both, range-holds, words-in-append}
+use Rattle.base_facts.specs.Tests.{ltb-is}
+use Rattle.read_operand_laws.specs.TreeLaws.{words-append}
+use Rattle.read_spec.specs.Accepted.{Words}
 use Rattle.read_operand_laws.specs.Stands.{Stands}
 use Rattle.read_operand_laws.specs.IndexLaws.{general-lt, long-lt}
 use Rattle.read_operand_laws.specs.TailStands.{specifierWords, SpecifierStands, sourceAt, destinationAt, TailStands, tailWords}

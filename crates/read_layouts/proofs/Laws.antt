@@ -14,7 +14,7 @@ use Rattle.read_spec.proofs.Group.{the-type}
 use Rattle.read_spec.specs.declared.Group.{Group}
 use Rattle.read_spec.specs.declared.Group.the-variants as group
 use Rattle.read_spec.specs.declared.Layout.{Layout}
-use Rattle.read_spec.specs.Map.{groups, groupNumber}
+use Rattle.read_places.specs.Groups.{groups, groupNumber}
 use Rattle.read_spec.specs.Layout.{bare}
 use Rattle.read_spec.specs.Layouts.{layoutOf}
 

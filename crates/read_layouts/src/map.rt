@@ -1,7 +1,7 @@
 // The operation code map (the manual, section 8): the group that the upper ten bits of an operation word name.
 ghost use mathlib.Core.Path.{_≡_};
 ghost use Prim.Native.Nat.{_<_};
-ghost use Rattle.read_spec.specs.Map.{groupNumberOf, groupOf};
+ghost use Rattle.read_places.specs.Groups.{groupNumberOf, groupOf};
 use read_spec::Group;
 
 // The groups by their numbers.

@@ -9,7 +9,7 @@ use Rattle.isa.specs.declared.BranchSize.{BranchSize}
 use Rattle.isa.specs.declared.BranchSize.the-variants as branch
 use Rattle.isa.specs.declared.Instruction.{Instruction}
 use Rattle.isa.specs.declared.Instruction.the-variants.{Branch, Bcc}
-use Rattle.isa_values.specs.Condition.{conditionOf}
+use Rattle.isa_spec.specs.Condition.{conditionOf}
 use Rattle.read_spec.specs.Decoded.{branchTo, branchDecoded}
 use Rattle.read_opcodes_4_7.specs.Parts.{branchTarget, branchSize, branchAt}
 

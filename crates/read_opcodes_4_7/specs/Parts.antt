@@ -7,7 +7,7 @@ use Rattle.isa.specs.declared.BranchSize.the-variants as branch
 use Rattle.isa.specs.declared.BranchOperation.{BranchOperation}
 use Rattle.isa.specs.declared.BranchOperation.the-variants.{BRA, BSR}
 use Rattle.encode_spec.specs.Item.{placed}
-use Rattle.base_signed.specs.Signed.{signed32}
+use Rattle.base_spec.specs.Signed.{signed32}
 use Rattle.read_spec.specs.Number.{signed8, signed16, reach}
 
 -- the target, the size and the operation of a branch

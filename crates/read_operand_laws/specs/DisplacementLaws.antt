@@ -9,16 +9,17 @@ use Rattle.isa.specs.declared.DisplacementSize.{DisplacementSize}
 use Rattle.isa.specs.declared.DisplacementSize.the-variants.{Null, Word, Long}
 use Rattle.isa.specs.declared.Field.{Field}
 use Rattle.isa.specs.declared.Field.the-variants as field
-use Rattle.isa.specs.Field.{holds}
+use Rattle.isa_spec.specs.Field.{holds}
 use Rattle.encode_spec.specs.Item.{fine, failure, ranged, wordsIn, countOf}
 use Rattle.encode_spec.specs.Ea.{distance, displacementItems}
-use Rattle.base_signed.specs.Signed.{signed32, bitsOf}
+use Rattle.base_spec.specs.Signed.{signed32, bitsOf}
 use Rattle.read_spec.specs.Number.{signed16, reach}
 use Rattle.read_spec.specs.Operand.{displacementTree, landed}
 use Rattle.read_spec.specs.Tree.{got, run}
-use Rattle.read_operand_laws.specs.Stands.{Fits32}
-use Rattle.read_operand_laws.specs.Facts.{fits, fits-wider, as-fits32, fine-both, both-fine, range-holds, holds-range, signed16-low, low-signed16, signed16-fits, signed32-low, low-signed32, signed32-fits, null-displacement-holds, null-displacement-zero, reach-distance, distance-reach, distance-fits, reach-lt}
-use Rattle.read_operand_laws.specs.TreeLaws.{Words, Alive, Clean, got-subst, short-no}
+use Rattle.read_spec.specs.Accepted.{Fits32, Words}
+use Rattle.read_operand_laws.specs.Facts.{fits, fits-wider, as-fits32, signed16-low, low-signed16, signed16-fits, signed32-low, low-signed32, signed32-fits, null-displacement-holds, null-displacement-zero, reach-distance, distance-reach, distance-fits, reach-lt}
+use Rattle.encode_facts.specs.Items.{fine-both, both-fine, range-holds, holds-range}
+use Rattle.read_operand_laws.specs.TreeLaws.{Alive, Clean, got-subst, short-no}
 
 pub got-is : {A : Type 0} {x y : A} {m n : ℕ} (r : List ℕ) → x ≡ y → m ≡ n → got x m r ≡ got y n r
 got-is r p q = rw (p, q)

@@ -16,20 +16,23 @@ use Rattle.isa.specs.declared.Operand.{Operand}
 use Rattle.isa.specs.declared.Operand.the-variants.{IndirectIndex, PcIndex, Extended}
 use Rattle.isa.specs.declared.Field.{Field}
 use Rattle.isa.specs.declared.Field.the-variants as field
-use Rattle.isa.specs.Field.{holds}
-use Rattle.isa.specs.Code.{numberOfRegister, general, longBit}
+use Rattle.isa_spec.specs.Field.{holds}
+use Rattle.isa_spec.specs.Code.{numberOfRegister, general, longBit}
 use Rattle.encode_spec.specs.Item.{Item, fine, failure, ranged, numberVerdict, wordsIn, countOf, placed}
-use Rattle.isa.specs.ExtensionWord.{isFull, baseSize, outerSize, isCanonical}
+use Rattle.isa_spec.specs.ExtensionWord.{isFull, baseSize, outerSize, isCanonical}
 use Rattle.encode_spec.specs.Ea.{indexSizeVerdict, briefItems, displacementItems, fromPc, fullItems, briefField, scaledItems, extendedItems, extendedModeField, extendedRegisterField, eaField, eaItems, isTyped}
-use Rattle.base_signed.specs.Signed.{bitsOf}
+use Rattle.base_spec.specs.Signed.{bitsOf}
 use Rattle.read_spec.specs.Number.{signed8, reach}
 use Rattle.read_spec.specs.Operand.{generalOf, indexOf, displacementTree, landed, fullTree, indexOperand, scaledOperand, briefOperand, indexedTree}
 use Rattle.read_spec.specs.Plain.{plainIndex, plainBrief, plainOperand}
 use Rattle.read_spec.specs.Tree.{Tree, ret, got, run, bind}
-use Rattle.read_operand_laws.specs.Stands.{Fits32, InTypes, Stands}
-use Rattle.read_operand_laws.specs.Facts.{Lt, less, notLess, lt?, Eq, same, other, eq?, ltb-true, ltb-not, leb-true, eqb-is, eqb-not, and-yes, pick-true, pick-false, true-and, true-not-false, fits, fits-wider, as-fits32, fine-both, both-fine, reason-not, range-holds, holds-range, number-lt, lt-number, failure-append, words-in-append, count-append, placed-lt, low-signed8, signed8-low, signed8-fits, reach-distance, distance-reach, reach-lt, pc-index-holds, index-displacement-holds, base-displacement-holds, outer-displacement-holds}
-use Rattle.read_operand_laws.specs.TreeLaws.{Words, rest-words, Alive, Clean, got-subst, short-no, guard-true, guard-then, guard-clean, bind-got, bind-then, bind-alive, bind-clean}
+use Rattle.read_operand_laws.specs.Stands.{Stands}
+use Rattle.read_spec.specs.Accepted.{Fits32, InTypes, Words}
+use Rattle.read_operand_laws.specs.Facts.{fits, fits-wider, as-fits32, low-signed8, signed8-low, signed8-fits, reach-distance, distance-reach, reach-lt, pc-index-holds, index-displacement-holds, base-displacement-holds, outer-displacement-holds}
+use Rattle.encode_facts.specs.Items.{fine-both, both-fine, reason-not, range-holds, holds-range, number-lt, lt-number, failure-append, words-in-append, count-append, placed-lt}
+use Rattle.read_operand_laws.specs.TreeLaws.{rest-words, Alive, Clean, got-subst, short-no, guard-true, guard-then, guard-clean, bind-got, bind-then, bind-alive, bind-clean}
 use Rattle.read_operand_laws.specs.DisplacementLaws.{got-is, displacement-complete, displacement-sound, displacement-clean, based, landed-based, based-fits, based-landed, landed-fits}
+use Rattle.base_facts.specs.Tests.{Lt, less, past, lt?, Eq, same, other, eq?, ltb-true, ltb-not, leb-true, eqb-is, eqb-not, and-yes, cond-true, cond-false, true-and, true-not-false}
 
 -- ---- the index of a brief word
 abbrev pub briefWord : IndexRegister → ℕ → ℕ
@@ -90,7 +93,7 @@ general-sound k h = go (lt? k 8)
   where
     go : Lt k 8 → (numberVerdict (numberOfRegister (generalOf k)) ≡ fine) × (general (generalOf k) ≡ k)
     go (less l e) = rw e (lt-number k l, omega arith)
-    go (notLess l e) = rw e (lt-number (k - 8) (omega arith), omega arith)
+    go (past l e) = rw e (lt-number (k - 8) (omega arith), omega arith)
 
 size-sound : (b : ℕ) → b < 2 → (indexSizeVerdict (cond (eqb b 1) Long Word) ≡ fine) × (longBit (cond (eqb b 1) Long Word) ≡ b)
 size-sound b h = go (eq? b 1)
@@ -139,7 +142,7 @@ full-complete base a n w z outer f c t u e r =
     ap (λ (l : List ℕ). l ++ r) (words-in-append (baseItems w y) (outerItems w outer)) ∙ append-assoc (wordsIn (baseItems w y)) (wordsIn (outerItems w outer)) r in
     let counted = count-append (baseItems w y) (outerItems w outer) in
     ap (λ (l : List ℕ). run (indexedTree base) a n (w ∷ l)) split
-    ∙ ap (λ (k : Tree Operand). run k a (n + 1) ws) (pick-true (isFull w) (fullTree base at w) (ret (briefOperand base at w)) f ∙ guard-true (isCanonical w) (fullPart base at w) c)
+    ∙ ap (λ (k : Tree Operand). run k a (n + 1) ws) (cond-true (isFull w) (fullTree base at w) (ret (briefOperand base at w)) f ∙ guard-true (isCanonical w) (fullPart base at w) c)
     ∙ bind-got (displacementTree (baseSize w)) (λ y. outerPart base at w y) a (n + 1) ws y (n + 1 + countOf (baseItems w y)) (wordsIn (outerItems w outer) ++ r)
     (displacement-complete (baseSize w) field.BaseDisplacement base-displacement-holds y (based-fits (fromPc base w) at z t) (v .0) a (n + 1) (wordsIn (outerItems w outer) ++ r))
     ∙ bind-got (displacementTree (outerSize w)) (λ outer. ret (Extended base w (landed (fromPc base w) at y) outer)) a (n + 1 + countOf (baseItems w y))
@@ -173,7 +176,7 @@ brief-plain base at w v z h t p q u s =
 
 pub brief-step : (base a n w : ℕ) (r : List ℕ) → isFull w ≡ false → run (indexedTree base) a n (w ∷ r) ≡ got (briefOperand base (placed a n) w) (n + 1) r
 brief-step base a n w r f =
-    ap (λ (k : Tree Operand). run k a (n + 1) r) (pick-false (isFull w) (fullTree base (placed a n) w) (ret (briefOperand base (placed a n) w)) f)
+    ap (λ (k : Tree Operand). run k a (n + 1) r) (cond-false (isFull w) (fullTree base (placed a n) w) (ret (briefOperand base (placed a n) w)) f)
 
 scaled-complete : (base a n w : ℕ) (z : ℤ) → isFull w ≡ false → Fits32 z
     → failure true (scaledItems base w (based (eqb base 8) (placed a n) z)) ≡ fine
@@ -205,19 +208,19 @@ extended-complete base a n w z outer c t u e r = go (isFull w) refl
     Reads xs = failure true xs ≡ fine → run (indexedTree base) a n (wordsIn xs ++ r) ≡ got (plainOperand (Extended base w z outer)) (n + countOf xs) r
 
     full : isFull w ≡ true → Reads (fullItems w (based (fromPc base w) at z) outer)
-    full f g = full-complete base a n w z outer f c t u g r ∙ got-is r (sym (pick-true (isFull w) (Extended base w z outer) (plainBrief base w z) f)) refl
+    full f g = full-complete base a n w z outer f c t u g r ∙ got-is r (sym (cond-true (isFull w) (Extended base w z outer) (plainBrief base w z) f)) refl
 
     brief : isFull w ≡ false → Reads (scaledItems base w (based (eqb base 8) at z))
-    brief f g = scaled-complete base a n w z f t g r ∙ got-is r (sym (pick-false (isFull w) (Extended base w z outer) (plainBrief base w z) f)) refl
+    brief f g = scaled-complete base a n w z f t g r ∙ got-is r (sym (cond-false (isFull w) (Extended base w z outer) (plainBrief base w z) f)) refl
 
     go : (b : Bool) → isFull w ≡ b
         → run (indexedTree base) a n (wordsIn (extendedItems base w z outer at) ++ r)
         ≡ got (plainOperand (Extended base w z outer)) (n + countOf (extendedItems base w z outer at)) r
-    go true f = subst Reads (sym (pick-true (isFull w) (fullItems w (based (fromPc base w) at z) outer) (scaledItems base w (based (fromPc base w) at z)) f)) (full f) e
+    go true f = subst Reads (sym (cond-true (isFull w) (fullItems w (based (fromPc base w) at z) outer) (scaledItems base w (based (fromPc base w) at z)) f)) (full f) e
     go false f =
         subst Reads
         (sym
-        (pick-false (isFull w) (fullItems w (based (fromPc base w) at z) outer) (scaledItems base w (based (fromPc base w) at z)) f
+        (cond-false (isFull w) (fullItems w (based (fromPc base w) at z) outer) (scaledItems base w (based (fromPc base w) at z)) f
         ∙ ap (λ (b : Bool). scaledItems base w (based b at z)) (brief-pc base w f)))
         (brief f) e
 
@@ -267,7 +270,7 @@ full-sound s base a n w ws hb hw h f o m r e =
     let d2 = displacement-sound (outerSize w) field.OuterDisplacement outer-displacement-holds a j s1 h1 outer k s2 e2 in
     let y = landed (fromPc base w) at z in
     let items : extendedItems base w y outer at ≡ fullItems w z outer =
-    pick-true (isFull w) (fullItems w (based (fromPc base w) at y) outer) (scaledItems base w (based (fromPc base w) at y)) f
+    cond-true (isFull w) (fullItems w (based (fromPc base w) at y) outer) (scaledItems base w (based (fromPc base w) at y)) f
     ∙ ap (λ (x : ℤ). fullItems w x outer) (based-landed (fromPc base w) at z (placed-lt a n) (d .0)) in
     let counted = count-append (baseItems w z) (outerItems w outer) in
     got-subst (OperandSound s a n (extendedField base) (w ∷ ws)) f2
@@ -276,7 +279,7 @@ full-sound s base a n w ws hb hw h f o m r e =
     (true-and (leb base 8) (isCanonical w) (leb-true base 8 hb) (g .0))
     (hw, landed-fits (fromPc base w) at z (d .0), d2 .0)
     refl
-    (pick-true (isFull w) (Extended base w y outer) (plainBrief base w y) f)
+    (cond-true (isFull w) (Extended base w y outer) (plainBrief base w y) f)
     (ap (λ (l : List ℕ). w ∷ l)
     (cut (wordsIn (baseItems w z)) (wordsIn (outerItems w outer)) ws s1 s2 (d .2) (d2 .2)
     ∙ ap (λ (l : List ℕ). l ++ s2) (sym (words-in-append (baseItems w z) (outerItems w outer)))))
@@ -310,7 +313,7 @@ module _ (s : Size) (a n w : ℕ) (ws : List ℕ) (hw : w < 65536) (even : w / 2
       let q : v / 512 ≡ w / 512 = omega arith in
       let f : isFull v ≡ false = eqb-not (v / 256 % 2) 1 (omega arith) in
       let items : extendedItems base v y (pos 0) at ≡ scaledItems base v offset =
-      pick-false (isFull v) (fullItems v (based (fromPc base v) at y) (pos 0)) (scaledItems base v (based (fromPc base v) at y)) f
+      cond-false (isFull v) (fullItems v (based (fromPc base v) at y) (pos 0)) (scaledItems base v (based (fromPc base v) at y)) f
       ∙ ap (λ (b : Bool). scaledItems base v (based b at y)) (brief-pc base v f)
       ∙ ap (λ (x : ℤ). scaledItems base v x) (based-landed (eqb base 8) at offset (placed-lt a n) offset-32) in
       sound-by s a n (extendedField base) (w ∷ ws) (Extended base v y (pos 0)) (n + 1) ws (scaledItems base v offset) items
@@ -318,8 +321,8 @@ module _ (s : Size) (a n w : ℕ) (ws : List ℕ) (hw : w < 65536) (even : w / 2
       (true-and (leb base 8) (isCanonical v) (leb-true base 8 hb) (rw f))
       (omega arith, landed-fits (eqb base 8) at offset offset-32, refl)
       refl
-      (pick-false (isFull v) (Extended base v y (pos 0)) (plainBrief base v y) f
-      ∙ pick-false (eqb (v / 512 % 4) 0) (plainIndex base v y) (Extended base (v / 512 * 512) y (pos 0)) (ap (λ (k : ℕ). eqb (k % 4) 0) q ∙ g)
+      (cond-false (isFull v) (Extended base v y (pos 0)) (plainBrief base v y) f
+      ∙ cond-false (eqb (v / 512 % 4) 0) (plainIndex base v y) (Extended base (v / 512 * 512) y (pos 0)) (ap (λ (k : ℕ). eqb (k % 4) 0) q ∙ g)
       ∙ ap (λ (k : ℕ). Extended base (k * 512) y (pos 0)) q)
       (ap (λ (x : ℕ). x ∷ ws) (byte-word w (v / 256 * 256) (bitsOf offset % 256) (ap (λ (k : ℕ). k * 256) p) (low-signed8 (w % 256) (omega arith))))
       refl
@@ -377,15 +380,15 @@ brief-sound s base a n w ws hb hw f = go (eq? (w / 256 % 2) 1) (eq? (w / 512 % 4
     index even g (other p e) =
         let l : base < 8 = omega arith in
         let field : 48 + base % 8 ≡ extendedField base = rw (ltb-true base 8 l) in
-        subst Sound (sym (pick-false (eqb base 8) (PcIndex (reach at z) (indexOf w)) (IndirectIndex (Address base) z (indexOf w)) e))
+        subst Sound (sym (cond-false (eqb base 8) (PcIndex (reach at z) (indexOf w)) (IndirectIndex (Address base) z (indexOf w)) e))
         (subst (λ (ea : ℕ). OperandSound s a n ea (w ∷ ws) (IndirectIndex (Address base) z (indexOf w)) (n + 1) ws) field (address-index-sound s a n w ws hw even base l g))
 
     go : Eq (w / 256 % 2) 1 → Eq (w / 512 % 4) 0 → Sound (briefOperand base at w)
     go (same p e) x = true-not-false e f
     go (other p e) (same q g) =
-        subst Sound (sym (pick-true (eqb (w / 512 % 4) 0) (indexOperand base at w z) (scaledOperand base at w z) g)) (index (omega arith) q (eq? base 8))
+        subst Sound (sym (cond-true (eqb (w / 512 % 4) 0) (indexOperand base at w z) (scaledOperand base at w z) g)) (index (omega arith) q (eq? base 8))
     go (other p e) (other q g) =
-        subst Sound (sym (pick-false (eqb (w / 512 % 4) 0) (indexOperand base at w z) (scaledOperand base at w z) g))
+        subst Sound (sym (cond-false (eqb (w / 512 % 4) 0) (indexOperand base at w z) (scaledOperand base at w z) g))
         (scaled-sound s a n w ws hw (omega arith) base hb g)
 
 pub indexed-sound : (s : Size) (base a n : ℕ) → base ≤ 8 → (ws : List ℕ) → Words ws → (o : Operand) (m : ℕ) (r : List ℕ)
@@ -404,9 +407,9 @@ indexed-sound s base a n hb (w ∷ ws) h o m r e = go (isFull w) refl
     by t p = subst (λ (t : Tree Operand). run t a (n + 1) ws ≡ got o m r) p read
 
     go : (b : Bool) → isFull w ≡ b → OperandSound s a n (extendedField base) (w ∷ ws) o m r
-    go true f = full-sound s base a n w ws hb (h .0) (h .1) f o m r (by (fullTree base at w) (pick-true (isFull w) (fullTree base at w) (ret (briefOperand base at w)) f))
+    go true f = full-sound s base a n w ws hb (h .0) (h .1) f o m r (by (fullTree base at w) (cond-true (isFull w) (fullTree base at w) (ret (briefOperand base at w)) f))
     go false f =
-        got-subst (OperandSound s a n (extendedField base) (w ∷ ws)) (by (ret (briefOperand base at w)) (pick-false (isFull w) (fullTree base at w) (ret (briefOperand base at w)) f))
+        got-subst (OperandSound s a n (extendedField base) (w ∷ ws)) (by (ret (briefOperand base at w)) (cond-false (isFull w) (fullTree base at w) (ret (briefOperand base at w)) f))
         (brief-sound s base a n w ws hb (h .0) f)
 
 -- ---- zeros complete it

@@ -15,21 +15,24 @@ use Rattle.isa.specs.declared.Operand.{Operand}
 use Rattle.isa.specs.declared.Operand.the-variants.{Immediate, Register, Indirect, PostIndirect, PreIndirect, IndirectDisplacement, IndirectIndex, PcDisplacement, PcIndex, Extended, Absolute}
 use Rattle.isa.specs.declared.Field.{Field}
 use Rattle.isa.specs.declared.Field.the-variants as field
-use Rattle.isa.specs.Field.{holds, topOf}
-use Rattle.isa.specs.Code.{numberOfRegister}
+use Rattle.isa_spec.specs.Field.{holds, topOf}
+use Rattle.isa_spec.specs.Code.{numberOfRegister}
 use Rattle.encode_spec.specs.Item.{fine, register, failure, orElse, ranged, numberVerdict, wordsIn, countOf, placed}
-use Rattle.isa.specs.ExtensionWord.{isCanonical}
+use Rattle.isa_spec.specs.ExtensionWord.{isCanonical}
 use Rattle.encode_spec.specs.Ea.{distance, indexSizeVerdict, briefItems, wordItems, immediateWords, immediateItems, extendedMode, extendedItems, absoluteItems, modeOf, permits, eaField, eaItems, isTyped}
-use Rattle.base_signed.specs.Signed.{signed32, signed64, bitsOf}
+use Rattle.base_spec.specs.Signed.{signed32, signed64, bitsOf}
 use Rattle.read_spec.specs.Number.{signed8, signed16, reach}
 use Rattle.read_spec.specs.Operand.{modeAt, permitted, indexOf, immediateTree, indexedTree, indexOperand, scaledOperand, briefOperand, specialTree, modeTree, operandTree}
 use Rattle.read_spec.specs.Plain.{plainOperand}
 use Rattle.read_spec.specs.Tree.{Tree, ret, got, run}
-use Rattle.read_operand_laws.specs.Stands.{InTypes, Stands}
-use Rattle.read_operand_laws.specs.Facts.{Lt, less, notLess, lt?, ltb-true, ltb-is, leb-is, eqb-not, and-true, pick-true, pick-false, fits, fits-wider, as-fits32, fine-both, both-fine, reason-not, range-holds, holds-range, number-lt, lt-number, placed-lt, signed8-low, signed16-low, low-signed16, signed16-fits, signed32-low, low-signed32, reach-distance, distance-reach, reach-lt, immediate-holds, displacement-holds, index-displacement-holds, pc-displacement-holds, pc-index-holds, short-address-holds, long-address-holds}
-use Rattle.read_operand_laws.specs.TreeLaws.{Words, Alive, Clean, got-subst, short-no, none-no, guard-true, guard-then, guard-clean, bind-got, bind-then, bind-alive, bind-clean}
+use Rattle.read_operand_laws.specs.Stands.{Stands}
+use Rattle.read_spec.specs.Accepted.{InTypes, Words}
+use Rattle.read_operand_laws.specs.Facts.{fits, fits-wider, as-fits32, signed8-low, signed16-low, low-signed16, signed16-fits, signed32-low, low-signed32, reach-distance, distance-reach, reach-lt, immediate-holds, displacement-holds, index-displacement-holds, pc-displacement-holds, pc-index-holds, short-address-holds, long-address-holds}
+use Rattle.encode_facts.specs.Items.{fine-both, both-fine, reason-not, range-holds, holds-range, number-lt, lt-number, placed-lt}
+use Rattle.read_operand_laws.specs.TreeLaws.{Alive, Clean, got-subst, short-no, none-no, guard-true, guard-then, guard-clean, bind-got, bind-then, bind-alive, bind-clean}
 use Rattle.read_operand_laws.specs.DisplacementLaws.{got-is}
 use Rattle.read_operand_laws.specs.IndexLaws.{briefWord, Brief, index-complete, brief-step, extended-complete, extendedField, OperandSound, sound-by, indexed-sound, indexed-alive, indexed-clean}
+use Rattle.base_facts.specs.Tests.{Lt, less, past, lt?, ltb-true, ltb-is, leb-is, eqb-not, and-true, cond-true, cond-false}
 
 -- ---- immediates
 immediate-lt : (s : Size) (v : ℕ) → failure true (immediateItems v s) ≡ fine → v < suc (topOf s)
@@ -105,7 +108,7 @@ extended-tree s base h = go (lt? base 8)
         let p : base % 8 ≡ base = omega arith in
         let q : extendedField base ≡ 6 * 8 + base = rw (e, p) in
         ap (operandTree s) q ∙ field-tree s 6 base l
-    go (notLess l e) = let p : 8 ≡ base = omega arith in subst (λ (b : ℕ). operandTree s (extendedField b) ≡ indexedTree b) p refl
+    go (past l e) = let p : 8 ≡ base = omega arith in subst (λ (b : ℕ). operandTree s (extendedField b) ≡ indexedTree b) p refl
 
 -- ---- complete
 abbrev Complete : Size → ℕ → ℕ → List ℕ → Operand → Type 0
@@ -134,7 +137,7 @@ indexed base at z x = cond (eqb base 8) (PcIndex (reach at z) x) (IndirectIndex 
 
 brief-at : (base at w l : ℕ) (x : IndexRegister) (z : ℤ) → Brief w l x → signed8 l ≡ z → briefOperand base at w ≡ indexed base at z x
 brief-at base at w l x z b e =
-    pick-true (eqb (w / 512 % 4) 0) (indexOperand base at w (signed8 (w % 256))) (scaledOperand base at w (signed8 (w % 256))) (b .1)
+    cond-true (eqb (w / 512 % 4) 0) (indexOperand base at w (signed8 (w % 256))) (scaledOperand base at w (signed8 (w % 256))) (b .1)
     ∙ ap (λ (y : ℤ). indexed base at y (indexOf w)) (ap signed8 (b .2) ∙ e)
     ∙ ap (λ (i : IndexRegister). indexed base at z i) (b .3)
 
@@ -194,7 +197,7 @@ at-field s a n (IndirectIndex (Address k) z x) e i t r =
     by-tree s a n r (briefWord x (bitsOf z % 256) ∷ r) (6 * 8 + k % 8) (indexedTree k) (indexed k (placed a n) z x) (IndirectIndex (Address k) z x) (n + 1) (n + 1)
     (field-tree s 6 (k % 8) (omega arith) ∙ ap (modeTree s 6) j)
     (brief-complete k a n r x z (sym (index-displacement-holds z) ∙ c .0) (c .1) (c .2))
-    (pick-false (eqb k 8) (PcIndex (reach (placed a n) z) x) (IndirectIndex (Address k) z x) (eqb-not k 8 (omega arith))) refl
+    (cond-false (eqb k 8) (PcIndex (reach (placed a n) z) x) (IndirectIndex (Address k) z x) (eqb-not k 8 (omega arith))) refl
 at-field s a n (IndirectIndex (Data k) z x) e i t r = reason-not 2 e
 at-field s a n (PcDisplacement d) e i t r =
     let at = placed a n in
@@ -396,8 +399,8 @@ operand-alive s modes ea e = go (lt? ea 56)
 
     go : Lt ea 56 → Alive (operandTree s ea)
     go (less h f) = low-alive s (ea / 8) (ea % 8) (omega arith)
-    go (notLess h f) =
-        let j : ea - 49 < 12 = subst (λ (k : ℕ). k < 12) (pick-false (ltb ea 56) (ea / 8) (ea - 49) f) l in
+    go (past h f) =
+        let j : ea - 49 < 12 = subst (λ (k : ℕ). k < 12) (cond-false (ltb ea 56) (ea / 8) (ea - 49) f) l in
         let p : 7 ≡ ea / 8 = omega arith in
         subst (λ (m : ℕ). Alive (modeTree s m (ea % 8))) p (special-alive s (ea % 8) (omega arith))
 
@@ -424,8 +427,8 @@ mode-field (Extended base w z outer) i = go (lt? base 8)
     go : Lt base 8 → modeAt (extendedField base) ≡ extendedMode base
     go (less h e) =
         let p : extendedField base ≡ 6 * 8 + base % 8 = rw e in
-        ap modeAt p ∙ low-mode 6 (base % 8) (omega arith) (omega arith) ∙ sym (pick-false (eqb base 8) 10 6 (eqb-not base 8 (omega arith)))
-    go (notLess h e) = let p : 8 ≡ base = omega (arith, l) in subst (λ (b : ℕ). modeAt (extendedField b) ≡ extendedMode b) p refl
+        ap modeAt p ∙ low-mode 6 (base % 8) (omega arith) (omega arith) ∙ sym (cond-false (eqb base 8) 10 6 (eqb-not base 8 (omega arith)))
+    go (past h e) = let p : 8 ≡ base = omega (arith, l) in subst (λ (b : ℕ). modeAt (extendedField b) ≡ extendedMode b) p refl
 mode-field (Absolute v width.Word) i = refl
 mode-field (Absolute v width.Long) i = refl
 
@@ -481,4 +484,4 @@ permitted-lt modes ea e = go (lt? ea 56) (ltb-is (modeAt ea) 12 (and-true (ltb (
   where
     go : Lt ea 56 → modeAt ea < 12 → ea < 64
     go (Lt.less l g) h = omega arith
-    go (Lt.notLess l g) h = omega (arith, rw g at h)
+    go (Lt.past l g) h = omega (arith, rw g at h)

@@ -15,11 +15,13 @@ use Rattle.read_spec.specs.declared.Layout.{Layout}
 use Rattle.read_spec.specs.declared.Tail.{Tail}
 use Rattle.read_spec.specs.Tree.{Tree, ret, more, got, run, bind, guard}
 use Rattle.read_spec.specs.Operand.{permitted, operandTree}
-use Rattle.read_spec.specs.Plain.{plainOperand, plainTail}
+use Rattle.read_spec.specs.Plain.{plainOperand}
 use Rattle.read_spec.specs.Layout.{valid, oneWord, twoWords, specifierTree, accepts, tailTree}
-use Rattle.read_operand_laws.specs.TailStands.{specifierWords, OneStands, TwoStand, SpecifierStands, sourceAt, destinationAt, TailStands, tailWords}
-use Rattle.read_operand_laws.specs.Facts.{and-true, words-count}
-use Rattle.read_operand_laws.specs.TreeLaws.{Words, rest-words, Alive, Clean, got-subst, short-no, guard-true, guard-then, guard-clean, guard-alive, bind-got, bind-then, bind-alive, bind-clean}
+use Rattle.read_operand_laws.specs.TailStands.{specifierWords, OneStands, TwoStand, SpecifierStands, sourceAt, destinationAt, TailStands, tailWords, plainTail}
+use Rattle.encode_facts.specs.Items.{words-count}
+use Rattle.base_facts.specs.Tests.{and-true}
+use Rattle.read_operand_laws.specs.TreeLaws.{rest-words, Alive, Clean, got-subst, short-no, guard-true, guard-then, guard-clean, guard-alive, bind-got, bind-then, bind-alive, bind-clean}
+use Rattle.read_spec.specs.Accepted.{Words}
 use Rattle.read_operand_laws.specs.DisplacementLaws.{got-is}
 use Rattle.read_operand_laws.specs.OperandLaws.{operand-complete, operand-sound, operand-clean, operand-alive, permitted-lt}
 

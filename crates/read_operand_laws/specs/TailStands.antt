@@ -11,6 +11,7 @@ use Rattle.read_spec.specs.declared.Specifier.the-variants as specifier
 use Rattle.read_spec.specs.declared.Layout.{Layout}
 use Rattle.read_spec.specs.declared.Tail.{Tail}
 use Rattle.read_spec.specs.Layout.{valid, accepts}
+use Rattle.read_spec.specs.Plain.{plainOperand}
 use Rattle.read_operand_laws.specs.Stands.{Stands}
 
 abbrev pub specifierWords : Specifier → ℕ → List ℕ
@@ -63,3 +64,6 @@ abbrev pub tailWords : ℕ → Layout → Tail → List ℕ
 tailWords a l f =
     specifierWords (l .specifier) (f .value)
     ++ (wordsIn (eaItems (f .source) (l .size) (sourceAt a l f)) ++ wordsIn (eaItems (f .destination) (l .size) (destinationAt a l f)))
+
+abbrev pub plainTail : Tail → Tail
+plainTail f = record { value = f .value; source = plainOperand (f .source); destination = plainOperand (f .destination) }

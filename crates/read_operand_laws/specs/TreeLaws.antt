@@ -8,14 +8,11 @@ use native.Mathlib.Omega.{arith}
 use lib.ListN.{length, replicate, drop, getD, drop-of-length-le}
 use lib.Seq.{drop-cons}
 use Rattle.encode_spec.specs.Item.{placed}
-use Rattle.read_spec.specs.Depth.{atOut}
-use Rattle.read_spec.specs.Tree.{Tree, ret, fail, more, Out, got, short, none, run, guard, bind, runAt}
-use Rattle.read_operand_laws.specs.Facts.{Lt, less, notLess, lt?}
-
--- each is a word
-abbrev pub Words : List ℕ → Type 0
-Words [] = Unit {0}
-Words (w ∷ ws) = (w < 65536) × Words ws
+use Rattle.read_places.specs.Depth.{atOut}
+use Rattle.read_spec.specs.Tree.{Tree, ret, fail, more, Out, got, short, none, run, guard, bind}
+use Rattle.read_places.specs.RunAt.{runAt}
+use Rattle.read_spec.specs.Accepted.{Words}
+use Rattle.base_facts.specs.Tests.{Lt, less, past, lt?}
 
 pub words-append : (us vs : List ℕ) → Words us → Words vs → Words (us ++ vs)
 words-append [] vs h g = g
@@ -131,7 +128,7 @@ module _ {A : Type 0} where
           → Lt n (length ws)
           → runAt (more k) a ws n ≡ atOut (run (more k) a n (drop n ws))
       go ih (less p e) = rw e (ih (omega arith) ∙ ap atOut (sym (step-more k a n ws p)))
-      go ih (notLess p e) = rw e (ap atOut (sym (step-short k a n ws p)))
+      go ih (past p e) = rw e (ap atOut (sym (step-short k a n ws p)))
 
 -- ---- one tree after another
 module _ {A B : Type 0} where

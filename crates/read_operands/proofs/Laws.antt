@@ -11,8 +11,9 @@ use Rattle.isa.specs.declared.Size.the-variants as size
 use Rattle.base_facts.specs.Tests.{Lt, less, past, lt?}
 use Rattle.isa_values.specs.ExtensionWord.{indexRegister, indexOperand}
 use Rattle.read_spec.specs.declared.Specifier.the-variants as specifier
-use Rattle.read_spec.specs.Tree.{Tree, fail, more, runAt}
-use Rattle.read_spec.specs.At.{afterAt, runAt-bind}
+use Rattle.read_spec.specs.Tree.{Tree, fail, more}
+use Rattle.read_places.specs.RunAt.{runAt}
+use Rattle.read_places.specs.RunAtLaws.{afterAt, runAt-bind}
 use Rattle.read_spec.specs.Operand.{indexOf, generalOf, immediateTree, specialTree, modeTree}
 use Rattle.read_spec.specs.Layout.{oneWord, twoWords}
 

@@ -6,9 +6,9 @@ use Rattle.isa.specs.declared.AddressWidth.the-variants as width
 use Rattle.isa.specs.declared.RegisterOperand.the-variants.{Address}
 use Rattle.isa.specs.declared.Operand.{Operand}
 use Rattle.isa.specs.declared.Operand.the-variants.{Immediate, IndirectDisplacement, PcDisplacement, Extended, Absolute}
-use Rattle.isa.specs.ExtensionWord.{baseSize, outerSize}
+use Rattle.isa_spec.specs.ExtensionWord.{baseSize, outerSize}
 use Rattle.encode_spec.specs.Ea.{fromPc}
-use Rattle.base_signed.specs.Signed.{bitsOf}
+use Rattle.base_spec.specs.Signed.{bitsOf}
 use Rattle.read_spec.specs.declared.Specifier.{Specifier}
 use Rattle.read_spec.specs.declared.Layout.{Layout}
 use Rattle.read_spec.specs.declared.Tail.{Tail}

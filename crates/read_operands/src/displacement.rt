@@ -2,7 +2,7 @@
 ghost use mathlib.Core.Path.{_≡_};
 ghost use Prim.Native.Nat.{ℕ};
 ghost use Rattle.isa.specs.declared.DisplacementSize.the-variants as size;
-ghost use Rattle.read_spec.specs.Tree.{runAt};
+ghost use Rattle.read_places.specs.RunAt.{runAt};
 ghost use Rattle.read_spec.specs.Operand.{displacementTree, landed};
 ghost use Rattle.read_operands.specs.Read.{displacementRead};
 use crate::DisplacementRead;

@@ -1,7 +1,7 @@
 // Extension words and what follows them.
 ghost use mathlib.Core.Path.{_≡_};
 ghost use Prim.Native.Nat.{ℕ};
-ghost use Rattle.read_spec.specs.Tree.{runAt};
+ghost use Rattle.read_places.specs.RunAt.{runAt};
 ghost use Rattle.read_spec.specs.Operand.{fullTree, indexOf, indexOperand, scaledOperand, briefOperand, indexedTree};
 ghost use Rattle.read_operands.specs.Read.{operandRead};
 ghost use Rattle.read_operands.specs.Part.{outerTree, baseTree};

@@ -1,7 +1,7 @@
 // The reader of what follows an operation word. Where the words' address does not matter, a contract holds at each
 // address a.
 ghost use mathlib.Core.Path.{_≡_};
-ghost use Rattle.read_spec.specs.Tree.{runAt};
+ghost use Rattle.read_places.specs.RunAt.{runAt};
 ghost use Rattle.read_spec.specs.Layout.{accepts, tailTree};
 ghost use Rattle.read_operands.specs.Read.{followed};
 ghost use Rattle.read_operands.specs.Part.{sourceTree, destinationTree, specifiedTree};

@@ -1,7 +1,7 @@
 // Effective addresses.
 ghost use mathlib.Core.Path.{_≡_};
 ghost use Prim.Native.Nat.{ℕ};
-ghost use Rattle.read_spec.specs.Tree.{runAt};
+ghost use Rattle.read_places.specs.RunAt.{runAt};
 ghost use Rattle.read_spec.specs.Operand.{immediateTree, specialTree, modeTree, operandTree};
 ghost use Rattle.read_operands.specs.Read.{numberRead, operandRead};
 ghost use Rattle.read_operands.specs.Part.{displacedTree, shortAddressTree, longAddressTree, pcDisplacementTree, immediateOperandTree};

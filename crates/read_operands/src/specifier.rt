@@ -1,7 +1,7 @@
 // What stands between an operation word and the words of its operands.
 ghost use mathlib.Core.Path.{_≡_};
 ghost use Prim.Native.Nat.{ℕ};
-ghost use Rattle.read_spec.specs.Tree.{runAt};
+ghost use Rattle.read_places.specs.RunAt.{runAt};
 ghost use Rattle.read_spec.specs.Layout.{valuePart, valid, oneWord, twoWords, specifierTree};
 ghost use Rattle.read_operands.specs.Read.{numberRead};
 ghost use Rattle.read_operands.specs.Part.{secondWord};

@@ -1,4 +1,3 @@
-pub mod Run
 pub mod Step
 pub mod RunLaws
 pub mod Examples

@@ -9,17 +9,19 @@ use lib.ListN.{length, replicate, set, take, drop, getD, length-append, length-t
 use lib.Seq.{set-at, append-snoc, take-all, take-append-le, take-at}
 use lib.Dec.{leb, ltb}
 use borrow.Author.Tests.{leb-true, lt-ltb, ltb-true, ne-eqb}
-use Rattle.base_text.specs.declared.Number.{Number}
-use Rattle.base_text.specs.declared.Number.the-variants as number
-use Rattle.base_text.specs.Parts.{before, partEnd, fields}
+use Rattle.base_spec.specs.declared.Number.{Number}
+use Rattle.base_spec.specs.declared.Number.the-variants as number
+use Rattle.base_text.specs.Parts.{before, partEnd}
+use Rattle.base_spec.specs.Parts.{fields}
 use Rattle.base_text.specs.PartLaws.{partsFrom, parts-at, parts-start, parts-past, part-is}
-use Rattle.base_text.specs.Number.{numberOf}
-use Rattle.base_text.specs.Numbers.{magnitudeOf}
-use Rattle.read_runs.specs.declared.Run.{Run}
+use Rattle.base_spec.specs.Number.{numberOf}
+use Rattle.base_spec.specs.Numbers.{magnitudeOf}
+use Rattle.print_spec.specs.declared.Run.{Run}
 use Rattle.read_runs.specs.declared.Word.{Word}
 use Rattle.read_runs.specs.declared.Word.the-variants.{Is, No}
-use Rattle.read_runs.specs.Run.{within, hexValue, isWord, wordIn, allWords, wordsIn, isAddress, keptRun, noRun, runIn, runOf}
+use Rattle.print_spec.specs.Run.{within, hexValue, isWord, wordIn, allWords, wordsIn, isAddress, keptRun, noRun, runIn, runOf}
 use Rattle.read_runs.specs.Step.{fourDigits, wordOf, startAt, startOf, placedWord, withWord}
+use Rattle.base_facts.specs.Tests.{cond-true, cond-false}
 
 -- ---- tests
 and-left : (s t : Bool) → s && t ≡ true → s ≡ true
@@ -29,12 +31,6 @@ and-left false t e = e
 and-right : (s t : Bool) → s && t ≡ true → t ≡ true
 and-right true t e = e
 and-right false t e = let z : true ≡ false = sym e in cc
-
-cond-true : {A : Type 0} (t : Bool) (a b : A) → t ≡ true → cond t a b ≡ a
-cond-true t a b e = rw e
-
-cond-false : {A : Type 0} (t : Bool) (a b : A) → t ≡ false → cond t a b ≡ b
-cond-false t a b e = rw e
 
 pub within-low : (low high b : ℕ) → within low high b ≡ true → low ≤ b
 within-low low high b e = leb-true low b (and-left (leb low b) (leb b high) e)

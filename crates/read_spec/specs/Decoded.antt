@@ -32,8 +32,8 @@ use Rattle.isa.specs.declared.RawOperation.the-variants.{LINEA, LINEF}
 use Rattle.isa.specs.declared.NoOperandOperation.the-variants.{RTE, RESET, RTR, TRAPV, ILLEGAL, RTS, NOP}
 use Rattle.isa.specs.declared.Instruction.{Instruction}
 use Rattle.isa.specs.declared.Instruction.the-variants.{IntoRegister, MOVEM, Transfer, Pair, Quick, MOVEQ, ImmediateInto, WordIntoData, SWAP, EXG, UnsizedIntoRegister, UnsizedOne, UnsizedPair, EXT, OneOperand, Bcc, Scc, DBcc, Branch, Link, UNLK, Shift, Vector, Status, ConditionCode, MOVEUSP, Raw, NoOperand, RTD, MOVEC, TRAPcc, MULL, Pack, CAS, CAS2, BF, DIVL}
-use Rattle.base_signed.specs.Signed.{signed32, bitsOf}
-use Rattle.isa_values.specs.Condition.{conditionOf}
+use Rattle.base_spec.specs.Signed.{signed32, bitsOf}
+use Rattle.isa_spec.specs.Condition.{conditionOf}
 use Rattle.encode_spec.specs.Item.{placed}
 use Rattle.read_spec.specs.declared.Group.{Group}
 use Rattle.read_spec.specs.declared.Group.the-variants as group

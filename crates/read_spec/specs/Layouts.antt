@@ -8,7 +8,7 @@ use Rattle.isa.specs.declared.Size.the-variants.{Byte, Word, Long}
 use Rattle.isa.specs.declared.BitFieldOperation.{BitFieldOperation}
 use Rattle.isa.specs.declared.UnsizedOneOperation.{UnsizedOneOperation}
 use Rattle.isa.specs.declared.UnsizedOneOperation.the-variants.{PEA, NBCD, JSR, JMP, TAS, MOVEtoCCR, MOVEfromCCR, MOVEtoSR, MOVEfromSR}
-use Rattle.isa.specs.Code.{isByte}
+use Rattle.isa_spec.specs.Code.{isByte}
 use Rattle.encode_spec.specs.Ea.{everyMode, dataModes, alterable, dataAlterable, memoryAlterable, control, dataNotImmediate, bitFieldRead, bitFieldWritten}
 use Rattle.encode_spec.specs.Movement.{movemModes}
 use Rattle.encode_spec.specs.Bits.{dynamicModes, staticModes, writes}

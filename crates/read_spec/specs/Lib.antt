@@ -1,5 +1,4 @@
 pub mod Tree
-pub mod At
 pub mod Number
 pub mod Operand
 pub mod Layout
@@ -10,4 +9,4 @@ pub mod Operation
 pub mod Layouts
 pub mod Decoded
 pub mod Read
-pub mod Depth
+pub mod Accepted

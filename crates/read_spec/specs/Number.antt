@@ -3,7 +3,7 @@ use mathlib.Core.Bool.{cond}
 use Prim.Native.Nat.{ℕ, _+_, _-_, _%_, _^_}
 use lib.Dec.{ltb}
 use lib.IntN.{ℤ, pos, negsuc}
-use Rattle.base_signed.specs.Signed.{bitsOf}
+use Rattle.base_spec.specs.Signed.{bitsOf}
 
 -- x below twice h, read as signed
 abbrev pub signed : ℕ → ℕ → ℤ

@@ -15,8 +15,8 @@ use Rattle.isa.specs.declared.RegisterOperand.the-variants.{Address, Data}
 use Rattle.isa.specs.declared.IndexRegister.{IndexRegister}
 use Rattle.isa.specs.declared.Operand.{Operand}
 use Rattle.isa.specs.declared.Operand.the-variants.{Immediate, Register, Indirect, PostIndirect, PreIndirect, IndirectDisplacement, IndirectIndex, PcDisplacement, PcIndex, Extended, Absolute}
-use Rattle.base_signed.specs.Signed.{signed32, bitsOf}
-use Rattle.isa.specs.ExtensionWord.{isFull, baseSize, outerSize, isCanonical}
+use Rattle.base_spec.specs.Signed.{signed32, bitsOf}
+use Rattle.isa_spec.specs.ExtensionWord.{isFull, baseSize, outerSize, isCanonical}
 use Rattle.encode_spec.specs.Ea.{fromPc}
 use Rattle.read_spec.specs.Number.{signed8, signed16, reach}
 use Rattle.read_spec.specs.Tree.{Tree, ret, fail, more, bind, guard}

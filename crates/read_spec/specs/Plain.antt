@@ -8,9 +8,8 @@ use Rattle.isa.specs.declared.Operand.{Operand}
 use Rattle.isa.specs.declared.Operand.the-variants.{Immediate, Register, Indirect, PostIndirect, PreIndirect, IndirectDisplacement, IndirectIndex, PcDisplacement, PcIndex, Extended, Absolute}
 use Rattle.isa.specs.declared.Instruction.{Instruction}
 use Rattle.isa.specs.declared.Instruction.the-variants.{IntoRegister, MOVEM, Transfer, Pair, Quick, MOVEQ, ImmediateInto, WordIntoData, SWAP, EXG, UnsizedIntoRegister, UnsizedOne, UnsizedPair, EXT, OneOperand, Bcc, Scc, DBcc, Branch, Link, UNLK, Shift, Vector, Status, ConditionCode, MOVEUSP, Raw, NoOperand, RTD, MOVEC, TRAPcc, MULL, Pack, CAS, CAS2, BF, DIVL}
-use Rattle.base_signed.specs.Signed.{bitsOf}
-use Rattle.isa.specs.ExtensionWord.{isFull}
-use Rattle.read_spec.specs.declared.Tail.{Tail}
+use Rattle.base_spec.specs.Signed.{bitsOf}
+use Rattle.isa_spec.specs.ExtensionWord.{isFull}
 use Rattle.read_spec.specs.Operand.{indexOf}
 
 -- a brief Extended operand: of scale 1 an index, its displacement the offset or, read as unsigned, the target; another
@@ -33,9 +32,6 @@ plainOperand (PcDisplacement t) = PcDisplacement t
 plainOperand (PcIndex t x) = PcIndex t x
 plainOperand (Extended base w z outer) = cond (isFull w) (Extended base w z outer) (plainBrief base w z)
 plainOperand (Absolute a width) = Absolute a width
-
-abbrev pub plainTail : Tail → Tail
-plainTail f = record { value = f .value; source = plainOperand (f .source); destination = plainOperand (f .destination) }
 
 -- all operands so, and MOVEC's control number modulo 4,096
 abbrev pub plain : Instruction → Instruction

@@ -2,8 +2,6 @@
 use Prim.Native.Nat.{ℕ, _+_}
 use mathlib.Core.Bool.{Bool, cond}
 use mathlib.Core.List.{List, [], _∷_}
-use lib.Dec.{ltb}
-use lib.ListN.{getD, length}
 use Rattle.encode_spec.specs.Item.{placed}
 
 -- the next word is seen with its address
@@ -34,15 +32,3 @@ module _ {A B : Type 0} where
   bind (ret x) f = f x
   bind fail f = fail
   bind (more k) f = more (λ at w. bind (k at w) f)
-
--- the same by place, as an array is read
-pub data At (A : Type 0) : Type 0 where
-  found : A → ℕ → At A
-  ended : At A
-  refused : At A
-
-module _ {A : Type 0} where
-  abbrev pub runAt : Tree A → ℕ → List ℕ → ℕ → At A
-  runAt (ret x) a ws n = found x n
-  runAt fail a ws n = refused
-  runAt (more k) a ws n = cond (ltb n (length ws)) (runAt (k (placed a n) (getD ws n 0)) a ws (n + 1)) ended

@@ -3,7 +3,7 @@ use Prim.Native.Nat.{ℕ, _+_, _-_, _%_, _<_, _≤_}
 use mathlib.Core.Path.{_≡_, ap}
 use lib.IntN.{ℤ, negsuc}
 use native.Mathlib.Omega.{arith}
-use Rattle.base_signed.specs.Signed.{bitsOf}
+use Rattle.base_spec.specs.Signed.{bitsOf}
 use Rattle.read_spec.specs.Number.{reach}
 
 pub negative : (h x : ℕ) → x < h + h → h ≤ x → negsuc (h - 1 - (x - h)) ≡ negsuc (h + h - 1 - x)

@@ -2,7 +2,7 @@
 ghost use mathlib.Core.Path.{_≡_};
 ghost use Prim.Native.Nat.{_+_, _*_, _%_, _<_, _≤_};
 ghost use Rattle.encode_spec.specs.Item.{placed};
-ghost use Rattle.base_signed.specs.Signed.{signed32};
+ghost use Rattle.base_spec.specs.Signed.{signed32};
 ghost use Rattle.read_spec.specs.Decoded.{extended};
 ghost use Rattle.read_spec.specs.Number.{signed, signed8, signed16, reach};
 

@@ -3,8 +3,8 @@
 ghost use mathlib.Core.Path.{_≡_};
 ghost use Prim.Native.Nat.{_≤_};
 ghost use lib.ListN.{length, replicate};
-ghost use Rattle.base_text.specs.Written.{placed};
-ghost use Rattle.sheet_print.specs.Printed.{printedOf};
+ghost use Rattle.base_spec.specs.Written.{placed};
+ghost use Rattle.print_spec.specs.Printed.{printedOf};
 
 fn text_places() -> [u8; 65536]
     ensures { λ r. ⌜ (r ≡ replicate 65536 0) × (65536 ≡ length r) ⌝ }

@@ -13,10 +13,10 @@ use denote.Struct.Declared.{row}
 use mir.Val.{Val}
 use Rattle.numeric_build.specs.declared.Built.the-variants as built
 use Rattle.numeric_build.specs.Build.{buildOf}
-use Rattle.sheet_spec.specs.declared.Entries.{Entries}
-use Rattle.sheet_spec.proofs.Entries as entries
+use Rattle.sheet_tokens.specs.declared.Entries.{Entries}
+use Rattle.sheet_tokens.proofs.Entries as entries
 use Rattle.sheet_spec.specs.Made.{addressIn}
-use Rattle.sheet_spec.specs.Entries.{noEntries}
+use Rattle.sheet_tokens.specs.Entries.{noEntries}
 use Rattle.sheet_token_laws.specs.Facts.{cond-true, cond-false}
 use Rattle.sheet_entries.specs.With.{placedEntry}
 use Rattle.sheet_entries.specs.Made.{namesOne, namesEach, resolvedNumber, resolvedNumbers, numbersWith, madeWith}

@@ -7,7 +7,7 @@ use Rattle.numeric_spec.specs.declared.Numbers.{Numbers}
 use Rattle.numeric_build.specs.declared.Built.{Built}
 use Rattle.numeric_build.specs.declared.Built.the-variants as built
 use Rattle.numeric_build.specs.Build.{buildOf}
-use Rattle.sheet_spec.specs.declared.Entries.{Entries}
+use Rattle.sheet_tokens.specs.declared.Entries.{Entries}
 use Rattle.sheet_spec.specs.Made.{addressIn}
 
 -- where it is named, k is 1 to n

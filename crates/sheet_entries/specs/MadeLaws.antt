@@ -15,7 +15,7 @@ use Rattle.sheet_spec.specs.declared.Kind.{Kind}
 use Rattle.sheet_spec.specs.Line.{Token, literal, label, invalid, Parsed, says, no, lineOf}
 use Rattle.sheet_spec.specs.Spell.{numberAs, Suits}
 use Rattle.sheet_spec.specs.Made.{numbersAs, madeAs, madeOf, names, namesAll, namesIn, addressIn}
-use Rattle.sheet_spec.specs.Entries.{capped, isLine, negativeIn, magnitudeIn, noEntries, entriesFrom, entriesOf}
+use Rattle.sheet_tokens.specs.Entries.{capped, isLine, negativeIn, magnitudeIn, noEntries, entriesFrom, entriesOf}
 use Rattle.sheet_token_laws.specs.Fields.{Sorted, of-number, of-target, of-place, of-variant, sorted, said-suits}
 use Rattle.sheet_token_laws.specs.Lines.{by-line}
 use Rattle.sheet_entries.specs.Made.{namesOne, namesEach, namesLines, resolvedNumber, resolvedNumbers, numbersWith, madeWith}

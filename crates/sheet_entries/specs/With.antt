@@ -3,10 +3,10 @@ use Prim.Native.Nat.{ℕ, _+_}
 use mathlib.Core.Bool.{Bool, true, false, cond, _&&_}
 use lib.Dec.{ltb}
 use lib.ListN.{set}
-use Rattle.sheet_spec.specs.declared.Value.{Value}
-use Rattle.sheet_spec.specs.declared.Value.the-variants as value
-use Rattle.sheet_spec.specs.declared.Entries.{Entries}
-use Rattle.sheet_spec.specs.Entries.{noEntries}
+use Rattle.sheet_tokens.specs.declared.Value.{Value}
+use Rattle.sheet_tokens.specs.declared.Value.the-variants as value
+use Rattle.sheet_tokens.specs.declared.Entries.{Entries}
+use Rattle.sheet_tokens.specs.Entries.{noEntries}
 
 unfoldable pub placedEntry : Entries → Bool → Bool → ℕ → Entries
 placedEntry e t s n =

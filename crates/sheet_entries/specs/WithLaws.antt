@@ -7,11 +7,11 @@ use native.Mathlib.Omega.{arith}
 use lib.ListN.{length, set, length-append, length-map}
 use borrow.Author.Tests.{lt-ltb, le-ltb}
 use Rattle.numeric_spec.specs.Entry.{pad}
-use Rattle.sheet_spec.specs.declared.Value.{Value}
-use Rattle.sheet_spec.specs.declared.Value.the-variants as value
-use Rattle.sheet_spec.specs.declared.Entries.{Entries}
+use Rattle.sheet_tokens.specs.declared.Value.{Value}
+use Rattle.sheet_tokens.specs.declared.Value.the-variants as value
+use Rattle.sheet_tokens.specs.declared.Entries.{Entries}
 use Rattle.sheet_spec.specs.Line.{Token, literal, label, invalid}
-use Rattle.sheet_spec.specs.Entries.{valueOf, isLine, negativeIn, magnitudeIn, noEntries, entriesFrom}
+use Rattle.sheet_tokens.specs.Entries.{valueOf, isLine, negativeIn, magnitudeIn, noEntries, entriesFrom}
 use Rattle.sheet_entries.specs.With.{placedEntry, withValue}
 
 module _ {A : Type 0} {B : Type 0} where

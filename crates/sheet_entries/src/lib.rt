@@ -2,13 +2,13 @@
 ghost use mathlib.Core.Path.{_≡_};
 ghost use mathlib.Core.List.{[]};
 ghost use Rattle.sheet_spec.specs.Made.{addressIn};
-ghost use Rattle.sheet_spec.specs.Entries.{noEntries, entriesFrom};
+ghost use Rattle.sheet_tokens.specs.Entries.{noEntries, entriesFrom};
 ghost use Rattle.sheet_entries.specs.With.{placedEntry, withValue};
 ghost use Rattle.sheet_entries.specs.Made.{namesOne, namesLines, resolvedNumber, numbersWith, madeWith};
 use numeric_build::Built;
 use numeric_spec::Numbers;
-use sheet_spec::Entries;
-use sheet_spec::Value;
+use sheet_tokens::Entries;
+use sheet_tokens::Value;
 
 // The entries of a line that is not in the form.
 pub fn no_entries() -> Entries

@@ -9,14 +9,15 @@ use lib.ListN.{length, take, drop, getD, drop-of-length-le}
 use lib.Seq.{drop-cons, take-all}
 use lib.Dec.{eqb, leb, ltb}
 use borrow.Author.Tests.{lt-ltb, le-leb, lt-leb, leb-true, leb-false, eq-eqb, ne-eqb}
-use Rattle.base_text.specs.Parts.{before, partEnd, fields}
+use Rattle.base_text.specs.Parts.{before, partEnd}
+use Rattle.base_spec.specs.Parts.{fields}
 use Rattle.base_text.specs.PartLaws.{partsFrom, parts-at, parts-start, parts-past, part-is}
-use Rattle.base_text.specs.Number.{isDigit, allDigits, valueFrom, numberOf}
+use Rattle.base_spec.specs.Number.{isDigit, allDigits, valueFrom, numberOf}
 use Rattle.base_text.specs.NumberLaws.{value-grows}
 use Rattle.sheet_spec.specs.declared.Kind.the-variants as kind
-use Rattle.sheet_spec.specs.declared.Value.the-variants as value
+use Rattle.sheet_tokens.specs.declared.Value.the-variants as value
 use Rattle.sheet_spec.specs.Line.{literal, label, invalid, equal, isNone, placeFrom, asName, asNumber, token}
-use Rattle.sheet_spec.specs.Entries.{capped, valueOf}
+use Rattle.sheet_tokens.specs.Entries.{capped, valueOf}
 use Rattle.sheet_token_laws.specs.Facts as facts
 use Rattle.sheet_field.specs.LineNumber.{lineAfter}
 

@@ -2,10 +2,10 @@
 use mathlib.Core.Bool.{cond}
 use mathlib.Core.List.{List}
 use Prim.Native.Nat.{ℕ}
-use Rattle.base_text.specs.Number.{allDigits, valueFrom}
-use Rattle.sheet_spec.specs.declared.Value.{Value}
-use Rattle.sheet_spec.specs.declared.Value.the-variants as value
-use Rattle.sheet_spec.specs.Entries.{capped}
+use Rattle.base_spec.specs.Number.{allDigits, valueFrom}
+use Rattle.sheet_tokens.specs.declared.Value.{Value}
+use Rattle.sheet_tokens.specs.declared.Value.the-variants as value
+use Rattle.sheet_tokens.specs.Entries.{capped}
 
 -- after digits that write a
 abbrev pub lineAfter : ℕ → List ℕ → Value

@@ -4,11 +4,11 @@ ghost use Prim.Native.Nat.{_-_, _≤_, _<_};
 ghost use lib.ListN.{length, take, drop};
 ghost use Rattle.sheet_spec.specs.Line.{asVariant};
 ghost use Rattle.sheet_spec.specs.Line as line;
-ghost use Rattle.sheet_spec.specs.Entries.{valueOf};
+ghost use Rattle.sheet_tokens.specs.Entries.{valueOf};
 ghost use Rattle.sheet_field.specs.Hash.{mixedOf, hashOf, placeOf, nameAt, offsetOf};
 use crate::equal;
 use sheet_spec::Kind;
-use sheet_spec::Value;
+use sheet_tokens::Value;
 
 // For each hash the place of the name that has it, 0 where none has it.
 const PLACES: [u8; 272] = [

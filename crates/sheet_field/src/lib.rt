@@ -1,16 +1,16 @@
 // What one field of a sheet's line says, by its kind.
 ghost use mathlib.Core.Path.{_≡_};
-ghost use Rattle.base_text.specs.Parts.{fields};
-ghost use Rattle.base_text.specs.Number.{numberOf};
+ghost use Rattle.base_spec.specs.Parts.{fields};
+ghost use Rattle.base_spec.specs.Number.{numberOf};
 ghost use Rattle.sheet_spec.specs.Line.{asNumber, asName, asVariant, placeFrom, token};
 ghost use Rattle.sheet_spec.specs.Line as line;
-ghost use Rattle.sheet_spec.specs.Entries.{valueOf};
-ghost use Rattle.sheet_spec.specs.Entries as entries;
+ghost use Rattle.sheet_tokens.specs.Entries.{valueOf};
+ghost use Rattle.sheet_tokens.specs.Entries as entries;
 ghost use Rattle.sheet_field.specs.LineNumber.{lineAfter};
 use crate::instructions::instruction;
-use base_text::Number;
+use base_spec::Number;
 use sheet_spec::Kind;
-use sheet_spec::Value;
+use sheet_tokens::Value;
 
 mod instructions;
 

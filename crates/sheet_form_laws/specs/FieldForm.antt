@@ -5,10 +5,10 @@ use mathlib.Core.Bool.{Bool, true, false, cond}
 use mathlib.Core.List.{List, [], _∷_, _++_}
 use native.Mathlib.Omega.{arith}
 use borrow.Author.Tests.{ne-eqb, lt-ltb}
-use Rattle.base_text.specs.declared.Number.{Number}
-use Rattle.base_text.specs.declared.Number.the-variants as number
-use Rattle.base_text.specs.Number.{isDigit, allDigits, value, isDecimal, numberOf}
-use Rattle.base_text.specs.Written.{decimalOf}
+use Rattle.base_spec.specs.declared.Number.{Number}
+use Rattle.base_spec.specs.declared.Number.the-variants as number
+use Rattle.base_spec.specs.Number.{isDigit, allDigits, value, isDecimal, numberOf}
+use Rattle.base_spec.specs.Written.{decimalOf}
 use Rattle.sheet_spec.specs.declared.Kind.{Kind}
 use Rattle.sheet_spec.specs.declared.Kind.the-variants as kind
 use Rattle.sheet_spec.specs.Line.{Token, literal, label, invalid, asNumber, asName, isName, asVariant, token}

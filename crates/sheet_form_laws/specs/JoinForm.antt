@@ -7,8 +7,8 @@ use native.Mathlib.Omega.{arith}
 use lib.Dec.{eqb, ltb}
 use lib.ListN.{length}
 use borrow.Author.Tests.{eqb-true, ltb-true, ne-eqb}
-use Rattle.base_text.specs.Parts.{onto, parts, fields}
-use Rattle.base_text.specs.Lines.{linesOf}
+use Rattle.base_spec.specs.Parts.{onto, parts, fields}
+use Rattle.base_spec.specs.Lines.{linesOf}
 use Rattle.sheet_spec.specs.Spell.{joined}
 use Rattle.sheet_token_laws.specs.Facts.{and-true}
 use Rattle.sheet_token_laws.specs.Names.{solid}

@@ -2,8 +2,8 @@
 use Prim.Native.Nat.{ℕ}
 use mathlib.Core.Path.{_≡_, refl, sym, ap, _∙_}
 use mathlib.Core.List.{List, [], _∷_, _++_}
-use Rattle.base_text.specs.Parts.{fields}
-use Rattle.base_text.specs.Lines.{linesOf}
+use Rattle.base_spec.specs.Parts.{fields}
+use Rattle.base_spec.specs.Lines.{linesOf}
 use Rattle.sheet_spec.specs.declared.Kind.{Kind}
 use Rattle.sheet_spec.specs.declared.Kind.the-variants as kind
 use Rattle.sheet_spec.specs.Grammar.{fieldsOf}

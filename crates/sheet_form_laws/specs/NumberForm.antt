@@ -6,9 +6,9 @@ use mathlib.Core.List.{List, [], _∷_, _++_, append-assoc, append-nil}
 use native.Mathlib.Omega.{arith}
 use lib.Dec.{leb, eqb}
 use borrow.Author.Tests.{leb-true, eqb-false, ne-eqb, not-true}
-use Rattle.base_text.specs.declared.Number.the-variants as number
-use Rattle.base_text.specs.Number.{isDigit, allDigits, valueFrom, value, isDecimal, numberOf}
-use Rattle.base_text.specs.Written.{decimalOf}
+use Rattle.base_spec.specs.declared.Number.the-variants as number
+use Rattle.base_spec.specs.Number.{isDigit, allDigits, valueFrom, value, isDecimal, numberOf}
+use Rattle.base_spec.specs.Written.{decimalOf}
 use Rattle.base_text.specs.WrittenLaws.{decimal-small, decimal-more}
 use Rattle.base_text.specs.ReadBack.{Digits, decimal-digits, decimal-back, negative-back}
 use Rattle.sheet_spec.specs.Line.{literal}

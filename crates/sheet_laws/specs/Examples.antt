@@ -4,7 +4,7 @@ use mathlib.Core.List.{List, [], _∷_}
 use Prim.Native.Nat.{ℕ}
 use lib.IntN.{pos}
 use Rattle.encode_spec.specs.Encode.{encodeOf, sizeOf}
-use Rattle.isa.specs.Field.{ranges, holds}
+use Rattle.isa_spec.specs.Field.{ranges, holds}
 use Rattle.encode_spec.specs.Ea.{permits, byteOfAddress, single}
 use Rattle.encode_spec.specs.Movement.{moveqParts}
 use Rattle.encode_spec.specs.Arithmetic.{quickParts}

@@ -6,11 +6,11 @@ use mathlib.Core.List.{List, [], _∷_, _++_}
 use native.Mathlib.Omega.{arith}
 use lib.Dec.{ltb}
 use borrow.Author.Tests.{ltb-true, lt-ltb}
-use Rattle.base_text.specs.declared.Number.{Number}
-use Rattle.base_text.specs.declared.Number.the-variants as number
-use Rattle.base_text.specs.Parts.{fields}
-use Rattle.base_text.specs.Number.{numberOf}
-use Rattle.base_text.specs.Written.{decimalOf}
+use Rattle.base_spec.specs.declared.Number.{Number}
+use Rattle.base_spec.specs.declared.Number.the-variants as number
+use Rattle.base_spec.specs.Parts.{fields}
+use Rattle.base_spec.specs.Number.{numberOf}
+use Rattle.base_spec.specs.Written.{decimalOf}
 use Rattle.sheet_spec.specs.Names.{bytes}
 use Rattle.sheet_spec.specs.Line.{equal}
 use Rattle.sheet_spec.specs.Spell.{joined}

@@ -15,9 +15,9 @@ use Rattle.isa.specs.declared.Instruction.the-variants.{IntoRegister, MOVEM, Tr
 use Rattle.numeric_spec.specs.Entry.{Entry, Inside}
 use Rattle.numeric_spec.specs.Field.{sizeForm, conditionForm, shiftDirectionForm, signForm, flagForm, byteForm, wordForm, longForm, bitFieldForm, registerForm, registerChoiceForm, trapOperandForm, operandForm}
 use Rattle.numeric_spec.specs.Number.{isI32}
-use Rattle.read_operand_laws.specs.Stands.{InTypes, Fits32}
-use Rattle.read_operand_laws.specs.Facts.{as-fits32, leb-is}
-use Rattle.read_laws.specs.Statements.{TrapInTypes, InstructionInTypes}
+use Rattle.read_spec.specs.Accepted.{Fits32, InTypes, TrapInTypes, InstructionInTypes}
+use Rattle.read_operand_laws.specs.Facts.{as-fits32}
+use Rattle.base_facts.specs.Tests.{leb-is}
 use Rattle.sheet_form_laws.specs.Turned.{inside-parts}
 use Rattle.sheet_token_laws.specs.Numbers.{entries}
 

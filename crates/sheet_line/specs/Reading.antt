@@ -6,17 +6,18 @@ use mathlib.Core.List.{List, [], _∷_, _++_, append-nil}
 use native.Mathlib.Omega.{arith}
 use lib.ListN.{length, take, drop, length-append}
 use lib.Seq.{append-snoc}
-use Rattle.base_text.specs.Parts.{partEnd, fields}
+use Rattle.base_text.specs.Parts.{partEnd}
+use Rattle.base_spec.specs.Parts.{fields}
 use Rattle.base_text.specs.PartLaws.{partsFrom, parts-at, parts-start, parts-past, part-is}
 use Rattle.sheet_spec.specs.declared.Kind.{Kind}
 use Rattle.sheet_spec.specs.declared.Kind.the-variants as kind
-use Rattle.sheet_spec.specs.declared.Value.{Value}
-use Rattle.sheet_spec.specs.declared.Entries.{Entries}
+use Rattle.sheet_tokens.specs.declared.Value.{Value}
+use Rattle.sheet_tokens.specs.declared.Entries.{Entries}
 use Rattle.sheet_spec.specs.Grammar.{fieldsOf}
 use Rattle.sheet_spec.specs.Line.{Token, literal, label, invalid, token, Parsed, says, no, with, after, lineFrom, lineOf}
 use Rattle.sheet_spec.specs.Spell.{Suits}
 use Rattle.sheet_token_laws.specs.Fields.{Sorted, of-number, of-target, of-place, of-variant, sorted, said-suits, suits-some}
-use Rattle.sheet_spec.specs.Entries.{valueOf, noEntries, entriesFrom, entriesOf}
+use Rattle.sheet_tokens.specs.Entries.{valueOf, noEntries, entriesFrom, entriesOf}
 use Rattle.sheet_kinds.specs.Packed.{packed, kindAt}
 use Rattle.sheet_kinds.specs.Weight.{room, most, total, room-next, most-next, length-room}
 use Rattle.sheet_kinds.specs.Next.{kindsAfter}

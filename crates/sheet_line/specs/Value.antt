@@ -1,8 +1,8 @@
 -- What the parser asks of a field's value.
 use Prim.Native.Nat.{ℕ}
 use mathlib.Core.Bool.{Bool, true, false}
-use Rattle.sheet_spec.specs.declared.Value.{Value}
-use Rattle.sheet_spec.specs.declared.Value.the-variants as value
+use Rattle.sheet_tokens.specs.declared.Value.{Value}
+use Rattle.sheet_tokens.specs.declared.Value.the-variants as value
 
 abbrev pub isSaid : Value → Bool
 isSaid (value.Number negative n) = true

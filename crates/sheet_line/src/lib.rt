@@ -1,10 +1,10 @@
 // What a sheet's line says: its fields, each by the kind that is next after those before it.
 ghost use mathlib.Core.Path.{_≡_};
 ghost use Rattle.sheet_spec.specs.Line.{lineOf};
-ghost use Rattle.sheet_spec.specs.Entries.{entriesOf};
+ghost use Rattle.sheet_tokens.specs.Entries.{entriesOf};
 ghost use Rattle.sheet_line.specs.Value.{isSaid, variantPlace};
-use sheet_spec::Entries;
-use sheet_spec::Value;
+use sheet_tokens::Entries;
+use sheet_tokens::Value;
 
 fn says(v: Value) -> bool
     ensures { λ r. ⌜ r ≡ isSaid v ⌝ }

@@ -16,8 +16,8 @@ use Rattle.isa.specs.declared.Measured.{Measured}
 use Rattle.isa.specs.declared.Encoded.{Encoded}
 use Rattle.base_text.specs.Parts.{partEnd}
 use Rattle.numeric_build.specs.declared.Built.{Built}
-use Rattle.sheet_spec.specs.declared.Entries.{Entries}
-use Rattle.sheet_spec.specs.Entries.{entriesOf}
+use Rattle.sheet_tokens.specs.declared.Entries.{Entries}
+use Rattle.sheet_tokens.specs.Entries.{entriesOf}
 use Rattle.sheet_spec.specs.Line.{lineOf}
 use Rattle.sheet_kinds.specs.Few.{few}
 use Rattle.sheet_entries.specs.Made.{madeWith, namesLines}

@@ -13,7 +13,7 @@ use Rattle.numeric_build.specs.declared.Built.{Built}
 use Rattle.numeric_build.specs.declared.Built.the-variants as built
 use Rattle.sheet_spec.specs.Line.{lineOf}
 use Rattle.sheet_spec.specs.Made.{addressIn, namesIn, madeOf}
-use Rattle.read_operand_laws.specs.Facts.{words-count}
+use Rattle.encode_facts.specs.Items.{words-count}
 use Rattle.sheet_token_laws.specs.Listing.{both-fine, fine-zero, measured-size}
 use Rattle.m68k.specs.Lays.{instruction-lays}
 use Rattle.m68k.specs.Laws.{places-law, encode-most}

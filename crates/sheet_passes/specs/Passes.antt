@@ -6,7 +6,7 @@ use mathlib.Core.List.{List, [], _∷_}
 use lib.Dec.{eqb}
 use lib.IntN.{pos}
 use lib.ListN.{length, drop, getD}
-use Rattle.base_text.specs.Lines.{linesOf}
+use Rattle.base_spec.specs.Lines.{linesOf}
 use Rattle.sheet_spec.specs.Sheet.{sizedOf, counted, addressesFrom}
 use Rattle.sheet_spec.specs.Translate.{Outcome, passed, refused, rangesOutcome, imageFrom}
 use Rattle.sheet_passes.specs.declared.Passed.{Passed}

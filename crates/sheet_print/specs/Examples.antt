@@ -2,10 +2,10 @@
 use mathlib.Core.Path.{_≡_, refl}
 use mathlib.Core.List.{[], _∷_}
 use lib.IntN.{pos, negsuc}
-use Rattle.base_text.specs.Written.{decimalOf}
+use Rattle.base_spec.specs.Written.{decimalOf}
 use Rattle.sheet_spec.specs.Names.{bytes}
 use Rattle.sheet_spec.specs.Translate.{outcomeOf}
-use Rattle.sheet_print.specs.Printed.{lineText, refusalText, printedOf}
+use Rattle.print_spec.specs.Printed.{lineText, refusalText, printedOf}
 
 -- a line of one word, and one of two
 lines : (lineText 3 4100 (0x66FC ∷ []) ≡ bytes "3\t00001004\t66FC\n") × (lineText 4096 0xFFFFFFFC (0x4278 ∷ 0x8000 ∷ []) ≡ bytes "4096\tFFFFFFFC\t4278\t8000\n")

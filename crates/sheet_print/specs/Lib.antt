@@ -1,4 +1,3 @@
-pub mod Printed
 pub mod Listing
 pub mod ListingLaws
 pub mod PrintedLaws

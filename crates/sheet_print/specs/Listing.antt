@@ -2,7 +2,7 @@
 use Prim.Native.Nat.{ℕ, suc, _-_, _/_, _≤_}
 use mathlib.Core.List.{List, [], _∷_, _++_}
 use lib.ListN.{length, take, drop, getD}
-use Rattle.sheet_print.specs.Printed.{lineText}
+use Rattle.print_spec.specs.Printed.{lineText}
 
 -- the words of the first line, where so many are left: half the bytes up to the next line, or all
 abbrev pub firstCount : List ℕ → ℕ → ℕ

@@ -6,12 +6,12 @@ use native.Mathlib.Omega.{arith}
 use native.Mathlib.Numerals.{add-one}
 use lib.ListN.{length, take, drop, getD, length-append, length-drop}
 use lib.Seq.{take-all, take-suc, take-at, drop-at, drop-cons, drop-drop}
-use Rattle.base_text.specs.Written.{hex4Of}
-use Rattle.base_text.specs.Wrote.{tab}
+use Rattle.base_spec.specs.Written.{hex4Of}
+use Rattle.base_spec.specs.Refused.{tab}
 use Rattle.sheet_spec.specs.Sheet.{counted, addressesFrom}
 use Rattle.sheet_spec.specs.Translate.{lineWords, imageFrom}
 use Rattle.sheet_size_laws.specs.Image.{Counts, first-counts, later-counts}
-use Rattle.sheet_print.specs.Printed.{wordsText, lineText, listingFrom}
+use Rattle.print_spec.specs.Printed.{wordsText, lineText, listingFrom}
 use Rattle.sheet_print.specs.Listing.{firstCount, linesText, Rises, Laid}
 
 words-more : (ws : List ℕ) (w : ℕ) → wordsText (ws ++ (w ∷ [])) ≡ wordsText ws ++ (tab ++ hex4Of w)

@@ -9,7 +9,7 @@ use lib.Seq.{take-at}
 use lib.Dec.{leb, eqb}
 use lib.IntN.{pos}
 use borrow.Author.Tests.{lt-leb}
-use Rattle.base_text.specs.Written.{placed}
+use Rattle.base_spec.specs.Written.{placed}
 use Rattle.base_text.specs.Wrote.{Wrote}
 use Rattle.sheet_spec.specs.declared.Listed.{Listed}
 use Rattle.sheet_spec.specs.Sheet.{isSheet, feeds, last, linesIn}
@@ -22,7 +22,7 @@ use Rattle.sheet_passes.specs.PassLaws.{line-most, words-length}
 use Rattle.sheet_translate.specs.Translated.{Translated}
 use Rattle.sheet_translate.specs.OutcomeLaws.{Sound, verdict-sound}
 use Rattle.sheet_translate.specs.PlaceLaws.{addresses-length}
-use Rattle.sheet_print.specs.Printed.{listingOf, refusalText, printedOf}
+use Rattle.print_spec.specs.Printed.{listingOf, refusalText, printedOf}
 use Rattle.sheet_print.specs.Listing.{linesText, Laid}
 use Rattle.sheet_print.specs.ListingLaws.{listing-is, laid}
 

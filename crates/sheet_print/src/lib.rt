@@ -2,10 +2,11 @@
 ghost use mathlib.Core.Path.{_≡_};
 ghost use Prim.Native.Nat.{_+_, _*_, _-_, _/_, _≤_};
 ghost use lib.ListN.{length};
-ghost use Rattle.base_text.specs.Written.{placed};
-ghost use Rattle.base_text.specs.Wrote.{Wrote, fieldText};
+ghost use Rattle.base_spec.specs.Written.{placed};
+ghost use Rattle.base_text.specs.Wrote.{Wrote};
+ghost use Rattle.base_spec.specs.Refused.{fieldText};
 ghost use Rattle.sheet_spec.specs.Translate.{imageOf, scratchOf};
-ghost use Rattle.sheet_print.specs.Printed.{wordsText, lineText, refusalText, printedOf};
+ghost use Rattle.print_spec.specs.Printed.{wordsText, lineText, refusalText, printedOf};
 ghost use Rattle.sheet_print.specs.Listing.{firstCount, linesText, Rises, Laid};
 
 // A number and a tab.

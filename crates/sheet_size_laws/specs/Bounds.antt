@@ -8,7 +8,7 @@ use lib.ListN.{length, getD}
 use Rattle.isa.specs.declared.Instruction.{Instruction}
 use Rattle.encode_spec.specs.Encode.{itemsOf, wordsOf, refusalOf, sizeOf}
 use Rattle.sheet_spec.specs.Made.{addressIn}
-use Rattle.read_operand_laws.specs.Facts.{words-count}
+use Rattle.encode_facts.specs.Items.{words-count}
 use Rattle.sheet_token_laws.specs.Listing.{measured-size}
 use Rattle.sheet_spec.specs.Sheet.{linesIn, sizedOf, counted, total}
 use Rattle.sheet_spec.specs.Translate.{startIn, countIn, addressesIn, needIn}

@@ -9,12 +9,12 @@ use Rattle.isa.specs.declared.BranchSize.the-variants as branch
 use Rattle.isa.specs.declared.Instruction.{Instruction}
 use Rattle.encode_spec.specs.Item.{placed}
 use Rattle.encode_spec.specs.Encode.{sizeOf}
-use Rattle.base_signed.specs.Signed.{signed32, difference}
-use Rattle.read_operand_laws.specs.Facts.{Lt, lt?, less, notLess}
+use Rattle.base_spec.specs.Signed.{signed32, difference}
 use Rattle.read_spec.specs.Plain as plain
 use Rattle.read_spec.specs.LeftOut.{isMinusOne, branchLeftOut, leftOut}
 use Rattle.sheet_spec.specs.Follow.{Next, on, to, either, stop, nextOf, target}
 use Rattle.sheet_form_laws.specs.Sorts.{Aimed}
+use Rattle.base_facts.specs.Tests.{Lt, lt?, less, past}
 
 -- where it goes without a target
 abbrev pub quiet : Next → Bool
@@ -41,7 +41,7 @@ even-not x h e = go (lt? x (2 ^ 31))
   where
     go : Lt x (2 ^ 31) → isMinusOne (signed32 x) ≡ false
     go (less l b) = rw b
-    go (notLess l b) = rw (b, ne-eqb (2 ^ 32 - 1 - x) 0 (omega (arith, h, e)))
+    go (past l b) = rw (b, ne-eqb (2 ^ 32 - 1 - x) 0 (omega (arith, h, e)))
 
 pub branch-stays : (t : ℕ) (s : BranchSize) (a : ℕ) → a % 2 ≡ 0 → t % 2 ≡ 0 → branchLeftOut t s a ≡ false
 branch-stays t branch.Short a g h = even-not (difference t (placed a 1)) (omega arith) (omega (arith, h, g))

@@ -8,10 +8,10 @@ use native.Mathlib.Nat.{add-zero}
 use lib.Dec.{leb, ltb, eqb}
 use lib.ListN.{length, take, getD}
 use borrow.Author.Tests.{eq-eqb, le-leb, eqb-true, leb-true, ltb-true}
-use Rattle.base_text.specs.declared.Number.{Number}
-use Rattle.base_text.specs.declared.Number.the-variants as number
-use Rattle.base_text.specs.Parts.{fields}
-use Rattle.base_text.specs.Number.{numberOf}
+use Rattle.base_spec.specs.declared.Number.{Number}
+use Rattle.base_spec.specs.declared.Number.the-variants as number
+use Rattle.base_spec.specs.Parts.{fields}
+use Rattle.base_spec.specs.Number.{numberOf}
 use Rattle.sheet_spec.specs.Names.{bytes}
 use Rattle.sheet_spec.specs.Line.{equal}
 use Rattle.sheet_token_laws.specs.Facts.{and-true}

@@ -24,7 +24,7 @@ use Rattle.isa.specs.declared.PackOperation.the-variants.{PACK, UNPK}
 use Rattle.isa.specs.declared.Instruction.{Instruction}
 use Rattle.isa.specs.declared.Instruction.the-variants.{IntoRegister, MOVEM, Transfer, Pair, Quick, ImmediateInto, WordIntoData, UnsizedIntoRegister, UnsizedOne, UnsizedPair, OneOperand, Bcc, Scc, DBcc, Branch, Shift, MULL, Pack, CAS, BF, DIVL}
 use Rattle.encode_spec.specs.Item.{Item, Part, failure, wordsIn, laid, check, fine, operation, allow}
-use Rattle.isa.specs.Code.{moveCode}
+use Rattle.isa_spec.specs.Code.{moveCode}
 use Rattle.encode_spec.specs.Encode.{measuredAs, sizeOf}
 use Rattle.encode_spec.specs.Ea.{everyMode, permits, byteOfAddress, eaField, effective, isRegister, isImmediate, typed, single, withData, withAddress, fromData}
 use Rattle.encode_spec.specs.Movement.{moveParts, moveaParts, movemParts, movepParts}
@@ -34,7 +34,7 @@ use Rattle.encode_spec.specs.Bits.{bitParts, dynamicParts, staticParts, bitFiel
 use Rattle.encode_spec.specs.Control.{branchParts, bccParts, dbccParts, sccParts}
 use Rattle.encode_spec.specs.System.{movesParts, casParts}
 use Rattle.encode_spec.specs.Instruction.{registerParts, transferParts, pairParts, wordParts, unsizedRegisterParts, unsizedOneParts, unsizedPairParts, oneParts, branchesParts, packsParts}
-use Rattle.read_operand_laws.specs.Facts.{failure-append, words-in-append}
+use Rattle.encode_facts.specs.Items.{failure-append, words-in-append}
 use Rattle.sheet_form_laws.specs.Rows.{bare}
 
 -- where an operand stands in an instruction

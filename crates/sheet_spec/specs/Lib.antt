@@ -3,7 +3,6 @@ pub mod Grammar
 pub mod Line
 pub mod Spell
 pub mod Made
-pub mod Entries
 pub mod Sheet
 pub mod Translate
 pub mod Follow

@@ -9,11 +9,11 @@ use Rattle.isa.specs.declared.Measured.{Measured}
 use Rattle.isa.specs.declared.Encoded.{Encoded}
 use Rattle.isa.specs.declared.Instruction.{Instruction}
 use Rattle.encode_spec.specs.Encode.{sizeOf, encodeOf}
-use Rattle.base_text.specs.declared.Number.{Number}
-use Rattle.base_text.specs.declared.Number.the-variants as number
-use Rattle.base_text.specs.Parts.{fields}
-use Rattle.base_text.specs.Number.{numberOf}
-use Rattle.base_text.specs.Lines.{linesOf}
+use Rattle.base_spec.specs.declared.Number.{Number}
+use Rattle.base_spec.specs.declared.Number.the-variants as number
+use Rattle.base_spec.specs.Parts.{fields}
+use Rattle.base_spec.specs.Number.{numberOf}
+use Rattle.base_spec.specs.Lines.{linesOf}
 use Rattle.numeric_build.specs.declared.Built.{Built}
 use Rattle.numeric_build.specs.declared.Built.the-variants as built
 use Rattle.sheet_spec.specs.Names.{bytes}

@@ -5,7 +5,7 @@ ghost use lib.ListN.{length};
 ghost use Rattle.sheet_spec.specs.Sheet.{isSheet, startLine, startAs, startOf};
 ghost use Rattle.sheet_spec.specs.Sheet as sheet;
 ghost use Rattle.sheet_start.specs.StartLine.{startAt, notAt};
-use base_text::Number;
+use base_spec::Number;
 
 // The address that the START line names, where it is in the form.
 pub struct StartAt {

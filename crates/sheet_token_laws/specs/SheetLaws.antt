@@ -7,9 +7,10 @@ use native.Mathlib.Omega.{arith}
 use lib.Dec.{leb, eqb}
 use lib.ListN.{length, take, drop, length-drop}
 use borrow.Author.Tests.{eq-eqb, eqb-true, leb-true}
-use Rattle.base_text.specs.Parts.{before, onto, partEnd}
+use Rattle.base_text.specs.Parts.{before, partEnd}
+use Rattle.base_spec.specs.Parts.{onto}
 use Rattle.base_text.specs.PartLaws.{take-before}
-use Rattle.base_text.specs.Lines.{linesOf}
+use Rattle.base_spec.specs.Lines.{linesOf}
 use Rattle.base_text.specs.LinesLaws.{lines-next}
 use Rattle.sheet_spec.specs.Sheet.{feeds, last, isSheet, startLine, linesIn}
 use Rattle.sheet_spec.specs.Translate.{countIn}

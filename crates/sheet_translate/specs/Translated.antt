@@ -4,7 +4,7 @@ use mathlib.Core.List.{List}
 use Prim.Native.Nat.{ℕ, _+_, _*_, _^_, _≤_}
 use lib.Dec.{leb}
 use lib.ListN.{length, take, drop}
-use Rattle.base_text.specs.Lines.{linesOf}
+use Rattle.base_spec.specs.Lines.{linesOf}
 use Rattle.sheet_spec.specs.declared.Listed.{Listed}
 use Rattle.sheet_spec.specs.Sheet.{isSheet, startLine, linesIn, startOf}
 use Rattle.sheet_spec.specs.Translate.{Outcome, passed, refused, andThen, require, startOutcome, sizesOutcome, rangesOutcome, startIn, countIn, addressesIn, needIn, outcomeOf, listedOf, imageOf, scratchOf}

@@ -7,8 +7,8 @@ use Prim.Native.Nat.{ℕ, _+_, _-_, _≤_, _<_}
 use lib.Dec.{leb, ltb, eqb}
 use lib.ListN.{length, take, drop, getD}
 use Rattle.base_text.specs.Parts.{partEnd}
-use Rattle.base_text.specs.declared.Numbers.{Numbers}
-use Rattle.base_text.specs.Numbers.{numbersOf}
+use Rattle.base_spec.specs.declared.Numbers.{Numbers}
+use Rattle.base_spec.specs.Numbers.{numbersOf}
 use Rattle.sheets.specs.declared.Header.{Header}
 
 abbrev pub noHeader : Header

@@ -1,7 +1,7 @@
 use Rattle.base_text.specs.WrittenLaws.{placed-then}
 use native.Mathlib.Omega.{arith}
 use Prim.Native.Nat.{_/_, _%_}
-use Rattle.base_text.specs.Written.{hex4Of}
+use Rattle.base_spec.specs.Written.{hex4Of}
 use borrow.Author.Needs.{needs}
 use Rattle.base_text.proofs.put_hex8.Statement.{statement}
 use Rattle.base_text.proofs.put_hex8.Tie as tie

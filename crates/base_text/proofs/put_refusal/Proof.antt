@@ -4,7 +4,7 @@ use Rattle.base_text.proofs.put_refusal.Tie as tie
 use native.Mathlib.Omega.{arith}
 use mir.Facts.{toZ-ofZ}
 use mir.Syntax.{w64}
-use Rattle.base_text.specs.Wrote.{refusedText}
+use Rattle.base_spec.specs.Refused.{refusedText}
 use Rattle.base_text.specs.WroteLaws.{wrote, wrote-then, signed-20}
 
 slice-aggregate-put : tie.Need-slice-aggregate-put

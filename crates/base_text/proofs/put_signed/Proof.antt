@@ -3,7 +3,7 @@ use mathlib.Core.List.{[], _∷_}
 use Prim.Native.Nat.{_+_, _-_}
 use mir.Facts.{toZ-ofZ}
 use mir.Syntax.{w64}
-use Rattle.base_text.specs.Written.{decimalOf}
+use Rattle.base_spec.specs.Written.{decimalOf}
 use Rattle.base_text.specs.WrittenLaws.{decimal-19, placed-then, signed-pos, signed-neg}
 use borrow.Author.Needs.{needs}
 use Rattle.base_text.proofs.put_signed.Statement.{statement}

@@ -1,5 +1,5 @@
 use mathlib.Core.Path.{_∙_, ap}
-use Rattle.base_text.specs.Number.{negated}
+use Rattle.base_spec.specs.Number.{negated}
 use Rattle.base_text.specs.NumberLaws.{number-nil, number-minus, number-plain}
 use borrow.Author.Needs.{needs}
 use Rattle.base_text.proofs.read_number.Statement.{statement}

@@ -2,7 +2,7 @@ use borrow.Author.Needs.{needs}
 use Rattle.encode_answers.proofs.put_result.Statement.{statement}
 use Rattle.encode_answers.proofs.put_result.Tie as tie
 use native.Mathlib.Omega.{arith}
-use Rattle.encode_answers.specs.Answer.{resultText}
+use Rattle.print_spec.specs.EncodeAnswer.{resultText}
 use Rattle.base_text.specs.WroteLaws.{wrote, wrote-then}
 
 put-encoded-requires : tie.Need-put-encoded-requires

@@ -5,7 +5,7 @@ use Prim.Native.Nat.{_+_, _*_, _-_, _≤_}
 use native.Mathlib.Omega.{arith}
 use lib.ListN.{length, take}
 use Rattle.base_text.specs.Wrote.{Wrote}
-use Rattle.encode_answers.specs.Answer.{wordsText}
+use Rattle.print_spec.specs.EncodeAnswer.{wordsText}
 use Rattle.base_text.specs.WroteLaws.{wrote, wrote-none, wrote-then}
 use Rattle.encode_answers.specs.AnswerLaws.{words-next}
 

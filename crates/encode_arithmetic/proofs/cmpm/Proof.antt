@@ -3,7 +3,7 @@ use Rattle.encode_arithmetic.proofs.cmpm.Statement.{statement}
 use Rattle.encode_arithmetic.proofs.cmpm.Tie as tie
 use Rattle.encode_spec.specs.Arithmetic.{cmpmParts}
 use Prim.Native.Nat.{_+_}
-use Rattle.isa.specs.Code.{sizeCode}
+use Rattle.isa_spec.specs.Code.{sizeCode}
 use Rattle.encode_spec.specs.Ea.{registerField, registerNumber}
 use Rattle.encode_spec.specs.Item.{operation}
 use Rattle.encode_state.specs.Encoder.{step}

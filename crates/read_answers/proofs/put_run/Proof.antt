@@ -1,4 +1,4 @@
-use Rattle.read_answers.specs.Answer.{runText}
+use Rattle.print_spec.specs.ReadAnswer.{runText}
 use lib.ListN.{length-take}
 use native.Mathlib.Omega.{arith}
 use borrow.Author.Needs.{needs}

@@ -3,8 +3,8 @@ use Rattle.read_operands.proofs.specified.Statement.{statement}
 use Rattle.read_operands.proofs.specified.Tie as tie
 use denote.Ref.{now}
 use Rattle.read_spec.specs.Layout.{specifierTree}
-use Rattle.read_spec.specs.Tree.{runAt}
-use Rattle.read_spec.specs.At.{runAt-bind}
+use Rattle.read_places.specs.RunAt.{runAt}
+use Rattle.read_places.specs.RunAtLaws.{runAt-bind}
 use Rattle.read_operands.specs.Part.{sourceTree}
 use Rattle.read_operands.specs.ReadLaws.{number-found, number-ended, number-refused}
 

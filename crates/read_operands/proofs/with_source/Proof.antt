@@ -3,8 +3,8 @@ use Rattle.read_operands.proofs.with_source.Statement.{statement}
 use Rattle.read_operands.proofs.with_source.Tie as tie
 use denote.Ref.{now}
 use Rattle.read_spec.specs.Operand.{operandTree}
-use Rattle.read_spec.specs.Tree.{runAt}
-use Rattle.read_spec.specs.At.{runAt-bind}
+use Rattle.read_places.specs.RunAt.{runAt}
+use Rattle.read_places.specs.RunAtLaws.{runAt-bind}
 use Rattle.read_operands.specs.ReadLaws.{operand-found, operand-ended, operand-refused}
 
 operand-requires : tie.Need-operand-requires

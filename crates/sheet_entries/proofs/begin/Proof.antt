@@ -1,5 +1,5 @@
 use mathlib.Core.Path.{refl}
-use Rattle.sheet_spec.specs.Entries.{entriesFrom}
+use Rattle.sheet_tokens.specs.Entries.{entriesFrom}
 use Rattle.sheet_entries.proofs.begin.Statement.{statement}
 use Rattle.sheet_entries.proofs.begin.Tie as tie
 

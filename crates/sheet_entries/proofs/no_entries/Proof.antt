@@ -1,5 +1,5 @@
 use mathlib.Core.Path.{refl}
-use Rattle.sheet_spec.specs.Entries.{noEntries}
+use Rattle.sheet_tokens.specs.Entries.{noEntries}
 use Rattle.sheet_entries.proofs.no_entries.Statement.{statement}
 use Rattle.sheet_entries.proofs.no_entries.Tie as tie
 

@@ -2,10 +2,10 @@ use mathlib.Core.Path.{_≡_, refl, sym, ap, _∙_}
 use Prim.Native.Nat.{_+_, _-_, _≤_}
 use native.Mathlib.Omega.{arith}
 use lib.ListN.{length}
-use Rattle.base_text.specs.Parts.{fields}
+use Rattle.base_spec.specs.Parts.{fields}
 use Rattle.base_text.specs.PartLaws.{partsFrom}
 use Rattle.sheet_spec.specs.Line.{placeFrom}
-use Rattle.sheet_spec.specs.Entries.{valueOf}
+use Rattle.sheet_tokens.specs.Entries.{valueOf}
 use Rattle.sheet_field.proofs.Laws.{place-none, place-start, place-here, place-later, place-end}
 use Rattle.sheet_field.proofs.find.Statement.{statement}
 use Rattle.sheet_field.proofs.find.Tie as tie

@@ -3,11 +3,11 @@ use Rattle.sheet_print.proofs.put_line.Statement.{statement}
 use Rattle.sheet_print.proofs.put_line.Tie as tie
 use native.Mathlib.Omega.{arith}
 use lib.ListN.{length-append}
-use Rattle.base_text.specs.Written.{decimalOf}
+use Rattle.base_spec.specs.Written.{decimalOf}
 use Rattle.base_text.specs.WrittenLaws.{decimal-length}
-use Rattle.base_text.specs.Wrote.{tab}
+use Rattle.base_spec.specs.Refused.{tab}
 use Rattle.base_text.specs.WroteLaws.{wrote, wrote-then}
-use Rattle.sheet_print.specs.Printed.{lineText}
+use Rattle.print_spec.specs.Printed.{lineText}
 
 put-field-requires : tie.Need-put-field-requires
 put-field-requires c κs = search needs

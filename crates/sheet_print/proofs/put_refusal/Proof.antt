@@ -6,7 +6,7 @@ use mir.Facts.{toZ-ofZ}
 use mir.Syntax.{w64}
 use Rattle.sheet_spec.specs.Names.{bytes}
 use Rattle.base_text.specs.WroteLaws.{wrote, wrote-then, signed-20}
-use Rattle.sheet_print.specs.Printed.{refusalText}
+use Rattle.print_spec.specs.Printed.{refusalText}
 
 slice-aggregate-put : tie.Need-slice-aggregate-put
 slice-aggregate-put c = search needs

@@ -7,7 +7,7 @@ use lib.ListN.{length, take}
 use lib.Seq.{take-all}
 use Rattle.base_text.specs.Wrote.{Wrote}
 use Rattle.base_text.specs.WroteLaws.{wrote, wrote-none, wrote-then}
-use Rattle.sheet_print.specs.Printed.{wordsText}
+use Rattle.print_spec.specs.Printed.{wordsText}
 use Rattle.sheet_print.specs.ListingLaws.{words-next}
 
 abbrev Inv-loop : tie.InvT-loop

@@ -3,7 +3,7 @@ use Rattle.isa_values.proofs.field.holds.Statement.{statement}
 use Rattle.isa_values.proofs.field.holds.Tie as tie
 use mir.Facts.{toZ-ofZ}
 use mir.Syntax.{w64}
-use Rattle.isa.specs.Field.{holds}
+use Rattle.isa_spec.specs.Field.{holds}
 use Rattle.isa_values.proofs.Laws.{zero-bits}
 
 range-requires : tie.Need-range-requires

@@ -2,7 +2,7 @@ use borrow.Author.Needs.{needs}
 use Rattle.isa_values.proofs.field.range.Statement.{statement}
 use Rattle.isa_values.proofs.field.range.Tie as tie
 use mathlib.Core.Path.{refl}
-use Rattle.isa.specs.Field.{ranges}
+use Rattle.isa_spec.specs.Field.{ranges}
 use Rattle.isa_values.proofs.Laws.{low-read, top-read, as-listed}
 
 number-requires : tie.Need-number-requires

@@ -1,6 +1,6 @@
 use borrow.Author.Needs.{needs}
 use lib.Dec.{ltb→lt}
-use Rattle.read_spec.specs.Map.{groupNumberOf, groupNumber, groupOf}
+use Rattle.read_places.specs.Groups.{groupNumberOf, groupNumber, groupOf}
 use Rattle.read_layouts.proofs.Laws.{numbered}
 use Rattle.read_layouts.proofs.map.group.Statement.{statement}
 use Rattle.read_layouts.proofs.map.group.Tie as tie

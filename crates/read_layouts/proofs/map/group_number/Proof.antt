@@ -1,5 +1,6 @@
 use borrow.Author.Needs.{needs}
-use Rattle.read_spec.specs.Map.{groupNumberOf, groupOf, groupAt, map}
+use Rattle.read_spec.specs.Map.{groupAt, map}
+use Rattle.read_places.specs.Groups.{groupNumberOf, groupOf}
 use Rattle.read_layouts.proofs.Laws.{by-rule}
 use Rattle.read_layouts.proofs.map.group_number.Statement.{statement}
 use Rattle.read_layouts.proofs.map.group_number.Tie as tie

@@ -4,10 +4,11 @@ use Rattle.read_operands.proofs.displacement.long_displacement.Tie as t
 use mir.Syntax.{w32}
 use mir.Facts.{toZ-ofZ}
 use denote.Ref.{now}
-use Rattle.base_signed.specs.Signed.{signed32}
+use Rattle.base_spec.specs.Signed.{signed32}
 use Rattle.read_spec.specs.declared.Specifier.the-variants.{Long}
 use Rattle.read_spec.specs.Layout.{twoWords}
-use Rattle.read_spec.specs.Tree.{ret, runAt}
+use Rattle.read_spec.specs.Tree.{ret}
+use Rattle.read_places.specs.RunAt.{runAt}
 use Rattle.read_operands.specs.ReadLaws.{number-found, number-ended, number-refused}
 use Rattle.read_operands.proofs.Laws.{long-then}
 

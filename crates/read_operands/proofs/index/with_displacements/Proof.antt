@@ -4,10 +4,10 @@ use Rattle.read_operands.proofs.index.with_displacements.Tie as tie
 use mir.Syntax.{w32}
 use mir.Facts.{toZ-ofZ}
 use denote.Ref.{now}
-use Rattle.isa.specs.ExtensionWord.{baseSize}
+use Rattle.isa_spec.specs.ExtensionWord.{baseSize}
 use Rattle.read_spec.specs.Operand.{displacementTree}
-use Rattle.read_spec.specs.Tree.{runAt}
-use Rattle.read_spec.specs.At.{runAt-bind}
+use Rattle.read_places.specs.RunAt.{runAt}
+use Rattle.read_places.specs.RunAtLaws.{runAt-bind}
 use Rattle.read_operands.specs.ReadLaws.{displacement-found, displacement-ended, displacement-refused}
 
 base-displacement-size-requires : tie.Need-base-displacement-size-requires

@@ -3,9 +3,10 @@ use Rattle.read_operands.proofs.operand.immediate_operand.Statement.{st
 use Rattle.read_operands.proofs.operand.immediate_operand.Tie as tie
 use denote.Ref.{now}
 use Rattle.isa.specs.declared.Operand.the-variants.{Immediate}
-use Rattle.read_spec.specs.Tree.{ret, runAt}
+use Rattle.read_spec.specs.Tree.{ret}
+use Rattle.read_places.specs.RunAt.{runAt}
 use Rattle.read_spec.specs.Operand.{immediateTree}
-use Rattle.read_spec.specs.At.{runAt-bind}
+use Rattle.read_places.specs.RunAtLaws.{runAt-bind}
 use Rattle.read_operands.specs.ReadLaws.{number-found, number-ended, number-refused}
 
 immediate-requires : tie.Need-immediate-requires

@@ -6,7 +6,8 @@ use Rattle.isa.specs.declared.Operand.the-variants.{Absolute}
 use Rattle.isa.specs.declared.AddressWidth.the-variants as width
 use Rattle.read_spec.specs.declared.Specifier.the-variants.{Long}
 use Rattle.read_spec.specs.Layout.{twoWords}
-use Rattle.read_spec.specs.Tree.{ret, runAt}
+use Rattle.read_spec.specs.Tree.{ret}
+use Rattle.read_places.specs.RunAt.{runAt}
 use Rattle.read_operands.specs.ReadLaws.{number-found, number-ended, number-refused}
 use Rattle.read_operands.proofs.Laws.{long-then}
 

@@ -3,7 +3,7 @@ use mathlib.Core.Path.{sym, ap, _∙_}
 use mathlib.Core.List.{map}
 use native.Mathlib.Omega.{arith}
 use Rattle.sheet_spec.specs.Names.{bytes, instructionNames}
-use Rattle.sheet_spec.specs.Entries.{valueOf}
+use Rattle.sheet_tokens.specs.Entries.{valueOf}
 use Rattle.sheet_field.specs.Hash.{placeOf}
 use Rattle.sheet_field.proofs.Laws.{place-none}
 use Rattle.sheet_field.proofs.Hashed.{place-fits, found, missed}

@@ -5,10 +5,10 @@ use mathlib.Core.List.{List, map}
 use lib.Dec.{leb}
 use lib.ListN.{length, replicate}
 use Rattle.numeric_spec.specs.Entry.{pad}
-use Rattle.sheet_spec.specs.declared.Value.{Value}
-use Rattle.sheet_spec.specs.declared.Value.the-variants as value
-use Rattle.sheet_spec.specs.declared.Entries.{Entries}
+use Rattle.sheet_tokens.specs.declared.Value.{Value}
+use Rattle.sheet_tokens.specs.declared.Value.the-variants as value
+use Rattle.sheet_tokens.specs.declared.Entries.{Entries}
 use Rattle.sheet_spec.specs.Line.{Token, literal, label, invalid, Parsed, says, no}
 
 abbrev pub capped : ℕ → ℕ
 capped n = cond (leb n 4096) n 4097

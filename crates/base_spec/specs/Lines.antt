@@ -1,13 +1,12 @@
--- What is printed for a text, line by line, and for a part of it that fits a buffer; `answer` is what a line gets, and `need` the
--- places that must be left before one.
+-- What is printed for a text, line by line, and for a part of it that fits a buffer; `answer` is what a line gets, and `need` the places that must be left before one.
 use mathlib.Core.Path.{_≡_}
 use mathlib.Core.Bool.{cond}
 use mathlib.Core.List.{List, [], _∷_, _++_}
 use Prim.Native.Nat.{ℕ, _+_, _-_, _≤_, _<_}
 use lib.Dec.{eqb, ltb}
 use lib.ListN.{length, take, drop}
-use Rattle.base_text.specs.Parts.{onto}
-use Rattle.base_text.specs.declared.Step.{Step}
+use Rattle.base_spec.specs.Parts.{onto}
+use Rattle.base_spec.specs.declared.Step.{Step}
 
 -- the lines of a text, parted by LF; the last may lack it
 abbrev pub linesOf : List ℕ → List (List ℕ)

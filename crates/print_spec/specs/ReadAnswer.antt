@@ -1,17 +1,17 @@
--- What is printed for a line: the numbers of the instruction that its words read as, `=>` and the length in bytes, or a refusal.
+-- What `read` prints for a line: the numbers of the instruction that its words read as, `=>` and the length in bytes, or a refusal.
 use mathlib.Core.Bool.{cond}
 use mathlib.Core.List.{List, [], _∷_, _++_}
 use Prim.Native.Nat.{ℕ}
 use lib.IntN.{ℤ, pos}
 use lib.ListN.{take}
-use Rattle.base_text.specs.Written.{decimalOf, signedOf}
-use Rattle.base_text.specs.Wrote.{tab, refusedText, notInForm}
+use Rattle.base_spec.specs.Written.{decimalOf, signedOf}
+use Rattle.base_spec.specs.Refused.{tab, refusedText, notInForm}
 use Rattle.numeric_spec.specs.Form.{numbersOf}
 use Rattle.read_spec.specs.declared.Reading.{Reading}
 use Rattle.read_spec.specs.declared.Reading.the-variants.{Read, Short, Nothing}
 use Rattle.read_spec.specs.Read.{readOf, readingNumber}
-use Rattle.read_runs.specs.declared.Run.{Run}
-use Rattle.read_runs.specs.Run.{runOf}
+use Rattle.print_spec.specs.declared.Run.{Run}
+use Rattle.print_spec.specs.Run.{runOf}
 
 -- each number, and a tab
 abbrev pub numbersText : List ℤ → List ℕ

@@ -1,4 +1,4 @@
--- What is printed for a line: the words, `=>` and the size, or refusals in their places.
+-- What `encode` prints for a line: the words, `=>` and the size, or refusals in their places.
 use mathlib.Core.Bool.{cond}
 use mathlib.Core.List.{List, [], _∷_, _++_}
 use Prim.Native.Nat.{ℕ}
@@ -12,10 +12,10 @@ use Rattle.numeric_build.specs.declared.Built.{Built}
 use Rattle.numeric_build.specs.declared.Built.the-variants.{Instruction, NotInForm}
 use Rattle.numeric_fields.specs.Number.{longAt}
 use Rattle.numeric_build.specs.Build.{buildOf}
-use Rattle.base_text.specs.declared.Numbers as read
-use Rattle.base_text.specs.Numbers.{numbersOf}
-use Rattle.base_text.specs.Written.{hex4Of, decimalOf}
-use Rattle.base_text.specs.Wrote.{tab, refusedText, notInForm}
+use Rattle.base_spec.specs.declared.Numbers as read
+use Rattle.base_spec.specs.Numbers.{numbersOf}
+use Rattle.base_spec.specs.Written.{hex4Of, decimalOf}
+use Rattle.base_spec.specs.Refused.{tab, refusedText, notInForm}
 
 -- each word, and a tab
 abbrev pub wordsText : List ℕ → List ℕ

@@ -4,12 +4,12 @@ use mathlib.Core.List.{List, [], _∷_, _++_, map}
 use Prim.Native.Nat.{ℕ, _+_, _*_, _-_, _^_, min}
 use lib.Dec.{leb, ltb, eqb}
 use lib.ListN.{length, take, replicate}
-use Rattle.base_text.specs.declared.Number.{Number}
-use Rattle.base_text.specs.declared.Number.the-variants.{Is, No}
-use Rattle.base_text.specs.Parts.{fields}
-use Rattle.base_text.specs.Number.{numberOf}
-use Rattle.base_text.specs.Numbers.{magnitudeOf}
-use Rattle.read_runs.specs.declared.Run.{Run}
+use Rattle.base_spec.specs.declared.Number.{Number}
+use Rattle.base_spec.specs.declared.Number.the-variants.{Is, No}
+use Rattle.base_spec.specs.Parts.{fields}
+use Rattle.base_spec.specs.Number.{numberOf}
+use Rattle.base_spec.specs.Numbers.{magnitudeOf}
+use Rattle.print_spec.specs.declared.Run.{Run}
 
 abbrev pub within : ℕ → ℕ → ℕ → Bool
 within low high b = leb low b && leb b high

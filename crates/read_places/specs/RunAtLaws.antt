@@ -6,7 +6,8 @@ use mathlib.Core.List.{List}
 use lib.Dec.{ltb}
 use lib.ListN.{getD, length}
 use Rattle.encode_spec.specs.Item.{placed}
-use Rattle.read_spec.specs.Tree.{Tree, ret, fail, more, bind, At, found, ended, refused, runAt}
+use Rattle.read_spec.specs.Tree.{Tree, ret, fail, more, bind}
+use Rattle.read_places.specs.RunAt.{At, found, ended, refused, runAt}
 
 module _ {A B : Type 0} where
   -- the second tree from where the first ended

@@ -1,4 +1,4 @@
--- How many words a reading looks at, at most 13: what stands behind them does not matter.
+-- How many words a reading looks at.
 use Prim.Native.Nat.{ℕ, zero, suc, _+_, _/_, _%_, _≤_}
 use mathlib.Core.Path.{_≡_, refl}
 use mathlib.Core.Bool.{Bool, true, false, cond}
@@ -11,13 +11,14 @@ use Rattle.isa.specs.declared.Size.the-variants.{Byte, Word, Long}
 use Rattle.isa.specs.declared.DisplacementSize.{DisplacementSize}
 use Rattle.isa.specs.declared.DisplacementSize.the-variants as displacement
 use Rattle.encode_spec.specs.Item.{placed}
-use Rattle.isa.specs.ExtensionWord.{isFull, isCanonical, baseSize, outerSize}
+use Rattle.isa_spec.specs.ExtensionWord.{isFull, isCanonical, baseSize, outerSize}
 use Rattle.read_spec.specs.declared.Specifier.{Specifier}
 use Rattle.read_spec.specs.declared.Specifier.the-variants as specifier
 use Rattle.read_spec.specs.declared.Layout.{Layout}
-use Rattle.read_spec.specs.Tree.{Tree, ret, fail, more, bind, run, Out, got, short, none, At, found, ended, refused, runAt}
+use Rattle.read_spec.specs.Tree.{Tree, ret, fail, more, bind, run, Out, got, short, none}
+use Rattle.read_places.specs.RunAt.{At, found, ended, refused, runAt}
 use Rattle.read_spec.specs.Operand.{displacementTree, fullTree, briefOperand, indexedTree, immediateTree, specialTree, modeTree, operandTree}
 use Rattle.read_spec.specs.Layout.{valid, oneWord, twoWords, specifierTree, accepts, tailTree}
 
 abbrev plus : ℕ → ℕ → ℕ
 plus zero d = d

@@ -2,8 +2,8 @@
 use Prim.Native.Nat.{ℕ, suc, _+_, _*_}
 use mathlib.Core.List.{List, [], _∷_, _++_}
 use lib.IntN.{ℤ}
-use Rattle.base_text.specs.Written.{hex4Of, hex8Of, signedOf}
-use Rattle.base_text.specs.Wrote.{tab, fieldText}
+use Rattle.base_spec.specs.Written.{hex4Of, hex8Of, signedOf}
+use Rattle.base_spec.specs.Refused.{tab, fieldText}
 use Rattle.sheet_spec.specs.Names.{bytes}
 use Rattle.sheet_spec.specs.Sheet.{linesIn, counted}
 use Rattle.sheet_spec.specs.Translate.{Outcome, passed, refused, startIn, countIn, addressesIn, outcomeOf, lineWords}

@@ -1,0 +1,4 @@
+pub mod Field
+pub mod ExtensionWord
+pub mod Code
+pub mod Condition

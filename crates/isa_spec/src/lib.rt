@@ -1,0 +1,1 @@
+// Definitions alone: fields and their ranges, codes, extension words, conditions.

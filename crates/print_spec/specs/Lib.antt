@@ -1,0 +1,4 @@
+pub mod EncodeAnswer
+pub mod Run
+pub mod ReadAnswer
+pub mod Printed

@@ -1,0 +1,4 @@
+pub mod RunAt
+pub mod RunAtLaws
+pub mod Depth
+pub mod Groups
