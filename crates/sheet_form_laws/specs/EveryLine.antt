@@ -21,15 +21,10 @@ use Rattle.sheet_spec.specs.Spell.{numberAs, Variant, Fits, spell, Line}
 use Rattle.sheet_spec.specs.Made.{madeOf}
 use Rattle.sheet_token_laws.specs.Numbers.{entries}
 use Rattle.sheet_form_laws.specs.InForm.{form-complete}
-use Rattle.sheet_form_laws.specs.Fitting.{Mark, saying, unaimed, fields-numbers, Fitting}
+use Rattle.sheet_form_laws.specs.Fitting.{fields-numbers, Fitting}
+use Rattle.sheet_spec.specs.Told.{Mark, saying, unaimed, HasLine, Told}
 use Rattle.sheet_form_laws.specs.Sorts.{variant-fitting}
-use Rattle.sheet_form_laws.specs.Rows.{HasLine, row}
-
--- a line for an instruction: its entries, with 0 for each target that a line's name stands for
-pub record Told (m : ℕ → Mark) (i : Instruction) : Type 0 where
-  pub bare : Instruction
-  pub form : formOf bare ≡ unaimed m (kind.Instruction ∷ []) (formOf i)
-  pub line : Line (saying m (kind.Instruction ∷ []) (formOf i)) bare
+use Rattle.sheet_form_laws.specs.Rows.{row}
 
 fitted : (i : Instruction) → HasLine i → (m : ℕ → Mark) → Fitting entries (kind.Instruction ∷ []) i m []
 fitted i l m =

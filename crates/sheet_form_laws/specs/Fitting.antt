@@ -1,43 +1,15 @@
 -- The line of a value, whatever lines its targets name: what is said for its entries fits the grammar.
-use Prim.Native.Nat.{ℕ, suc, _-_, _^_}
+use Prim.Native.Nat.{ℕ, suc}
 use mathlib.Core.Path.{_≡_, refl}
-use mathlib.Core.Bool.{true, false}
+use mathlib.Core.Bool.{true}
 use mathlib.Core.List.{List, [], _∷_, _++_, map}
 use lib.IntN.{pos, negsuc}
 use Rattle.numeric_spec.specs.Entry.{Entry, unsigned, signed, numberOf, inside, Inside}
 use Rattle.sheet_spec.specs.declared.Kind.{Kind}
 use Rattle.sheet_spec.specs.declared.Kind.the-variants as kind
-use Rattle.sheet_spec.specs.Line.{Token, literal, label}
+use Rattle.sheet_spec.specs.Line.{Token}
 use Rattle.sheet_spec.specs.Spell.{numberAs, Fits, nextKinds}
-
--- the line that a target names; an operand's target may be its number instead
-pub data Mark : Type 0 where
-  numbered : ℕ → Mark
-  named : ℕ → Mark
-
--- what stands for an entry in a field of a kind, and the entry, with 0 for a target that a line's name stands for
-abbrev pub unmarked : Entry → Token × Entry
-unmarked (unsigned top n) = (literal false n, unsigned top n)
-unmarked (signed (pos n)) = (literal false n, signed (pos n))
-unmarked (signed (negsuc n)) = (literal true (suc n), signed (negsuc n))
-
-abbrev pub aimed : ℕ → Token × Entry
-aimed n = (label n, unsigned (2 ^ 32 - 1) 0)
-
-abbrev pub field : Kind → Mark → Entry → Token × Entry
-field k m e = elim k [ kind.Number ↦ unmarked e | kind.Target ↦ elim m [ numbered n ↦ aimed n | named n ↦ aimed n ] | kind.Place ↦ elim m [ numbered n ↦ unmarked e | named n ↦ aimed n ] | kind.Size ↦ unmarked e | kind.TargetDirection ↦ unmarked e | kind.RegisterOperand ↦ unmarked e | kind.AddressWidth ↦ unmarked e | kind.Condition ↦ unmarked e | kind.BranchSize ↦ unmarked e | kind.ShiftDirection ↦ unmarked e | kind.Sign ↦ unmarked e | kind.BitFieldOperation ↦ unmarked e | kind.FieldValue ↦ unmarked e | kind.TrapOperand ↦ unmarked e | kind.RegisterChoice ↦ unmarked e | kind.Operand ↦ unmarked e | kind.Instruction ↦ unmarked e ]
-
--- the fields of entries, by the grammar, with a mark for each
-abbrev pub fieldsBy : (ℕ → Mark) → List Kind → List Entry → List (Token × Entry)
-fieldsBy m ks [] = []
-fieldsBy m [] (e ∷ es) = []
-fieldsBy m (k ∷ ks) (e ∷ es) = field k (m 0) e ∷ fieldsBy (λ n. m (suc n)) (nextKinds k (field k (m 0) e .0) ++ ks) es
-
-abbrev pub saying : (ℕ → Mark) → List Kind → List Entry → List Token
-saying m ks es = map (λ w. w .0) (fieldsBy m ks es)
-
-abbrev pub unaimed : (ℕ → Mark) → List Kind → List Entry → List Entry
-unaimed m ks es = map (λ w. w .1) (fieldsBy m ks es)
+use Rattle.sheet_spec.specs.Told.{Mark, named, numbered, unmarked, field, saying, unaimed}
 
 -- ---- numbers and types, whatever the kinds
 abbrev Numbered : Entry → Token × Entry → Type 0

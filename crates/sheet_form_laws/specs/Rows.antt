@@ -49,6 +49,7 @@ use Rattle.numeric_spec.specs.Form.{placeOf}
 use Rattle.sheet_spec.specs.declared.Kind.{Kind}
 use Rattle.sheet_spec.specs.declared.Kind.the-variants as kind
 use Rattle.sheet_spec.specs.Grammar.{fieldsOf}
+use Rattle.sheet_spec.specs.Told.{HasLine}
 use Rattle.sheet_token_laws.specs.Numbers.{entries}
 use Rattle.sheet_form_laws.specs.Sorts.{Sort, none, _⊗_, number, integer, target, place, isNamed, Enum, variant, enum, choice}
 
@@ -143,9 +144,6 @@ operand =
     ])
 
 -- ---- an instruction
--- all but IllegalWord and SIMHALT
-abbrev pub HasLine : Instruction → Type 0
-HasLine i = ((w : ℕ) → i ≡ Raw IllegalWord w → ⊥) × (i ≡ NoOperand SIMHALT → ⊥)
 
 -- where it has a name, the grammar of its fields and its form are those of a sort
 abbrev pub Law : {n : ℕ} {Z : Type 0} → Sort n Z → (Z → Instruction) → Z → Type 0

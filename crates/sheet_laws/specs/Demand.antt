@@ -18,8 +18,8 @@ use Rattle.sheet_spec.specs.Translate.{countIn, addressesIn}
 use Rattle.sheet_spec.specs.Follow.{Next, on, to, either, stop, nextOf, target, lineAt, addressOf, countOf, instructionIn, plainLine, named}
 use Rattle.sheet_size_laws.specs.Lawful.{quiet, Goes, quietly, aimed}
 use Rattle.sheet_size_laws.specs.Made.{LineMade}
-use Rattle.sheet_size_laws.specs.Image.{wordsAt, address-is}
-use Rattle.sheet_size_laws.specs.Outcomes.{AcceptedSheet}
+use Rattle.sheet_size_laws.specs.Image.{address-is}
+use Rattle.sheet_spec.specs.Promises.{AcceptedSheet, wordsAt}
 use Rattle.sheet_size_laws.specs.Bounds.{line-at, count-some, names-bounded, addresses-bounded}
 use Rattle.sheet_size_laws.specs.Counted.{measured}
 use Rattle.sheet_size_laws.specs.Counted as counted

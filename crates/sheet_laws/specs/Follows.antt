@@ -14,7 +14,8 @@ use Rattle.read_spec.specs.Read.{readOf}
 use Rattle.sheet_spec.specs.Sheet.{linesIn, total}
 use Rattle.sheet_spec.specs.Translate.{startIn, countIn, addressesIn, imageIn}
 use Rattle.sheet_spec.specs.Follow.{Next, on, to, either, stop, nextOf, Place, follow, goes, target, addressOf, countOf, plainLine, named, comeLine, stepLine, byLines, end, begins, readingAt, comeWord, stepWord, byWords, Together, both-ended, both-at}
-use Rattle.sheet_size_laws.specs.Image.{wordsAt, address-next, total-part, Counts, split, image-length, drop-before}
+use Rattle.sheet_size_laws.specs.Image.{address-next, total-part, Counts, split, image-length, drop-before}
+use Rattle.sheet_spec.specs.Promises.{wordsAt}
 
 -- a target is the address t
 abbrev pub Aims : Next → ℕ → Type 0

@@ -9,7 +9,8 @@ use Rattle.sheet_spec.specs.Made.{addressIn}
 use Rattle.sheet_spec.specs.Sheet.{encodedLine, lineEncoded}
 use Rattle.sheet_spec.specs.Translate.{countIn, addressesIn}
 use Rattle.sheet_spec.specs.Follow.{lineAt, addressOf}
-use Rattle.sheet_size_laws.specs.Bounds.{MeasuredSheet, line-at, addresses-bounded}
+use Rattle.sheet_size_laws.specs.Bounds.{line-at, addresses-bounded}
+use Rattle.sheet_spec.specs.Promises.{MeasuredSheet}
 
 pub only-ranges : (text : List ℕ) → MeasuredSheet text → (n : ℕ) → 1 ≤ n → n ≤ countIn text
     → Outcome (lineEncoded (addressesIn text) (lineAt text n) (addressOf text n))

@@ -19,9 +19,7 @@ use Rattle.sheet_form_laws.specs.NumberForm.{number-form, number-back}
 use Rattle.sheet_form_laws.specs.JoinForm.{joined-fields, fields-joined}
 use Rattle.sheet_form_laws.specs.FieldForm.{decimal-solid}
 use Rattle.sheet_spec.specs.Sheet.{at, notInForm, startAs, startFields, startOf}
-
-abbrev pub startText : ℕ → List ℕ
-startText n = bytes "START" ++ (9 ∷ decimalOf n)
+use Rattle.sheet_spec.specs.Promises.{startText}
 
 not-at : {n : ℕ} → notInForm ≡ at n → ⊥
 not-at e = let z : _≡_ {A = ℕ} 0 1 = cc in absurd (omega arith)

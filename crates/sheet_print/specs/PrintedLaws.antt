@@ -19,7 +19,7 @@ use Rattle.sheet_size_laws.specs.Outcomes.{accepted}
 use Rattle.sheet_size_laws.specs.Counted.{counts, image-counts}
 use Rattle.sheet_token_laws.specs.SheetLaws.{count-most}
 use Rattle.sheet_passes.specs.PassLaws.{line-most, words-length}
-use Rattle.sheet_translate.specs.Translated.{Translated}
+use Rattle.sheet_spec.specs.Promises.{Translated}
 use Rattle.sheet_translate.specs.OutcomeLaws.{Sound, verdict-sound}
 use Rattle.sheet_translate.specs.PlaceLaws.{addresses-length}
 use Rattle.print_spec.specs.Printed.{listingOf, refusalText, printedOf}

@@ -12,11 +12,10 @@ use Rattle.sheet_spec.specs.Line.{equal}
 use Rattle.sheet_spec.specs.declared.Listed.{Listed}
 use Rattle.sheet_spec.specs.Translate.{Outcome, passed, refused, startIn, countIn, needIn, imageIn, outcomeOf, listedAs, listedOf, imageAs, imageOf, scratchOf, isPassed, same}
 use Rattle.sheet_size_laws.specs.Outcomes.{accepted}
-use Rattle.sheet_translate.specs.Translated.{Translated}
+use Rattle.sheet_spec.specs.Promises.{Translated, enough, Compared}
 use Rattle.sheet_translate.specs.OutcomeLaws.{Sound, verdict-sound}
 use Rattle.sheet_translate.specs.PlaceLaws.{scratch-length, image-length, words-fit}
 use Rattle.sheet_translate.specs.Left.{left}
-use Rattle.sheet_same.specs.Compared.{enough, Compared}
 use Rattle.sheet_same.specs.Room.{verdict-more}
 
 -- an answer's number is 0 exactly where nothing is refused

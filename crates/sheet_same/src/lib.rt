@@ -5,13 +5,8 @@ ghost use lib.ListN.{length};
 ghost use Rattle.sheet_spec.specs.Line.{equal};
 ghost use Rattle.sheet_spec.specs.Translate.{imageOf, scratchOf};
 ghost use Rattle.sheet_spec.specs.Translate as listing;
-ghost use Rattle.sheet_same.specs.Compared.{Compared};
-
-// 0, and whether the sheets are the same; or 11 where the lent places are too few.
-pub struct Comparison {
-    pub number: u8,
-    pub same: bool,
-}
+ghost use Rattle.sheet_spec.specs.Promises.{Compared};
+use sheet_spec::Comparison;
 
 fn equal_words(v: &[u16], w: &[u16]) -> bool
     ensures { λ r. ⌜ r ≡ equal (now (v .entry)) (now (w .entry)) ⌝ }

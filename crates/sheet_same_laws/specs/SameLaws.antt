@@ -8,17 +8,12 @@ use borrow.Author.Tests.{eq-eqb, eqb-true}
 use Rattle.sheet_spec.specs.Line.{equal}
 use Rattle.sheet_token_laws.specs.Facts.{and-true, equal-is, equal-refl}
 use Rattle.sheet_spec.specs.Translate.{Outcome, passed, refused, startIn, imageIn, outcomeOf, isPassed, same}
+use Rattle.sheet_spec.specs.Promises.{Same}
 
 -- ---- exactly where
 is-fine : (w : Outcome) → isPassed w ≡ true → w ≡ passed
 is-fine passed e = refl
 is-fine (refused number line detail value) e = absurd (false≢true e)
-
-pub record Same (s t : List ℕ) : Type 0 where
-  pub first : outcomeOf s 4096 45056 ≡ passed
-  pub second : outcomeOf t 4096 45056 ≡ passed
-  pub starts : startIn s ≡ startIn t
-  pub images : imageIn s ≡ imageIn t
 
 pub same-is : (s t : List ℕ) → same s t ≡ true → Same s t
 unfolding same

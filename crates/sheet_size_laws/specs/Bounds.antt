@@ -1,5 +1,5 @@
 -- Measured lines: each counts at least one word, as many as it lays down at any address, and the addresses are of 32 bits.
-use Prim.Native.Nat.{ℕ, suc, pred, _+_, _*_, _-_, _/_, _^_, _≤_, _<_}
+use Prim.Native.Nat.{ℕ, suc, pred, _+_, _*_, _/_, _^_, _≤_, _<_}
 use mathlib.Core.Path.{_≡_, sym, subst}
 use mathlib.Core.Bool.{false}
 use mathlib.Core.List.{List, [], _∷_}
@@ -10,9 +10,10 @@ use Rattle.encode_spec.specs.Encode.{itemsOf, wordsOf, refusalOf, sizeOf}
 use Rattle.sheet_spec.specs.Made.{addressIn}
 use Rattle.encode_facts.specs.Items.{words-count}
 use Rattle.sheet_token_laws.specs.Listing.{measured-size}
-use Rattle.sheet_spec.specs.Sheet.{linesIn, sizedOf, counted, total}
-use Rattle.sheet_spec.specs.Translate.{startIn, countIn, addressesIn, needIn}
+use Rattle.sheet_spec.specs.Sheet.{linesIn, counted, total}
+use Rattle.sheet_spec.specs.Translate.{countIn, addressesIn}
 use Rattle.sheet_spec.specs.Follow.{lineAt, addressOf, countOf}
+use Rattle.sheet_spec.specs.Promises.{MeasuredSheet}
 use Rattle.sheet_size_laws.specs.Image.{address-is, address-next, total-take}
 use Rattle.sheet_form_laws.specs.Turned.{Bounded}
 use Rattle.sheet_size_laws.specs.Made.{LineMade, line-made}
@@ -36,9 +37,6 @@ size-is i h a =
     )
 
 -- ---- a sheet whose lines are measured and whose end is at most 2^32
-pub record MeasuredSheet (text : List ℕ) : Type 0 where
-  pub sized : (n : ℕ) → 1 ≤ n → n ≤ countIn text → sizedOf (countIn text) (lineAt text n) .number ≡ 0
-  pub ends : startIn text + 2 * needIn text ≤ 2 ^ 32
 
 module _ (text : List ℕ) (ok : MeasuredSheet text) where
   pub line-at : (n : ℕ) → 1 ≤ n → n ≤ countIn text → LineMade (countIn text) (lineAt text n)

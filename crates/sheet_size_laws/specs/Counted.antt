@@ -17,10 +17,11 @@ use Rattle.sheet_spec.specs.Made.{madeOf, addressIn}
 use Rattle.sheet_spec.specs.Sheet.{encodedLine, lineEncoded, linesIn, total}
 use Rattle.sheet_spec.specs.Translate.{passed, startIn, countIn, addressesIn, needIn, imageIn, outcomeOf}
 use Rattle.sheet_spec.specs.Follow.{lineAt, addressOf, countOf}
-use Rattle.sheet_size_laws.specs.Image.{wordsAt, Counts, image-length, words-stand}
-use Rattle.sheet_size_laws.specs.Outcomes.{AcceptedSheet, accepted}
+use Rattle.sheet_size_laws.specs.Image.{Counts, image-length, words-stand}
+use Rattle.sheet_size_laws.specs.Outcomes.{accepted}
+use Rattle.sheet_spec.specs.Promises.{AcceptedSheet, MeasuredSheet, wordsAt}
 use Rattle.sheet_size_laws.specs.Made.{LineMade}
-use Rattle.sheet_size_laws.specs.Bounds.{size-is, MeasuredSheet, line-at, addresses-bounded}
+use Rattle.sheet_size_laws.specs.Bounds.{size-is, line-at, addresses-bounded}
 
 -- ---- verdicts of the encoder
 encoded-fine : (v : item.Verdict) (ws : List ℕ) → encode.encodedAs v ws .number ≡ 0 → v ≡ item.fine

@@ -10,11 +10,8 @@ use lib.Seq.{take-at, take-suc, take-all, drop-at}
 use Rattle.sheet_spec.specs.Made.{addressIn}
 use Rattle.sheet_spec.specs.Sheet.{linesIn, counted, total, addressesFrom}
 use Rattle.sheet_spec.specs.Translate.{startIn, countIn, addressesIn, lineWords, imageFrom, imageIn}
-use Rattle.sheet_spec.specs.Follow.{lineAt, addressOf, countOf}
-
--- the words of line n
-abbrev pub wordsAt : List ℕ → ℕ → List ℕ
-wordsAt text n = lineWords (addressesIn text) (lineAt text n) (addressOf text n)
+use Rattle.sheet_spec.specs.Follow.{addressOf, countOf}
+use Rattle.sheet_spec.specs.Promises.{wordsAt}
 
 -- ---- addresses
 total-append : (m : ℕ) (a b : List (List ℕ)) → total m (a ++ b) ≡ total m a + total m b

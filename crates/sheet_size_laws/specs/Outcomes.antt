@@ -1,5 +1,5 @@
 -- What an accepted sheet is: the verdict `fine`, place by place.
-use Prim.Native.Nat.{ℕ, zero, suc, pred, _+_, _*_, _-_, _%_, _^_, _≤_, _<_}
+use Prim.Native.Nat.{ℕ, zero, suc, pred, _+_, _*_, _%_, _^_, _<_}
 use mathlib.Core.Path.{_≡_, refl, sym, ap, _∙_}
 use mathlib.Core.Bool.{Bool, true, false, cond, not, _&&_, false≢true}
 use mathlib.Core.List.{List, [], _∷_}
@@ -18,7 +18,7 @@ use Rattle.sheet_token_laws.specs.Facts.{and-true}
 use Rattle.sheet_spec.specs.Sheet.{isSheet, startLine, linesIn, Start, at, notInForm, startAs, startOf, sizedOf, counted, total, lineEncoded}
 use Rattle.sheet_spec.specs.Sheet as sheet
 use Rattle.sheet_spec.specs.Translate.{Outcome, passed, andThen, require, startOutcome, startNumber, asOutcome, sizesOutcome, rangesOutcome, startIn, countIn, addressesIn, needIn, outcomeOf}
-use Rattle.sheet_spec.specs.Follow.{lineAt, addressOf}
+use Rattle.sheet_spec.specs.Promises.{AcceptedSheet}
 use Rattle.sheet_token_laws.specs.SheetLaws.{outline, count-feeds}
 use Rattle.sheet_token_laws.specs.Listing.{refused-not, both-fine, unless-true, as-fine, fine-zero}
 use Rattle.sheet_size_laws.specs.Image.{further}
@@ -67,16 +67,6 @@ ranges-fine A n k a (l ∷ ls) e (suc j) h =
     ∙ ranges-fine A n (suc k) (a + 2 * counted n l) ls (both-fine (asOutcome k (lineEncoded A l a .number) (lineEncoded A l a .detail) (lineEncoded A l a .value)) _ e .1) j (omega arith)
 
 -- ---- an accepted sheet
-pub record AcceptedSheet (text : List ℕ) (places room : ℕ) : Type 0 where
-  pub sheet : isSheet text ≡ true
-  pub lines-some : 1 ≤ countIn text
-  pub start : startOf (startLine text) ≡ at (startIn text)
-  pub even : startIn text % 2 ≡ 0
-  pub scratch : countIn text ≤ places
-  pub sized : (n : ℕ) → 1 ≤ n → n ≤ countIn text → sizedOf (countIn text) (lineAt text n) .number ≡ 0
-  pub ends : startIn text + 2 * needIn text ≤ 2 ^ 32
-  pub image : needIn text ≤ room
-  pub encoded : (n : ℕ) → 1 ≤ n → n ≤ countIn text → lineEncoded (addressesIn text) (lineAt text n) (addressOf text n) .number ≡ 0
 
 pub accepted : (text : List ℕ) (places room : ℕ) → outcomeOf text places room ≡ passed → AcceptedSheet text places room
 unfolding outcomeOf

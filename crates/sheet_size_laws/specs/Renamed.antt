@@ -40,7 +40,8 @@ use Rattle.sheet_spec.specs.Follow.{Next, nextOf}
 use Rattle.sheet_token_laws.specs.Numbers.{entries}
 use Rattle.sheet_form_laws.specs.Turned.{Input, Turned}
 use Rattle.sheet_form_laws.specs.Sorts.{chosen}
-use Rattle.sheet_form_laws.specs.Rows.{HasLine, Row, row}
+use Rattle.sheet_form_laws.specs.Rows.{Row, row}
+use Rattle.sheet_spec.specs.Told.{HasLine}
 use Rattle.sheet_form_laws.specs.EveryLine.{place-named}
 use Rattle.sheet_size_laws.specs.Sizes as sizes
 use Rattle.sheet_size_laws.specs.Sizes.{bare-size, aim-size}

@@ -6,3 +6,5 @@ pub mod Made
 pub mod Sheet
 pub mod Translate
 pub mod Follow
+pub mod Told
+pub mod Promises

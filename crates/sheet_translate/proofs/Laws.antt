@@ -22,7 +22,8 @@ use Rattle.sheet_size_laws.specs.Counted.{image-counts}
 use Rattle.sheet_passes.specs.declared.Passed.{Passed}
 use Rattle.sheet_passes.specs.Passes.{passedOf, filledOf, linesAt, Placed, rangesAt, imageAt}
 use Rattle.sheet_passes.specs.PassLaws.{total-most, filled-addresses}
-use Rattle.sheet_translate.specs.Translated.{Translated, refusalNumber, openingOf, sizesIn, closingOf, rangesIn, SizedSheet}
+use Rattle.sheet_translate.specs.Translated.{refusalNumber, openingOf, sizesIn, closingOf, rangesIn, SizedSheet}
+use Rattle.sheet_spec.specs.Promises.{Translated}
 use Rattle.sheet_translate.specs.OutcomeLaws.{Sound, sizes-sound, ranges-sound}
 use Rattle.sheet_translate.specs.StageLaws.{stages, opening-outside, closing-outside, Opened, opened, Closed, closed, by-verdict, turned-away}
 use Rattle.sheet_translate.specs.PlaceLaws.{over-take, over-same, addresses-length, addresses-first, filled-length, from-over}

@@ -10,7 +10,7 @@ use Rattle.sheet_spec.specs.Translate.{Outcome, passed, refused, startIn, count
 use Rattle.sheet_spec.specs.Follow.{addressOf}
 use Rattle.sheet_size_laws.specs.Image.{address-is}
 use Rattle.sheet_size_laws.specs.Counted.{image-counts}
-use Rattle.sheet_translate.specs.Translated.{Translated}
+use Rattle.sheet_spec.specs.Promises.{Translated}
 use Rattle.sheet_translate.specs.OutcomeLaws.{Sound, verdict-sound}
 use Rattle.sheet_translate.specs.PlaceLaws.{over-take, addresses-length}
 

@@ -14,7 +14,7 @@ use Rattle.sheet_token_laws.specs.Listing.{over-length}
 use Rattle.sheet_size_laws.specs.Outcomes.{accepted}
 use Rattle.sheet_size_laws.specs.Counted.{image-counts}
 use Rattle.sheet_passes.specs.Passes.{filledOf}
-use Rattle.sheet_translate.specs.Translated.{Translated}
+use Rattle.sheet_spec.specs.Promises.{Translated}
 
 pub over-take : (x v : List ℕ) (n : ℕ) → length x ≡ n → take n (over x v) ≡ x
 over-take x v n e = take-at x (drop (length x) v) n e

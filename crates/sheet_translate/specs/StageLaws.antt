@@ -12,7 +12,8 @@ use Rattle.sheet_spec.specs.declared.Listed.{Listed}
 use Rattle.sheet_spec.specs.Sheet.{isSheet, startLine, Start, at, notInForm, startOf}
 use Rattle.sheet_spec.specs.Translate.{Outcome, passed, refused, andThen, require, startOutcome, asOutcome, startIn, countIn, needIn, addressesIn, imageIn, outcomeOf, listedAs, listedOf, imageAs, imageOf, scratchAs, scratchOf}
 use Rattle.sheet_token_laws.specs.Listing.{both-fine, unless-true}
-use Rattle.sheet_translate.specs.Translated.{Translated, refusalNumber, openingOf, sizesIn, closingOf, rangesIn}
+use Rattle.sheet_translate.specs.Translated.{refusalNumber, openingOf, sizesIn, closingOf, rangesIn}
+use Rattle.sheet_spec.specs.Promises.{Translated}
 
 or-three : (a b c d : Outcome) → andThen a (andThen b (andThen c d)) ≡ andThen (andThen a (andThen b c)) d
 or-three passed passed c d = refl

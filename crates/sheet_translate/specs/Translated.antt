@@ -5,15 +5,8 @@ use Prim.Native.Nat.{ℕ, _+_, _*_, _^_, _≤_}
 use lib.Dec.{leb}
 use lib.ListN.{length, take, drop}
 use Rattle.base_spec.specs.Lines.{linesOf}
-use Rattle.sheet_spec.specs.declared.Listed.{Listed}
 use Rattle.sheet_spec.specs.Sheet.{isSheet, startLine, linesIn, startOf}
-use Rattle.sheet_spec.specs.Translate.{Outcome, passed, refused, andThen, require, startOutcome, sizesOutcome, rangesOutcome, startIn, countIn, addressesIn, needIn, outcomeOf, listedOf, imageOf, scratchOf}
-
--- from a text, an image v and a scratch s: the answer r, the image v′ and the scratch s′
-pub record Translated (text v s v′ s′ : List ℕ) (r : Listed) : Type 0 where
-  pub listed : r ≡ listedOf text (length s) (length v)
-  pub image : v′ ≡ imageOf text s v
-  pub scratch : s′ ≡ scratchOf text s v
+use Rattle.sheet_spec.specs.Translate.{Outcome, passed, refused, andThen, require, startOutcome, sizesOutcome, rangesOutcome, startIn, countIn, addressesIn, needIn, outcomeOf}
 
 -- a refusal's number; 0 for none
 abbrev pub refusalNumber : Outcome → ℕ

@@ -3,7 +3,8 @@ ghost use mathlib.Core.Path.{_≡_};
 ghost use Prim.Native.Nat.{_≤_};
 ghost use lib.ListN.{length, replicate};
 ghost use Rattle.sheet_spec.specs.Translate.{passed, refused, listedAs};
-ghost use Rattle.sheet_translate.specs.Translated.{Translated, refusalNumber, openingOf, closingOf, SizedSheet};
+ghost use Rattle.sheet_translate.specs.Translated.{refusalNumber, openingOf, closingOf, SizedSheet};
+ghost use Rattle.sheet_spec.specs.Promises.{Translated};
 use sheet_spec::Listed;
 
 pub fn zero(s: &mut [u32])

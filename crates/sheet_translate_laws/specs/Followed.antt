@@ -1,37 +1,21 @@
 -- Demand 3 of what `translate` returns and leaves: Translated is what it ensures.
-use Prim.Native.Nat.{ℕ, zero, suc, pred, _+_, _*_, _-_, _/_, _≤_}
+use Prim.Native.Nat.{ℕ, zero, suc, _+_, _*_, _-_, _/_, _≤_}
 use mathlib.Core.Path.{_≡_, sym, _∙_}
-use mathlib.Core.Bool.{Bool}
 use mathlib.Core.List.{List, _++_}
 use native.Mathlib.Omega.{arith}
-use lib.ListN.{length, take, drop, getD, length-drop}
+use lib.ListN.{length, take, drop, length-drop}
 use lib.Seq.{take-append-le, drop-append-le}
 use Rattle.read_spec.specs.declared.Reading.the-variants.{Read}
 use Rattle.sheet_spec.specs.declared.Listed.{Listed}
 use Rattle.sheet_spec.specs.Sheet.{linesIn, total}
-use Rattle.sheet_spec.specs.Translate.{startIn, countIn, addressesIn, needIn, imageIn}
-use Rattle.sheet_spec.specs.Follow.{Together, byLines, byWords, readingAt, plainLine, addressOf, countOf}
-use Rattle.sheet_size_laws.specs.Image.{wordsAt, total-part}
+use Rattle.sheet_spec.specs.Translate.{startIn, countIn, addressesIn, imageIn}
+use Rattle.sheet_spec.specs.Follow.{readingAt, plainLine, addressOf, countOf}
+use Rattle.sheet_size_laws.specs.Image.{total-part}
+use Rattle.sheet_spec.specs.Promises.{wordsAt, Translated, Followed}
 use Rattle.sheet_size_laws.specs.Counted.{each-stands, image-counts}
 use Rattle.sheet_laws.specs.Demand3.{demand-3, each-line}
-use Rattle.sheet_translate.specs.Translated.{Translated}
 use Rattle.sheet_translate.specs.PlaceLaws.{over-drop, addresses-length}
 use Rattle.sheet_translate.specs.Left.{Left, left}
-
--- no refusal: the counts; the followers of the lines and of the words left stay together after any choices; each line, reached or not, reads
--- at its address as its plain form, its words stand at its place in the image and its address in the scratch; later words and places are unchanged
-pub record Followed (text v s v′ s′ : List ℕ) (r : Listed) : Type 0 where
-  pub lines : r .lines ≡ countIn text
-  pub counted : r .words ≡ needIn text
-  pub words : take (r .words) v′ ≡ imageIn text
-  pub together : (choices : List Bool)
-      → Together text (take (r .words) v′) (byLines text choices) (byWords (startIn text) (take (r .words) v′) choices)
-  pub reads : (n : ℕ) → 1 ≤ n → n ≤ r .lines
-      → readingAt (startIn text) (take (r .words) v′) (addressOf text n) ≡ Read (plainLine text n) (2 * countOf text n)
-  pub each : (n : ℕ) → 1 ≤ n → n ≤ r .lines → take (countOf text n) (drop ((addressOf text n - startIn text) / 2) v′) ≡ wordsAt text n
-  pub addresses : (n : ℕ) → 1 ≤ n → n ≤ r .lines → getD s′ (pred n) 0 ≡ addressOf text n
-  pub later-words : drop (r .words) v′ ≡ drop (r .words) v
-  pub later-places : drop (r .lines) s′ ≡ drop (r .lines) s
 
 -- ---- the words of a line in a longer run
 part-front : (x y : List ℕ) (at k : ℕ) → at + k ≤ length x → take k (drop at (x ++ y)) ≡ take k (drop at x)

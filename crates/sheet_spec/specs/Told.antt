@@ -1,0 +1,55 @@
+-- A line for every instruction, with any labels.
+use Prim.Native.Nat.{ℕ, suc, _-_, _^_}
+use mathlib.Core.Bool.{true, false}
+use lib.IntN.{pos, negsuc}
+use Rattle.numeric_spec.specs.Entry.{Entry, unsigned, signed}
+use Rattle.numeric_spec.specs.Form.{formOf}
+use Rattle.sheet_spec.specs.Line.{Token, literal, label}
+use Rattle.sheet_spec.specs.declared.Kind.{Kind}
+use Rattle.sheet_spec.specs.Spell.{nextKinds, Line}
+use Rattle.sheet_spec.specs.declared.Kind.the-variants as kind
+use mathlib.Core.List.{List, [], _∷_, _++_, map}
+use mathlib.Core.Path.{_≡_}
+use Rattle.isa.specs.declared.RawOperation.the-variants.{IllegalWord}
+use Rattle.isa.specs.declared.NoOperandOperation.the-variants.{SIMHALT}
+use Rattle.isa.specs.declared.Instruction.{Instruction}
+use Rattle.isa.specs.declared.Instruction.the-variants.{Raw, NoOperand}
+
+-- the line that a target names; an operand's target may be its number instead
+pub data Mark : Type 0 where
+  numbered : ℕ → Mark
+  named : ℕ → Mark
+
+-- what stands for an entry in a field of a kind, and the entry, with 0 for a target that a line's name stands for
+abbrev pub unmarked : Entry → Token × Entry
+unmarked (unsigned top n) = (literal false n, unsigned top n)
+unmarked (signed (pos n)) = (literal false n, signed (pos n))
+unmarked (signed (negsuc n)) = (literal true (suc n), signed (negsuc n))
+
+abbrev pub aimed : ℕ → Token × Entry
+aimed n = (label n, unsigned (2 ^ 32 - 1) 0)
+
+abbrev pub field : Kind → Mark → Entry → Token × Entry
+field k m e = elim k [ kind.Number ↦ unmarked e | kind.Target ↦ elim m [ numbered n ↦ aimed n | named n ↦ aimed n ] | kind.Place ↦ elim m [ numbered n ↦ unmarked e | named n ↦ aimed n ] | kind.Size ↦ unmarked e | kind.TargetDirection ↦ unmarked e | kind.RegisterOperand ↦ unmarked e | kind.AddressWidth ↦ unmarked e | kind.Condition ↦ unmarked e | kind.BranchSize ↦ unmarked e | kind.ShiftDirection ↦ unmarked e | kind.Sign ↦ unmarked e | kind.BitFieldOperation ↦ unmarked e | kind.FieldValue ↦ unmarked e | kind.TrapOperand ↦ unmarked e | kind.RegisterChoice ↦ unmarked e | kind.Operand ↦ unmarked e | kind.Instruction ↦ unmarked e ]
+
+-- the fields of entries, by the grammar, with a mark for each
+abbrev pub fieldsBy : (ℕ → Mark) → List Kind → List Entry → List (Token × Entry)
+fieldsBy m ks [] = []
+fieldsBy m [] (e ∷ es) = []
+fieldsBy m (k ∷ ks) (e ∷ es) = field k (m 0) e ∷ fieldsBy (λ n. m (suc n)) (nextKinds k (field k (m 0) e .0) ++ ks) es
+
+abbrev pub saying : (ℕ → Mark) → List Kind → List Entry → List Token
+saying m ks es = map (λ w. w .0) (fieldsBy m ks es)
+
+abbrev pub unaimed : (ℕ → Mark) → List Kind → List Entry → List Entry
+unaimed m ks es = map (λ w. w .1) (fieldsBy m ks es)
+
+-- all but IllegalWord and SIMHALT
+abbrev pub HasLine : Instruction → Type 0
+HasLine i = ((w : ℕ) → i ≡ Raw IllegalWord w → ⊥) × (i ≡ NoOperand SIMHALT → ⊥)
+
+-- a line for an instruction: its entries, with 0 for each target that a line's name stands for
+pub record Told (m : ℕ → Mark) (i : Instruction) : Type 0 where
+  pub bare : Instruction
+  pub form : formOf bare ≡ unaimed m (kind.Instruction ∷ []) (formOf i)
+  pub line : Line (saying m (kind.Instruction ∷ []) (formOf i)) bare
