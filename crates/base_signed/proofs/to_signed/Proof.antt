@@ -9,15 +9,6 @@ use borrow.Author.Tests.{lt-ltb, le-ltb}
 use lib.IntN.{pos}
 use Prim.Native.Nat.{_-_}
 
-cast-result : tie.Need-cast-result
-cast-result c = search needs
-
-sub-n : tie.Need-sub-n
-sub-n c = search needs
-
-cast-n : tie.Need-cast-n
-cast-n c = search needs
-
 sub-result : tie.Need-sub-result
 sub-result c = rw (toZ-pos w64 {n = 4294967295 - c .before .args .x} (omega arith), minus-one (pos (4294967295 - c .before .args .x))) (record { sfits = omega arith })
 
@@ -28,4 +19,4 @@ returns-2 : tie.Need-returns-2
 returns-2 c = rw (le-ltb _ _ (c .if1 .left), toZ-pos w64 {n = 4294967295 - c .before .args .x} (omega arith), minus-one (pos (4294967295 - c .before .args .x))) (toZ-ofZ {w = w64} (record { sfits = omega arith }))
 
 pub to-signed-spec : {M : Type 1} → statement M
-to-signed-spec = tie.close (tie.spec cast-result sub-n cast-n sub-result returns returns-2)
+to-signed-spec = tie.close (tie.spec (λ c. search needs) (λ c. search needs) (λ c. search needs) sub-result returns returns-2)

@@ -16,9 +16,6 @@ abbrev μ-loop : tie.MeasureT-loop
 loop-holds : tie.Need-loop-holds Inv-loop μ-loop
 loop-holds c = (omega arith, omega arith, refl)
 
-shared-slice-read-b : tie.Need-shared-slice-read-b Inv-loop μ-loop
-shared-slice-read-b c = omega arith
-
 returns : tie.Need-returns Inv-loop μ-loop
 returns c =
     let b = c .before .before .before in
@@ -31,9 +28,6 @@ returns-2 c =
     let f = b .before .before .args .f .now in
     sym (b .loop .inv .2 ∙ digit-high f (b .loop .i) (b .loop .a) (omega arith) (c .if2 .taken))
 
-wide-requires : tie.Need-wide-requires Inv-loop μ-loop
-wide-requires c κs = tt
-
 returns-3 : tie.Need-returns-3 Inv-loop μ-loop
 returns-3 c =
     let b = c .before .before .before .before .before .before in
@@ -41,30 +35,12 @@ returns-3 c =
     let m = digit-more f (b .loop .i) (b .loop .a) (omega arith) (omega arith) (omega arith) in
     sym (b .loop .inv .2 ∙ m ∙ digits-large (b .loop .a * 10 + (getD f (b .loop .i) 0 - 48)) (drop (b .loop .i + 1) f) (omega arith))
 
-mul-if4 : tie.Need-mul-if4 Inv-loop μ-loop
-mul-if4 c = omega arith
-
-sub-if4 : tie.Need-sub-if4 Inv-loop μ-loop
-sub-if4 c = omega arith
-
 returns-4 : tie.Need-returns-4 Inv-loop μ-loop
 returns-4 c =
     let b = c .before .before .before .before .before .before .before in
     let f = b .before .before .args .f .now in
     let m = digit-more f (b .loop .i) (b .loop .a) (omega arith) (omega arith) (omega arith) in
     sym (b .loop .inv .2 ∙ m ∙ digits-large (b .loop .a * 10 + (getD f (b .loop .i) 0 - 48)) (drop (b .loop .i + 1) f) (omega arith))
-
-mul-a : tie.Need-mul-a Inv-loop μ-loop
-mul-a c = omega arith
-
-add-a : tie.Need-add-a Inv-loop μ-loop
-add-a c = omega arith
-
-add-i : tie.Need-add-i Inv-loop μ-loop
-add-i c = omega arith
-
-loop-less : tie.Need-loop-less Inv-loop μ-loop
-loop-less c = omega arith
 
 loop-again : tie.Need-loop-again Inv-loop μ-loop
 loop-again c =
@@ -86,17 +62,17 @@ digits-spec =
     Inv-loop
     μ-loop
     loop-holds
-    shared-slice-read-b
+    (λ c. omega arith)
     returns
     returns-2
-    wide-requires
+    (λ c κs. tt)
     returns-3
-    mul-if4
-    sub-if4
+    (λ c. omega arith)
+    (λ c. omega arith)
     returns-4
-    mul-a
-    add-a
-    add-i
-    loop-less
+    (λ c. omega arith)
+    (λ c. omega arith)
+    (λ c. omega arith)
+    (λ c. omega arith)
     loop-again
     returns-5)

@@ -20,13 +20,10 @@ add-s c = let h = room (c .before .before .args .r .ok) (c .before .before .args
 returns : tie.Need-returns
 returns c = placed-number (c .before .before .args .r) (c .before .before .args .negative) (c .before .before .args .magnitude) (c .if1 .taken)
 
-no-numbers-requires : tie.Need-no-numbers-requires
-no-numbers-requires c κs = search needs
-
 returns-2 : tie.Need-returns-2
 returns-2 c = c .no-numbers .ensures ∙ sym (no-room (c .before .before .before .args .r) (c .before .before .before .args .negative) (c .before .before .before .args .magnitude) (c .before .if1 .left))
 
 pub place-number-spec : {M : Type 1} → statement M
 place-number-spec =
     tie.close
-    (tie.spec element-write-s mul-s element-write-s-2 add-s returns no-numbers-requires returns-2)
+    (tie.spec element-write-s mul-s element-write-s-2 add-s returns (λ c κs. search needs) returns-2)

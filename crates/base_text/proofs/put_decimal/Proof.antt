@@ -7,11 +7,5 @@ use Rattle.base_text.proofs.put_decimal.Tie as tie
 put-digits-requires : tie.Need-put-digits-requires
 put-digits-requires c κs = omega (arith, decimal-20 (c .before .before .args .n) (omega arith))
 
-same-length : tie.Need-same-length
-same-length c = search needs
-
-returns : tie.Need-returns
-returns c = search needs
-
 pub put-decimal-spec : {M : Type 1} → statement M
-put-decimal-spec = tie.close (tie.spec put-digits-requires same-length returns)
+put-decimal-spec = tie.close (tie.spec put-digits-requires (λ c. search needs) (λ c. search needs))

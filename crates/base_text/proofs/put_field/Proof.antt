@@ -4,14 +4,8 @@ use Rattle.base_text.proofs.put_field.Tie as tie
 use native.Mathlib.Omega.{arith}
 use Rattle.base_text.specs.WroteLaws.{wrote, wrote-then, byte-digits}
 
-put-decimal-requires : tie.Need-put-decimal-requires
-put-decimal-requires c κs = search needs
-
 put-byte-requires : tie.Need-put-byte-requires
 put-byte-requires c κs = omega (arith, byte-digits (c .before .before .before .before .before .before .args .n) (omega arith))
-
-same-length : tie.Need-same-length
-same-length c = search needs
 
 returns : tie.Need-returns
 returns c =
@@ -19,4 +13,4 @@ returns c =
     (wrote-then (wrote (c .before .before .before .before .before .before .put-decimal .ensures)) (wrote (c .before .before .put-byte .ensures)) (omega arith), omega arith)
 
 pub put-field-spec : {M : Type 1} → statement M
-put-field-spec = tie.close (tie.spec put-decimal-requires put-byte-requires same-length returns)
+put-field-spec = tie.close (tie.spec (λ c κs. search needs) put-byte-requires (λ c. search needs) returns)

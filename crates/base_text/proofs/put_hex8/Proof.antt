@@ -6,21 +6,6 @@ use borrow.Author.Needs.{needs}
 use Rattle.base_text.proofs.put_hex8.Statement.{statement}
 use Rattle.base_text.proofs.put_hex8.Tie as tie
 
-cast-put-hex4 : tie.Need-cast-put-hex4
-cast-put-hex4 c = search needs
-
-put-hex4-requires : tie.Need-put-hex4-requires
-put-hex4-requires c κs = search needs
-
-cast-put-hex4-2 : tie.Need-cast-put-hex4-2
-cast-put-hex4-2 c = search needs
-
-put-hex4-requires-2 : tie.Need-put-hex4-requires-2
-put-hex4-requires-2 c κs = search needs
-
-same-length : tie.Need-same-length
-same-length c = search needs
-
 returns : tie.Need-returns
 returns c =
     let a = c .before .before .before .before .before .before .before .before .before .args in
@@ -34,9 +19,9 @@ pub put-hex8-spec : {M : Type 1} → statement M
 put-hex8-spec =
     tie.close
     (tie.spec
-    cast-put-hex4
-    put-hex4-requires
-    cast-put-hex4-2
-    put-hex4-requires-2
-    same-length
+    (λ c. search needs)
+    (λ c κs. search needs)
+    (λ c. search needs)
+    (λ c κs. search needs)
+    (λ c. search needs)
     returns)

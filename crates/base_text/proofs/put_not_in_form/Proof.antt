@@ -4,18 +4,9 @@ use Rattle.base_text.proofs.put_not_in_form.Tie as tie
 use native.Mathlib.Omega.{arith}
 use Rattle.base_text.specs.WroteLaws.{wrote, wrote-then}
 
-put-refusal-requires : tie.Need-put-refusal-requires
-put-refusal-requires c κs = search needs
-
-put-byte-requires : tie.Need-put-byte-requires
-put-byte-requires c κs = search needs
-
-same-length : tie.Need-same-length
-same-length c = search needs
-
 returns : tie.Need-returns
 returns c = (wrote-then (c .before .before .before .before .before .before .put-refusal .ensures .0) (wrote (c .before .before .put-byte .ensures)) (omega arith), omega arith)
 
 pub put-not-in-form-spec : {M : Type 1} → statement M
 put-not-in-form-spec =
-    tie.close (tie.spec put-refusal-requires put-byte-requires same-length returns)
+    tie.close (tie.spec (λ c κs. search needs) (λ c κs. search needs) (λ c. search needs) returns)

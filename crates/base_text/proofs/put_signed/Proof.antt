@@ -9,14 +9,8 @@ use borrow.Author.Needs.{needs}
 use Rattle.base_text.proofs.put_signed.Statement.{statement}
 use Rattle.base_text.proofs.put_signed.Tie as tie
 
-bits-requires : tie.Need-bits-requires
-bits-requires c κs = search needs
-
 put-digits-requires : tie.Need-put-digits-requires
 put-digits-requires c κs = omega (arith, decimal-19 (c .before .before .bits .result) (omega arith))
-
-same-length : tie.Need-same-length
-same-length c = search needs
 
 returns : tie.Need-returns
 returns c =
@@ -24,20 +18,8 @@ returns c =
     let b = c .before .before .before .before .before .bits in
     rw (signed-pos (s .args .v) (s .fits .v) (b .result) (rw (toZ-ofZ {w = w64} (s .fits .v)) at (b .ensures)) (omega arith)) (c .before .before .put-digits .ensures)
 
-put-byte-requires : tie.Need-put-byte-requires
-put-byte-requires c κs = search needs
-
-sub-put-digits : tie.Need-sub-put-digits
-sub-put-digits c = search needs
-
-add-put-digits : tie.Need-add-put-digits
-add-put-digits c = search needs
-
 put-digits-requires-2 : tie.Need-put-digits-requires-2
 put-digits-requires-2 c κs = omega (arith, decimal-19 (18446744073709551615 - c .before .before .before .before .before .before .bits .result + 1) (omega arith))
-
-same-length-2 : tie.Need-same-length-2
-same-length-2 c = search needs
 
 returns-2 : tie.Need-returns-2
 returns-2 c =
@@ -54,13 +36,13 @@ pub put-signed-spec : {M : Type 1} → statement M
 put-signed-spec =
     tie.close
     (tie.spec
-    bits-requires
+    (λ c κs. search needs)
     put-digits-requires
-    same-length
+    (λ c. search needs)
     returns
-    put-byte-requires
-    sub-put-digits
-    add-put-digits
+    (λ c κs. search needs)
+    (λ c. search needs)
+    (λ c. search needs)
     put-digits-requires-2
-    same-length-2
+    (λ c. search needs)
     returns-2)

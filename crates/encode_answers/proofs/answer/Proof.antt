@@ -4,21 +4,6 @@ use Rattle.encode_answers.proofs.answer.Tie as tie
 use native.Mathlib.Omega.{arith}
 use Rattle.encode_answers.specs.AnswerLaws.{answer-yes, answer-no}
 
-read-numbers-requires : tie.Need-read-numbers-requires
-read-numbers-requires c κs = search needs
-
-numbers-in-requires : tie.Need-numbers-in-requires
-numbers-in-requires c κs = search needs
-
-put-numbers-requires : tie.Need-put-numbers-requires
-put-numbers-requires c κs = search needs
-
-put-not-in-form-requires : tie.Need-put-not-in-form-requires
-put-not-in-form-requires c κs = search needs
-
-same-length : tie.Need-same-length
-same-length c = search needs
-
 returns : tie.Need-returns
 returns c =
     let line = c .before .before .before .before .before .before .before .before .before .args .line .now in
@@ -26,9 +11,6 @@ returns c =
     let m = c .before .before .before .numbers-in in
     let r = c .before .before .put-numbers .ensures in
     rw (answer-yes line (n .result) (n .ensures) (m .result) (m .ensures) (c .before .before .before .before .before .if1 .taken)) (r .0 .next, r .0 .image, omega arith)
-
-same-length-2 : tie.Need-same-length-2
-same-length-2 c = search needs
 
 returns-2 : tie.Need-returns-2
 returns-2 c =
@@ -41,11 +23,11 @@ pub answer-spec : {M : Type 1} → statement M
 answer-spec =
     tie.close
     (tie.spec
-    read-numbers-requires
-    numbers-in-requires
-    put-numbers-requires
-    put-not-in-form-requires
-    same-length
+    (λ c κs. search needs)
+    (λ c κs. search needs)
+    (λ c κs. search needs)
+    (λ c κs. search needs)
+    (λ c. search needs)
     returns
-    same-length-2
+    (λ c. search needs)
     returns-2)

@@ -22,12 +22,6 @@ abbrev μ-loop : tie.MeasureT-loop
 loop-holds : tie.Need-loop-holds Inv-loop μ-loop
 loop-holds c = (omega arith, refl, omega arith, omega arith, refl, refl, step-start answerOf 128 _ _ _)
 
-sub-if1 : tie.Need-sub-if1 Inv-loop μ-loop
-sub-if1 c = omega arith
-
-same-length : tie.Need-same-length Inv-loop μ-loop
-same-length c = omega arith
-
 returns : tie.Need-returns Inv-loop μ-loop
 returns c =
     let l = c .before .before .loop in
@@ -39,27 +33,6 @@ returns c =
       room = l .inv .0;
       onward = λ h g. omega arith;
     }
-
-line-end-requires : tie.Need-line-end-requires Inv-loop μ-loop
-line-end-requires c κs = omega arith
-
-sub-answer : tie.Need-sub-answer Inv-loop μ-loop
-sub-answer c = omega arith
-
-part-answer-start : tie.Need-part-answer-start Inv-loop μ-loop
-part-answer-start c = omega arith
-
-part-answer-end : tie.Need-part-answer-end Inv-loop μ-loop
-part-answer-end c = omega arith
-
-answer-requires : tie.Need-answer-requires Inv-loop μ-loop
-answer-requires c κs = omega arith
-
-add-next : tie.Need-add-next Inv-loop μ-loop
-add-next c = omega arith
-
-loop-less : tie.Need-loop-less Inv-loop μ-loop
-loop-less c = omega arith
 
 loop-again : tie.Need-loop-again Inv-loop μ-loop
 loop-again c =
@@ -82,9 +55,6 @@ loop-again c =
       l .inv .6 ∙ step-on answerOf 128 text (l .next) (e .result) (length (a .out .now)) (l .at) (c .before .before .answer .result) (omega arith) (e .ensures .0) (e .ensures .1) (omega arith) (r .0),
     )
 
-same-length-2 : tie.Need-same-length-2 Inv-loop μ-loop
-same-length-2 c = omega arith
-
 returns-2 : tie.Need-returns-2 Inv-loop μ-loop
 returns-2 c =
     let l = c .before .loop in
@@ -104,16 +74,16 @@ answers-spec =
     Inv-loop
     μ-loop
     loop-holds
-    sub-if1
-    same-length
+    (λ c. omega arith)
+    (λ c. omega arith)
     returns
-    line-end-requires
-    sub-answer
-    part-answer-start
-    part-answer-end
-    answer-requires
-    add-next
-    loop-less
+    (λ c κs. omega arith)
+    (λ c. omega arith)
+    (λ c. omega arith)
+    (λ c. omega arith)
+    (λ c κs. omega arith)
+    (λ c. omega arith)
+    (λ c. omega arith)
     loop-again
-    same-length-2
+    (λ c. omega arith)
     returns-2)

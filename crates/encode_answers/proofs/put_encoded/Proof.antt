@@ -7,25 +7,10 @@ use mir.Syntax.{w64}
 use borrow.Author.Tests.{eq-eqb, ne-eqb}
 use Rattle.base_text.specs.WroteLaws.{wrote, wrote-then}
 
-put-words-requires : tie.Need-put-words-requires
-put-words-requires c κs = search needs
-
-same-length : tie.Need-same-length
-same-length c = search needs
-
 returns : tie.Need-returns
 returns c =
     let e = c .before .before .before .before .before .before .before .before .args .e in
     rw (eq-eqb (e .number) 0 (c .before .before .before .before .before .if1 .taken)) (c .before .before .put-words .ensures)
-
-put-refusal-requires : tie.Need-put-refusal-requires
-put-refusal-requires c κs = search needs
-
-put-byte-requires : tie.Need-put-byte-requires
-put-byte-requires c κs = search needs
-
-same-length-2 : tie.Need-same-length-2
-same-length-2 c = search needs
 
 returns-2 : tie.Need-returns-2
 returns-2 c =
@@ -38,10 +23,10 @@ pub put-encoded-spec : {M : Type 1} → statement M
 put-encoded-spec =
     tie.close
     (tie.spec
-    put-words-requires
-    same-length
+    (λ c κs. search needs)
+    (λ c. search needs)
     returns
-    put-refusal-requires
-    put-byte-requires
-    same-length-2
+    (λ c κs. search needs)
+    (λ c κs. search needs)
+    (λ c. search needs)
     returns-2)

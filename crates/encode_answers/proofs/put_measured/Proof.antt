@@ -8,26 +8,11 @@ use Rattle.base_text.specs.WroteLaws.{wrote}
 use mir.Facts.{toZ-ofZ}
 use mir.Syntax.{w64}
 
-cast-put-decimal : tie.Need-cast-put-decimal
-cast-put-decimal c = search needs
-
-put-decimal-requires : tie.Need-put-decimal-requires
-put-decimal-requires c κs = search needs
-
-same-length : tie.Need-same-length
-same-length c = search needs
-
 returns : tie.Need-returns
 returns c =
     let m = c .before .before .before .before .before .before .before .before .args .m in
     let d = decimal-20 (m .size) (omega arith) in
     rw (eq-eqb (m .number) 0 (c .before .before .before .before .before .if1 .taken)) (wrote (c .before .before .put-decimal .ensures), omega arith)
-
-put-refusal-requires : tie.Need-put-refusal-requires
-put-refusal-requires c κs = search needs
-
-same-length-2 : tie.Need-same-length-2
-same-length-2 c = search needs
 
 returns-2 : tie.Need-returns-2
 returns-2 c =
@@ -38,10 +23,10 @@ pub put-measured-spec : {M : Type 1} → statement M
 put-measured-spec =
     tie.close
     (tie.spec
-    cast-put-decimal
-    put-decimal-requires
-    same-length
+    (λ c. search needs)
+    (λ c κs. search needs)
+    (λ c. search needs)
     returns
-    put-refusal-requires
-    same-length-2
+    (λ c κs. search needs)
+    (λ c. search needs)
     returns-2)

@@ -9,49 +9,13 @@ use Rattle.encode_spec.specs.Item.{operation}
 use Rattle.encode_state.specs.Encoder.{step}
 use Rattle.encode_arithmetic.proofs.Laws.{other, post, stays}
 
-register-field-requires : tie.Need-register-field-requires
-register-field-requires c κs = search needs
-
-add-ea : tie.Need-add-ea
-add-ea c = search needs
-
-register-field-requires-2 : tie.Need-register-field-requires-2
-register-field-requires-2 c κs = search needs
-
-standard-size-requires : tie.Need-standard-size-requires
-standard-size-requires c κs = search needs
-
-add-operation : tie.Need-add-operation
-add-operation c = search needs
-
-operation-requires : tie.Need-operation-requires
-operation-requires c κs = search needs
-
-enum-known-source : tie.Need-enum-known-source
-enum-known-source c = search needs
-
-no-encoding-requires : tie.Need-no-encoding-requires
-no-encoding-requires c κs = search needs
-
 returns : tie.Need-returns
 unfolding cmpmParts
 returns c = let a = c .before .before .before .before .before .before .args in rw (c .no-encoding .ensures, c .before .before .operation .ensures, c .before .before .before .standard-size .ensures .0, c .before .before .before .before .register-field2 .ensures .0, c .before .before .before .before .before .register-field .ensures .0, other (a .source) (c .before .match .keys2)) (stays (registerNumber (a .destination)) (registerNumber (a .source)) (step (a .e) (operation 11 (registerField (a .destination)) (4 + sizeCode (a .size)) (8 + registerField (a .source)))))
 
-enum-known-destination : tie.Need-enum-known-destination
-enum-known-destination c = search needs
-
-no-encoding-requires-2 : tie.Need-no-encoding-requires-2
-no-encoding-requires-2 c κs = search needs
-
 returns-2 : tie.Need-returns-2
 unfolding cmpmParts
 returns-2 c = let a = c .before .before .before .before .before .before .before .before .before .args in rw (c .no-encoding2 .ensures, c .before .before .before .before .before .operation .ensures, c .before .before .before .before .before .before .standard-size .ensures .0, c .before .before .before .before .before .before .before .register-field2 .ensures .0, c .before .before .before .before .before .before .before .before .register-field .ensures .0, post (a .source) _ (c .before .before .before .source .given .1), other (a .destination) (c .before .match2 .keys2)) (stays (registerNumber (a .destination)) (registerNumber (a .source)) (step (a .e) (operation 11 (registerField (a .destination)) (4 + sizeCode (a .size)) (8 + registerField (a .source)))))
-
-register-requires : tie.Need-register-requires
-register-requires c κs = search needs
-
-register-requires-2 : tie.Need-register-requires-2
-register-requires-2 c κs = search needs
 
 returns-3 : tie.Need-returns-3
 unfolding cmpmParts
@@ -61,18 +25,18 @@ pub cmpm-spec : {M : Type 1} → statement M
 cmpm-spec =
     tie.close
     (tie.spec
-    register-field-requires
-    add-ea
-    register-field-requires-2
-    standard-size-requires
-    add-operation
-    operation-requires
-    enum-known-source
-    no-encoding-requires
+    (λ c κs. search needs)
+    (λ c. search needs)
+    (λ c κs. search needs)
+    (λ c κs. search needs)
+    (λ c. search needs)
+    (λ c κs. search needs)
+    (λ c. search needs)
+    (λ c κs. search needs)
     returns
-    enum-known-destination
-    no-encoding-requires-2
+    (λ c. search needs)
+    (λ c κs. search needs)
     returns-2
-    register-requires
-    register-requires-2
+    (λ c κs. search needs)
+    (λ c κs. search needs)
     returns-3)

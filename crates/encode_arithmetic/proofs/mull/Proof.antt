@@ -3,48 +3,6 @@ use Rattle.encode_arithmetic.proofs.mull.Statement.{statement}
 use Rattle.encode_arithmetic.proofs.mull.Tie as tie
 use Rattle.encode_spec.specs.Arithmetic.{mullParts}
 
-ea-field-requires : tie.Need-ea-field-requires
-ea-field-requires c κs = search needs
-
-operation-requires : tie.Need-operation-requires
-operation-requires c κs = search needs
-
-high-number-requires : tie.Need-high-number-requires
-high-number-requires c κs = search needs
-
-register-requires : tie.Need-register-requires
-register-requires c κs = search needs
-
-register-requires-2 : tie.Need-register-requires-2
-register-requires-2 c κs = search needs
-
-cast-upper : tie.Need-cast-upper
-cast-upper c = search needs
-
-mul-upper : tie.Need-mul-upper
-mul-upper c = search needs
-
-signed-bit-requires : tie.Need-signed-bit-requires
-signed-bit-requires c κs = search needs
-
-mul-upper-2 : tie.Need-mul-upper-2
-mul-upper-2 c = search needs
-
-add-upper : tie.Need-add-upper
-add-upper c = search needs
-
-high-bits-requires : tie.Need-high-bits-requires
-high-bits-requires c κs = search needs
-
-add-word : tie.Need-add-word
-add-word c = search needs
-
-word-requires : tie.Need-word-requires
-word-requires c κs = search needs
-
-effective-requires : tie.Need-effective-requires
-effective-requires c κs = search needs
-
 returns : tie.Need-returns
 unfolding mullParts
 returns c = rw (c .effective .ensures, c .before .word .ensures, c .before .before .high-bits .ensures .0, c .before .before .before .signed-bit .ensures .0, c .before .before .before .before .register2 .ensures, c .before .before .before .before .before .register .ensures, c .before .before .before .before .before .before .high-number .ensures, c .before .before .before .before .before .before .before .operation .ensures, c .before .before .before .before .before .before .before .before .ea-field .ensures .0)
@@ -53,18 +11,18 @@ pub mull-spec : {M : Type 1} → statement M
 mull-spec =
     tie.close
     (tie.spec
-    ea-field-requires
-    operation-requires
-    high-number-requires
-    register-requires
-    register-requires-2
-    cast-upper
-    mul-upper
-    signed-bit-requires
-    mul-upper-2
-    add-upper
-    high-bits-requires
-    add-word
-    word-requires
-    effective-requires
+    (λ c κs. search needs)
+    (λ c κs. search needs)
+    (λ c κs. search needs)
+    (λ c κs. search needs)
+    (λ c κs. search needs)
+    (λ c. search needs)
+    (λ c. search needs)
+    (λ c κs. search needs)
+    (λ c. search needs)
+    (λ c. search needs)
+    (λ c κs. search needs)
+    (λ c. search needs)
+    (λ c κs. search needs)
+    (λ c κs. search needs)
     returns)

@@ -3,33 +3,6 @@ use Rattle.encode_bits.proofs.bit.Statement.{statement}
 use Rattle.encode_bits.proofs.bit.Tie as tie
 use Rattle.encode_spec.specs.Bits.{bitParts}
 
-is-register-requires : tie.Need-is-register-requires
-is-register-requires c κs = search needs
-
-register-in-requires : tie.Need-register-in-requires
-register-in-requires c κs = search needs
-
-dynamic-bit-requires : tie.Need-dynamic-bit-requires
-dynamic-bit-requires c κs = search needs
-
-is-immediate-requires : tie.Need-is-immediate-requires
-is-immediate-requires c κs = search needs
-
-immediate-in-requires : tie.Need-immediate-in-requires
-immediate-in-requires c κs = search needs
-
-static-bit-requires : tie.Need-static-bit-requires
-static-bit-requires c κs = search needs
-
-ea-field-requires : tie.Need-ea-field-requires
-ea-field-requires c κs = search needs
-
-operation-requires : tie.Need-operation-requires
-operation-requires c κs = search needs
-
-no-encoding-requires : tie.Need-no-encoding-requires
-no-encoding-requires c κs = search needs
-
 returns : tie.Need-returns
 unfolding bitParts
 returns c = rw (c .dynamic-bit .ensures, c .before .register-in .ensures, ← c .before .before .before .is-register .ensures, c .before .before .if1 .taken)
@@ -46,15 +19,15 @@ pub bit-spec : {M : Type 1} → statement M
 bit-spec =
     tie.close
     (tie.spec
-    is-register-requires
-    register-in-requires
-    dynamic-bit-requires
-    is-immediate-requires
-    immediate-in-requires
-    static-bit-requires
-    ea-field-requires
-    operation-requires
-    no-encoding-requires
+    (λ c κs. search needs)
+    (λ c κs. search needs)
+    (λ c κs. search needs)
+    (λ c κs. search needs)
+    (λ c κs. search needs)
+    (λ c κs. search needs)
+    (λ c κs. search needs)
+    (λ c κs. search needs)
+    (λ c κs. search needs)
     returns
     returns-2
     returns-3)

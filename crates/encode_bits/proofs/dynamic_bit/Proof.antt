@@ -4,18 +4,6 @@ use Rattle.encode_bits.proofs.dynamic_bit.Tie as tie
 use Rattle.encode_spec.specs.Bits.{dynamicParts}
 use borrow.Author.Tests.{eq-eqb, ne-eqb}
 
-add-with-data : tie.Need-add-with-data
-add-with-data c = search needs
-
-with-data-requires : tie.Need-with-data-requires
-with-data-requires c κs = search needs
-
-add-with-data-2 : tie.Need-add-with-data-2
-add-with-data-2 c = search needs
-
-with-data-requires-2 : tie.Need-with-data-requires-2
-with-data-requires-2 c κs = search needs
-
 returns : tie.Need-returns
 unfolding dynamicParts
 returns c = rw (c .with-data .ensures, eq-eqb _ _ (c .before .if1 .taken))
@@ -28,9 +16,9 @@ pub dynamic-bit-spec : {M : Type 1} → statement M
 dynamic-bit-spec =
     tie.close
     (tie.spec
-    add-with-data
-    with-data-requires
-    add-with-data-2
-    with-data-requires-2
+    (λ c. search needs)
+    (λ c κs. search needs)
+    (λ c. search needs)
+    (λ c κs. search needs)
     returns
     returns-2)

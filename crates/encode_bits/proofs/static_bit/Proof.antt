@@ -6,30 +6,6 @@ use borrow.Author.Tests.{eq-eqb, ne-eqb}
 use mir.Facts.{toZ-pos}
 use mir.Syntax.{w64}
 
-ea-field-requires : tie.Need-ea-field-requires
-ea-field-requires c κs = search needs
-
-operation-requires : tie.Need-operation-requires
-operation-requires c κs = search needs
-
-cast-fits : tie.Need-cast-fits
-cast-fits c = search needs
-
-fits-requires : tie.Need-fits-requires
-fits-requires c κs = search needs
-
-cast-word : tie.Need-cast-word
-cast-word c = search needs
-
-word-requires : tie.Need-word-requires
-word-requires c κs = search needs
-
-effective-requires : tie.Need-effective-requires
-effective-requires c κs = search needs
-
-effective-requires-2 : tie.Need-effective-requires-2
-effective-requires-2 c κs = search needs
-
 returns : tie.Need-returns
 unfolding staticParts
 returns c = rw (c .effective .ensures, c .before .before .word .ensures, c .before .before .before .fits2 .ensures, toZ-pos w64 {n = c .before .before .before .before .before .before .args .number} (search needs), c .before .before .before .before .operation .ensures, c .before .before .before .before .before .ea-field .ensures .0, eq-eqb _ _ (c .before .if1 .taken))
@@ -42,13 +18,13 @@ pub static-bit-spec : {M : Type 1} → statement M
 static-bit-spec =
     tie.close
     (tie.spec
-    ea-field-requires
-    operation-requires
-    cast-fits
-    fits-requires
-    cast-word
-    word-requires
-    effective-requires
-    effective-requires-2
+    (λ c κs. search needs)
+    (λ c κs. search needs)
+    (λ c. search needs)
+    (λ c κs. search needs)
+    (λ c. search needs)
+    (λ c κs. search needs)
+    (λ c κs. search needs)
+    (λ c κs. search needs)
     returns
     returns-2)

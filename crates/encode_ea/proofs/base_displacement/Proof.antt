@@ -4,18 +4,6 @@ use Rattle.encode_ea.proofs.base_displacement.Tie as tie
 use mir.Facts.{toZ-ofZ}
 use mir.Syntax.{w64, w32}
 
-wide-requires : tie.Need-wide-requires
-wide-requires c κs = search needs
-
-from-pc-requires : tie.Need-from-pc-requires
-from-pc-requires c κs = search needs
-
-low32-requires : tie.Need-low32-requires
-low32-requires c κs = search needs
-
-distance-requires : tie.Need-distance-requires
-distance-requires c κs = search needs
-
 returns : tie.Need-returns
 returns c = rw (toZ-ofZ {w = w64} {z = c .distance .result} (search needs), c .distance .ensures, c .before .low32 .ensures, toZ-ofZ {w = w64} {z = c .before .before .before .before .wide .result} (search needs), c .before .before .before .before .wide .ensures, toZ-ofZ {w = w32} (c .before .before .before .before .before .fits .displacement), ← c .before .before .before .from-pc .ensures, c .before .before .if1 .taken)
 
@@ -25,4 +13,4 @@ returns-2 c = rw (toZ-ofZ {w = w64} {z = c .before .before .wide .result} (searc
 pub base-displacement-spec : {M : Type 1} → statement M
 base-displacement-spec =
     tie.close
-    (tie.spec wide-requires from-pc-requires low32-requires distance-requires returns returns-2)
+    (tie.spec (λ c κs. search needs) (λ c κs. search needs) (λ c κs. search needs) (λ c κs. search needs) returns returns-2)

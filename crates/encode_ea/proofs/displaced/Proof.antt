@@ -4,18 +4,9 @@ use Rattle.encode_ea.proofs.displaced.Tie as tie
 use mir.Facts.{toZ-ofZ}
 use mir.Syntax.{w64, w32}
 
-address-register-requires : tie.Need-address-register-requires
-address-register-requires c κs = search needs
-
-wide-requires : tie.Need-wide-requires
-wide-requires c κs = search needs
-
-word-displacement-requires : tie.Need-word-displacement-requires
-word-displacement-requires c κs = search needs
-
 returns : tie.Need-returns
 returns c = rw (c .word-displacement .ensures, toZ-ofZ {w = w64} {z = c .before .wide .result} (search needs), c .before .wide .ensures, c .before .before .address-register .ensures, toZ-ofZ {w = w32} (c .before .before .before .fits .offset))
 
 pub displaced-spec : {M : Type 1} → statement M
 displaced-spec =
-    tie.close (tie.spec address-register-requires wide-requires word-displacement-requires returns)
+    tie.close (tie.spec (λ c κs. search needs) (λ c κs. search needs) (λ c κs. search needs) returns)

@@ -5,17 +5,8 @@ use Rattle.encode_spec.specs.Item.{unless, noEncoding}
 use Rattle.encode_spec.specs.Ea.{permits}
 use Rattle.encode_state.specs.Laws.{marked-next}
 
-permitted-requires : tie.Need-permitted-requires
-permitted-requires c κs = search needs
-
-allow-requires : tie.Need-allow-requires
-allow-requires c κs = search needs
-
-ea-requires : tie.Need-ea-requires
-ea-requires c κs = search needs
-
 returns : tie.Need-returns
 returns c = let a = c .before .before .before .args in rw (c .ea .ensures, c .before .allow .ensures, c .before .before .permitted .ensures, marked-next (unless (permits (a .allowed) (a .operand)) (noEncoding (a .reason))) (a .e))
 
 pub effective-spec : {M : Type 1} → statement M
-effective-spec = tie.close (tie.spec permitted-requires allow-requires ea-requires returns)
+effective-spec = tie.close (tie.spec (λ c κs. search needs) (λ c κs. search needs) (λ c κs. search needs) returns)

@@ -4,18 +4,6 @@ use Rattle.encode_ea.proofs.extended_index.Tie as tie
 use mir.Facts.{toZ-ofZ}
 use mir.Syntax.{w64, w32}
 
-base-displacement-requires : tie.Need-base-displacement-requires
-base-displacement-requires c κs = search needs
-
-is-full-requires : tie.Need-is-full-requires
-is-full-requires c κs = search needs
-
-full-requires : tie.Need-full-requires
-full-requires c κs = search needs
-
-scaled-requires : tie.Need-scaled-requires
-scaled-requires c κs = search needs
-
 returns : tie.Need-returns
 returns c = rw (c .full .ensures, toZ-ofZ {w = w64} {z = c .before .before .before .base-displacement .result} (search needs), c .before .before .before .base-displacement .ensures, toZ-ofZ {w = w32} (c .before .before .before .before .fits .displacement), toZ-ofZ {w = w32} (c .before .before .before .before .fits .outer), ← c .before .before .is-full .ensures, c .before .if1 .taken)
 
@@ -26,9 +14,9 @@ pub extended-index-spec : {M : Type 1} → statement M
 extended-index-spec =
     tie.close
     (tie.spec
-    base-displacement-requires
-    is-full-requires
-    full-requires
-    scaled-requires
+    (λ c κs. search needs)
+    (λ c κs. search needs)
+    (λ c κs. search needs)
+    (λ c κs. search needs)
     returns
     returns-2)

@@ -5,24 +5,6 @@ use mir.Facts.{toZ-ofZ}
 use mir.Syntax.{w64, w32}
 use Rattle.encode_state.specs.Laws.{run-append}
 
-word-requires : tie.Need-word-requires
-word-requires c κs = search needs
-
-base-displacement-size-requires : tie.Need-base-displacement-size-requires
-base-displacement-size-requires c κs = search needs
-
-displacement-requires : tie.Need-displacement-requires
-displacement-requires c κs = search needs
-
-outer-displacement-size-requires : tie.Need-outer-displacement-size-requires
-outer-displacement-size-requires c κs = search needs
-
-wide-requires : tie.Need-wide-requires
-wide-requires c κs = search needs
-
-displacement-requires-2 : tie.Need-displacement-requires-2
-displacement-requires-2 c κs = search needs
-
 returns : tie.Need-returns
 returns c = rw (run-append, c .displacement2 .ensures, toZ-ofZ {w = w64} {z = c .before .wide .result} (search needs), c .before .wide .ensures, c .before .before .outer-displacement-size .ensures, c .before .before .before .displacement .ensures, c .before .before .before .before .base-displacement-size .ensures, c .before .before .before .before .before .word .ensures, toZ-ofZ {w = w64} (c .before .before .before .before .before .before .fits .z), toZ-ofZ {w = w32} (c .before .before .before .before .before .before .fits .outer))
 
@@ -30,10 +12,10 @@ pub full-spec : {M : Type 1} → statement M
 full-spec =
     tie.close
     (tie.spec
-    word-requires
-    base-displacement-size-requires
-    displacement-requires
-    outer-displacement-size-requires
-    wide-requires
-    displacement-requires-2
+    (λ c κs. search needs)
+    (λ c κs. search needs)
+    (λ c κs. search needs)
+    (λ c κs. search needs)
+    (λ c κs. search needs)
+    (λ c κs. search needs)
     returns)

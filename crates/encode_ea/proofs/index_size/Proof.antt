@@ -2,18 +2,6 @@ use borrow.Author.Needs.{needs}
 use Rattle.encode_ea.proofs.index_size.Statement.{statement}
 use Rattle.encode_ea.proofs.index_size.Tie as tie
 
-enum-told : tie.Need-enum-told
-enum-told c = search needs
-
-no-encoding-requires : tie.Need-no-encoding-requires
-no-encoding-requires c κs = search needs
-
-enum-told-2 : tie.Need-enum-told-2
-enum-told-2 c = search needs
-
-enum-told-3 : tie.Need-enum-told-3
-enum-told-3 c = search needs
-
 returns : tie.Need-returns
 returns c = rw (c .before .enum-told .given .1) (c .no-encoding .ensures)
 
@@ -26,4 +14,4 @@ returns-3 c = rw (c .enum-told3 .given .1)
 pub index-size-spec : {M : Type 1} → statement M
 index-size-spec =
     tie.close
-    (tie.spec enum-told no-encoding-requires enum-told-2 enum-told-3 returns returns-2 returns-3)
+    (tie.spec (λ c. search needs) (λ c κs. search needs) (λ c. search needs) (λ c. search needs) returns returns-2 returns-3)

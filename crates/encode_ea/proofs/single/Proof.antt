@@ -3,18 +3,9 @@ use Rattle.encode_ea.proofs.single.Statement.{statement}
 use Rattle.encode_ea.proofs.single.Tie as tie
 use Rattle.encode_spec.specs.Ea.{single}
 
-ea-field-requires : tie.Need-ea-field-requires
-ea-field-requires c κs = search needs
-
-operation-requires : tie.Need-operation-requires
-operation-requires c κs = search needs
-
-effective-requires : tie.Need-effective-requires
-effective-requires c κs = search needs
-
 returns : tie.Need-returns
 unfolding single
 returns c = rw (c .effective .ensures, c .before .operation .ensures, c .before .before .ea-field .ensures .0)
 
 pub single-spec : {M : Type 1} → statement M
-single-spec = tie.close (tie.spec ea-field-requires operation-requires effective-requires returns)
+single-spec = tie.close (tie.spec (λ c κs. search needs) (λ c κs. search needs) (λ c κs. search needs) returns)

@@ -4,21 +4,6 @@ use Rattle.encode_logic.proofs.count_bits.Tie as tie
 use native.Mathlib.Omega.{arith}
 use mathlib.Core.Path.{refl}
 
-is-register-requires : tie.Need-is-register-requires
-is-register-requires c κs = search needs
-
-register-in-requires : tie.Need-register-in-requires
-register-in-requires c κs = search needs
-
-register-bits-requires : tie.Need-register-bits-requires
-register-bits-requires c κs = search needs
-
-immediate-in-requires : tie.Need-immediate-in-requires
-immediate-in-requires c κs = search needs
-
-cast-result : tie.Need-cast-result
-cast-result c = search needs
-
 returns : tie.Need-returns
 returns c = rw (← c .before .before .before .is-register .ensures, c .before .before .if1 .taken) (rw (c .before .register-in .ensures) at (c .register-bits .ensures))
 
@@ -29,10 +14,10 @@ pub count-bits-spec : {M : Type 1} → statement M
 count-bits-spec =
     tie.close
     (tie.spec
-    is-register-requires
-    register-in-requires
-    register-bits-requires
-    immediate-in-requires
-    cast-result
+    (λ c κs. search needs)
+    (λ c κs. search needs)
+    (λ c κs. search needs)
+    (λ c κs. search needs)
+    (λ c. search needs)
     returns
     returns-2)

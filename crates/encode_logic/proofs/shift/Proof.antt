@@ -3,18 +3,6 @@ use Rattle.encode_logic.proofs.shift.Statement.{statement}
 use Rattle.encode_logic.proofs.shift.Tie as tie
 use Rattle.encode_spec.specs.Logic.{shiftParts}
 
-is-register-requires : tie.Need-is-register-requires
-is-register-requires c κs = search needs
-
-register-in-requires : tie.Need-register-in-requires
-register-in-requires c κs = search needs
-
-shift-register-requires : tie.Need-shift-register-requires
-shift-register-requires c κs = search needs
-
-shift-memory-requires : tie.Need-shift-memory-requires
-shift-memory-requires c κs = search needs
-
 returns : tie.Need-returns
 unfolding shiftParts
 returns c = rw (c .shift-register .ensures, c .before .register-in .ensures, ← c .before .before .before .is-register .ensures, c .before .before .if1 .taken)
@@ -27,9 +15,9 @@ pub shift-spec : {M : Type 1} → statement M
 shift-spec =
     tie.close
     (tie.spec
-    is-register-requires
-    register-in-requires
-    shift-register-requires
-    shift-memory-requires
+    (λ c κs. search needs)
+    (λ c κs. search needs)
+    (λ c κs. search needs)
+    (λ c κs. search needs)
     returns
     returns-2)

@@ -4,30 +4,6 @@ use Rattle.encode_logic.proofs.shift_count.Tie as tie
 use mir.Facts.{toZ-pos}
 use mir.Syntax.{w64}
 
-is-register-requires : tie.Need-is-register-requires
-is-register-requires c κs = search needs
-
-register-in-requires : tie.Need-register-in-requires
-register-in-requires c κs = search needs
-
-data-register-requires : tie.Need-data-register-requires
-data-register-requires c κs = search needs
-
-is-immediate-requires : tie.Need-is-immediate-requires
-is-immediate-requires c κs = search needs
-
-immediate-in-requires : tie.Need-immediate-in-requires
-immediate-in-requires c κs = search needs
-
-cast-fits : tie.Need-cast-fits
-cast-fits c = search needs
-
-fits-requires : tie.Need-fits-requires
-fits-requires c κs = search needs
-
-no-encoding-requires : tie.Need-no-encoding-requires
-no-encoding-requires c κs = search needs
-
 returns : tie.Need-returns
 returns c = rw (c .data-register .ensures, c .before .register-in .ensures, ← c .before .before .before .is-register .ensures, c .before .before .if1 .taken)
 
@@ -41,14 +17,14 @@ pub shift-count-spec : {M : Type 1} → statement M
 shift-count-spec =
     tie.close
     (tie.spec
-    is-register-requires
-    register-in-requires
-    data-register-requires
-    is-immediate-requires
-    immediate-in-requires
-    cast-fits
-    fits-requires
-    no-encoding-requires
+    (λ c κs. search needs)
+    (λ c κs. search needs)
+    (λ c κs. search needs)
+    (λ c κs. search needs)
+    (λ c κs. search needs)
+    (λ c. search needs)
+    (λ c κs. search needs)
+    (λ c κs. search needs)
     returns
     returns-2
     returns-3)

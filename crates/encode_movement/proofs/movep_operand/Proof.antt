@@ -31,17 +31,8 @@ other (PcIndex t x) k = refl
 other (Extended b w z o) k = refl
 other (Absolute a w) k = refl
 
-enum-known-target : tie.Need-enum-known-target
-enum-known-target c = search needs
-
-no-encoding-requires : tie.Need-no-encoding-requires
-no-encoding-requires c κs = search needs
-
 returns : tie.Need-returns
 returns c = rw (other (c .before .before .args .target) (c .before .match .keys2)) (c .no-encoding .ensures)
-
-displaced-requires : tie.Need-displaced-requires
-displaced-requires c κs = search needs
 
 returns-2 : tie.Need-returns-2
 returns-2 c = rw (c .before .before .target .given .1) (rw (toZ-ofZ {w = w32} {z = c .before .before .target .given .0 .0} (search needs)) at (c .displaced .ensures))
@@ -49,4 +40,4 @@ returns-2 c = rw (c .before .before .target .given .1) (rw (toZ-ofZ {w = w32} {z
 pub movep-operand-spec : {M : Type 1} → statement M
 movep-operand-spec =
     tie.close
-    (tie.spec enum-known-target no-encoding-requires returns displaced-requires returns-2)
+    (tie.spec (λ c. search needs) (λ c κs. search needs) returns (λ c κs. search needs) returns-2)

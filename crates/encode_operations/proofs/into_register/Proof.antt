@@ -3,48 +3,6 @@ use Rattle.encode_operations.proofs.into_register.Statement.{statement}
 use Rattle.encode_operations.proofs.into_register.Tie as tie
 use Rattle.encode_spec.specs.Instruction.{registerParts}
 
-enum-told : tie.Need-enum-told
-enum-told c = search needs
-
-into-address-requires : tie.Need-into-address-requires
-into-address-requires c κs = search needs
-
-enum-told-2 : tie.Need-enum-told-2
-enum-told-2 c = search needs
-
-into-address-requires-2 : tie.Need-into-address-requires-2
-into-address-requires-2 c κs = search needs
-
-enum-told-3 : tie.Need-enum-told-3
-enum-told-3 c = search needs
-
-into-address-requires-3 : tie.Need-into-address-requires-3
-into-address-requires-3 c κs = search needs
-
-enum-told-4 : tie.Need-enum-told-4
-enum-told-4 c = search needs
-
-movea-requires : tie.Need-movea-requires
-movea-requires c κs = search needs
-
-enum-told-5 : tie.Need-enum-told-5
-enum-told-5 c = search needs
-
-into-data-requires : tie.Need-into-data-requires
-into-data-requires c κs = search needs
-
-enum-told-6 : tie.Need-enum-told-6
-enum-told-6 c = search needs
-
-bounds-requires : tie.Need-bounds-requires
-bounds-requires c κs = search needs
-
-enum-told-7 : tie.Need-enum-told-7
-enum-told-7 c = search needs
-
-bounds-requires-2 : tie.Need-bounds-requires-2
-bounds-requires-2 c κs = search needs
-
 returns : tie.Need-returns
 unfolding registerParts
 returns c = rw (c .into-address .ensures, c .before .enum-told .given .1)
@@ -77,20 +35,20 @@ pub into-register-spec : {M : Type 1} → statement M
 into-register-spec =
     tie.close
     (tie.spec
-    enum-told
-    into-address-requires
-    enum-told-2
-    into-address-requires-2
-    enum-told-3
-    into-address-requires-3
-    enum-told-4
-    movea-requires
-    enum-told-5
-    into-data-requires
-    enum-told-6
-    bounds-requires
-    enum-told-7
-    bounds-requires-2
+    (λ c. search needs)
+    (λ c κs. search needs)
+    (λ c. search needs)
+    (λ c κs. search needs)
+    (λ c. search needs)
+    (λ c κs. search needs)
+    (λ c. search needs)
+    (λ c κs. search needs)
+    (λ c. search needs)
+    (λ c κs. search needs)
+    (λ c. search needs)
+    (λ c κs. search needs)
+    (λ c. search needs)
+    (λ c κs. search needs)
     returns
     returns-2
     returns-3

@@ -3,18 +3,6 @@ use Rattle.encode_operations.proofs.links.Statement.{statement}
 use Rattle.encode_operations.proofs.links.Tie as tie
 use Rattle.encode_spec.specs.Instruction.{linksParts}
 
-enum-told : tie.Need-enum-told
-enum-told c = search needs
-
-link-requires : tie.Need-link-requires
-link-requires c κs = search needs
-
-enum-told-2 : tie.Need-enum-told-2
-enum-told-2 c = search needs
-
-linkl-requires : tie.Need-linkl-requires
-linkl-requires c κs = search needs
-
 returns : tie.Need-returns
 unfolding linksParts
 returns c = rw (c .link .ensures, c .before .enum-told .given .1)
@@ -25,4 +13,4 @@ returns-2 c = rw (c .linkl .ensures, c .before .enum-told2 .given .1)
 
 pub links-spec : {M : Type 1} → statement M
 links-spec =
-    tie.close (tie.spec enum-told link-requires enum-told-2 linkl-requires returns returns-2)
+    tie.close (tie.spec (λ c. search needs) (λ c κs. search needs) (λ c. search needs) (λ c κs. search needs) returns returns-2)

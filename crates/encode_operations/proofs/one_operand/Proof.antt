@@ -3,39 +3,6 @@ use Rattle.encode_operations.proofs.one_operand.Statement.{statement}
 use Rattle.encode_operations.proofs.one_operand.Tie as tie
 use Rattle.encode_spec.specs.Instruction.{oneParts}
 
-standard-size-requires : tie.Need-standard-size-requires
-standard-size-requires c κs = search needs
-
-enum-told : tie.Need-enum-told
-enum-told c = search needs
-
-written-requires : tie.Need-written-requires
-written-requires c κs = search needs
-
-enum-told-2 : tie.Need-enum-told-2
-enum-told-2 c = search needs
-
-written-requires-2 : tie.Need-written-requires-2
-written-requires-2 c κs = search needs
-
-enum-told-3 : tie.Need-enum-told-3
-enum-told-3 c = search needs
-
-written-requires-3 : tie.Need-written-requires-3
-written-requires-3 c κs = search needs
-
-enum-told-4 : tie.Need-enum-told-4
-enum-told-4 c = search needs
-
-written-requires-4 : tie.Need-written-requires-4
-written-requires-4 c κs = search needs
-
-enum-told-5 : tie.Need-enum-told-5
-enum-told-5 c = search needs
-
-tst-requires : tie.Need-tst-requires
-tst-requires c κs = search needs
-
 returns : tie.Need-returns
 unfolding oneParts
 returns c = rw (c .written .ensures, c .before .enum-told .given .1, c .before .before .before .standard-size .ensures .0)
@@ -60,17 +27,17 @@ pub one-operand-spec : {M : Type 1} → statement M
 one-operand-spec =
     tie.close
     (tie.spec
-    standard-size-requires
-    enum-told
-    written-requires
-    enum-told-2
-    written-requires-2
-    enum-told-3
-    written-requires-3
-    enum-told-4
-    written-requires-4
-    enum-told-5
-    tst-requires
+    (λ c κs. search needs)
+    (λ c. search needs)
+    (λ c κs. search needs)
+    (λ c. search needs)
+    (λ c κs. search needs)
+    (λ c. search needs)
+    (λ c κs. search needs)
+    (λ c. search needs)
+    (λ c κs. search needs)
+    (λ c. search needs)
+    (λ c κs. search needs)
     returns
     returns-2
     returns-3

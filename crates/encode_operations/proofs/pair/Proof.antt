@@ -3,72 +3,6 @@ use Rattle.encode_operations.proofs.pair.Statement.{statement}
 use Rattle.encode_operations.proofs.pair.Tie as tie
 use Rattle.encode_spec.specs.Instruction.{pairParts}
 
-enum-told : tie.Need-enum-told
-enum-told c = search needs
-
-move-data-requires : tie.Need-move-data-requires
-move-data-requires c κs = search needs
-
-enum-told-2 : tie.Need-enum-told-2
-enum-told-2 c = search needs
-
-arithmetic-requires : tie.Need-arithmetic-requires
-arithmetic-requires c κs = search needs
-
-enum-told-3 : tie.Need-enum-told-3
-enum-told-3 c = search needs
-
-arithmetic-requires-2 : tie.Need-arithmetic-requires-2
-arithmetic-requires-2 c κs = search needs
-
-enum-told-4 : tie.Need-enum-told-4
-enum-told-4 c = search needs
-
-standard-size-requires : tie.Need-standard-size-requires
-standard-size-requires c κs = search needs
-
-add-extended : tie.Need-add-extended
-add-extended c = search needs
-
-extended-requires : tie.Need-extended-requires
-extended-requires c κs = search needs
-
-enum-told-5 : tie.Need-enum-told-5
-enum-told-5 c = search needs
-
-standard-size-requires-2 : tie.Need-standard-size-requires-2
-standard-size-requires-2 c κs = search needs
-
-add-extended-2 : tie.Need-add-extended-2
-add-extended-2 c = search needs
-
-extended-requires-2 : tie.Need-extended-requires-2
-extended-requires-2 c κs = search needs
-
-enum-told-6 : tie.Need-enum-told-6
-enum-told-6 c = search needs
-
-cmpm-requires : tie.Need-cmpm-requires
-cmpm-requires c κs = search needs
-
-enum-told-7 : tie.Need-enum-told-7
-enum-told-7 c = search needs
-
-logical-requires : tie.Need-logical-requires
-logical-requires c κs = search needs
-
-enum-told-8 : tie.Need-enum-told-8
-enum-told-8 c = search needs
-
-logical-requires-2 : tie.Need-logical-requires-2
-logical-requires-2 c κs = search needs
-
-enum-told-9 : tie.Need-enum-told-9
-enum-told-9 c = search needs
-
-from-data-requires : tie.Need-from-data-requires
-from-data-requires c κs = search needs
-
 returns : tie.Need-returns
 unfolding pairParts
 returns c = rw (c .move-data .ensures, c .before .enum-told .given .1)
@@ -109,28 +43,28 @@ pub pair-spec : {M : Type 1} → statement M
 pair-spec =
     tie.close
     (tie.spec
-    enum-told
-    move-data-requires
-    enum-told-2
-    arithmetic-requires
-    enum-told-3
-    arithmetic-requires-2
-    enum-told-4
-    standard-size-requires
-    add-extended
-    extended-requires
-    enum-told-5
-    standard-size-requires-2
-    add-extended-2
-    extended-requires-2
-    enum-told-6
-    cmpm-requires
-    enum-told-7
-    logical-requires
-    enum-told-8
-    logical-requires-2
-    enum-told-9
-    from-data-requires
+    (λ c. search needs)
+    (λ c κs. search needs)
+    (λ c. search needs)
+    (λ c κs. search needs)
+    (λ c. search needs)
+    (λ c κs. search needs)
+    (λ c. search needs)
+    (λ c κs. search needs)
+    (λ c. search needs)
+    (λ c κs. search needs)
+    (λ c. search needs)
+    (λ c κs. search needs)
+    (λ c. search needs)
+    (λ c κs. search needs)
+    (λ c. search needs)
+    (λ c κs. search needs)
+    (λ c. search needs)
+    (λ c κs. search needs)
+    (λ c. search needs)
+    (λ c κs. search needs)
+    (λ c. search needs)
+    (λ c κs. search needs)
     returns
     returns-2
     returns-3

@@ -3,24 +3,6 @@ use Rattle.encode_operations.proofs.unsized_into_register.Statement.{st
 use Rattle.encode_operations.proofs.unsized_into_register.Tie as tie
 use Rattle.encode_spec.specs.Instruction.{unsizedRegisterParts}
 
-enum-told : tie.Need-enum-told
-enum-told c = search needs
-
-with-address-requires : tie.Need-with-address-requires
-with-address-requires c κs = search needs
-
-enum-told-2 : tie.Need-enum-told-2
-enum-told-2 c = search needs
-
-with-data-requires : tie.Need-with-data-requires
-with-data-requires c κs = search needs
-
-enum-told-3 : tie.Need-enum-told-3
-enum-told-3 c = search needs
-
-with-data-requires-2 : tie.Need-with-data-requires-2
-with-data-requires-2 c κs = search needs
-
 returns : tie.Need-returns
 unfolding unsizedRegisterParts
 returns c = rw (c .with-address .ensures, c .before .enum-told .given .1)
@@ -37,12 +19,12 @@ pub unsized-into-register-spec : {M : Type 1} → statement M
 unsized-into-register-spec =
     tie.close
     (tie.spec
-    enum-told
-    with-address-requires
-    enum-told-2
-    with-data-requires
-    enum-told-3
-    with-data-requires-2
+    (λ c. search needs)
+    (λ c κs. search needs)
+    (λ c. search needs)
+    (λ c κs. search needs)
+    (λ c. search needs)
+    (λ c κs. search needs)
     returns
     returns-2
     returns-3)

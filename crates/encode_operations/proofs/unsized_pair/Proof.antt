@@ -3,42 +3,6 @@ use Rattle.encode_operations.proofs.unsized_pair.Statement.{statement}
 use Rattle.encode_operations.proofs.unsized_pair.Tie as tie
 use Rattle.encode_spec.specs.Instruction.{unsizedPairParts}
 
-enum-told : tie.Need-enum-told
-enum-told c = search needs
-
-extended-requires : tie.Need-extended-requires
-extended-requires c κs = search needs
-
-enum-told-2 : tie.Need-enum-told-2
-enum-told-2 c = search needs
-
-extended-requires-2 : tie.Need-extended-requires-2
-extended-requires-2 c κs = search needs
-
-enum-told-3 : tie.Need-enum-told-3
-enum-told-3 c = search needs
-
-bit-requires : tie.Need-bit-requires
-bit-requires c κs = search needs
-
-enum-told-4 : tie.Need-enum-told-4
-enum-told-4 c = search needs
-
-bit-requires-2 : tie.Need-bit-requires-2
-bit-requires-2 c κs = search needs
-
-enum-told-5 : tie.Need-enum-told-5
-enum-told-5 c = search needs
-
-bit-requires-3 : tie.Need-bit-requires-3
-bit-requires-3 c κs = search needs
-
-enum-told-6 : tie.Need-enum-told-6
-enum-told-6 c = search needs
-
-bit-requires-4 : tie.Need-bit-requires-4
-bit-requires-4 c κs = search needs
-
 returns : tie.Need-returns
 unfolding unsizedPairParts
 returns c = rw (c .extended .ensures, c .before .enum-told .given .1)
@@ -67,18 +31,18 @@ pub unsized-pair-spec : {M : Type 1} → statement M
 unsized-pair-spec =
     tie.close
     (tie.spec
-    enum-told
-    extended-requires
-    enum-told-2
-    extended-requires-2
-    enum-told-3
-    bit-requires
-    enum-told-4
-    bit-requires-2
-    enum-told-5
-    bit-requires-3
-    enum-told-6
-    bit-requires-4
+    (λ c. search needs)
+    (λ c κs. search needs)
+    (λ c. search needs)
+    (λ c κs. search needs)
+    (λ c. search needs)
+    (λ c κs. search needs)
+    (λ c. search needs)
+    (λ c κs. search needs)
+    (λ c. search needs)
+    (λ c κs. search needs)
+    (λ c. search needs)
+    (λ c κs. search needs)
     returns
     returns-2
     returns-3

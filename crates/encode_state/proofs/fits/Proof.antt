@@ -6,12 +6,6 @@ use mir.Syntax.{w64}
 use mathlib.Core.Path.{_∙_, sym}
 use Rattle.encode_state.proofs.Laws.{held, not-held, unchecked}
 
-holds-requires : tie.Need-holds-requires
-holds-requires c κs = search needs
-
-out-of-range-requires : tie.Need-out-of-range-requires
-out-of-range-requires c κs = search needs
-
 returns : tie.Need-returns
 returns c = let a = c .before .before .before .args in sym (held (a .e) (a .field) (a .value) (c .before .before .if1 .taken) (rw (toZ-ofZ {w = w64} (c .before .before .before .fits .value)) at (sym (c .before .holds .ensures) ∙ c .if2 .taken)))
 
@@ -22,4 +16,4 @@ returns-3 : tie.Need-returns-3
 returns-3 c = let a = c .before .args in sym (unchecked (a .e) (a .field) (a .value) (c .if1 .left))
 
 pub fits-spec : {M : Type 1} → statement M
-fits-spec = tie.close (tie.spec holds-requires out-of-range-requires returns returns-2 returns-3)
+fits-spec = tie.close (tie.spec (λ c κs. search needs) (λ c κs. search needs) returns returns-2 returns-3)

@@ -5,12 +5,6 @@ use borrow.Author.Tests.{lt-ltb, le-ltb}
 use mir.Facts.{toZ-pos}
 use mir.Syntax.{w64}
 
-cast-out-of-range : tie.Need-cast-out-of-range
-cast-out-of-range c = search needs
-
-out-of-range-requires : tie.Need-out-of-range-requires
-out-of-range-requires c κs = search needs
-
 returns : tie.Need-returns
 returns c = rw (lt-ltb _ _ (c .if1 .taken))
 
@@ -18,4 +12,4 @@ returns-2 : tie.Need-returns-2
 returns-2 c = rw (le-ltb _ _ (c .before .if1 .left)) (rw (toZ-pos w64 {n = c .before .before .args .n} (search needs)) at (c .out-of-range .ensures))
 
 pub register-spec : {M : Type 1} → statement M
-register-spec = tie.close (tie.spec cast-out-of-range out-of-range-requires returns returns-2)
+register-spec = tie.close (tie.spec (λ c. search needs) (λ c κs. search needs) returns returns-2)

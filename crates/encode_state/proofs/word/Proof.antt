@@ -4,15 +4,6 @@ use Rattle.encode_state.proofs.word.Tie as tie
 use borrow.Author.Tests.{lt-ltb, le-ltb, eq-eqb, ne-eqb}
 use Rattle.encode_state.specs.Encoder.{pushed}
 
-mul-n : tie.Need-mul-n
-mul-n c = search needs
-
-element-write-n : tie.Need-element-write-n
-element-write-n c = search needs
-
-add-n : tie.Need-add-n
-add-n c = search needs
-
 returns : tie.Need-returns
 unfolding pushed
 returns c = rw (eq-eqb _ _ (c .before .if1 .taken), lt-ltb _ _ (c .if2 .taken))
@@ -26,4 +17,4 @@ unfolding pushed
 returns-3 c = rw (ne-eqb _ _ (c .if1 .left))
 
 pub word-spec : {M : Type 1} → statement M
-word-spec = tie.close (tie.spec mul-n element-write-n add-n returns returns-2 returns-3)
+word-spec = tie.close (tie.spec (λ c. search needs) (λ c. search needs) (λ c. search needs) returns returns-2 returns-3)

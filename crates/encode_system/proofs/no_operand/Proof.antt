@@ -3,54 +3,6 @@ use Rattle.encode_system.proofs.no_operand.Statement.{statement}
 use Rattle.encode_system.proofs.no_operand.Tie as tie
 use Rattle.encode_spec.specs.System.{noOperandParts}
 
-enum-told : tie.Need-enum-told
-enum-told c = search needs
-
-operation-requires : tie.Need-operation-requires
-operation-requires c κs = search needs
-
-enum-told-2 : tie.Need-enum-told-2
-enum-told-2 c = search needs
-
-operation-requires-2 : tie.Need-operation-requires-2
-operation-requires-2 c κs = search needs
-
-enum-told-3 : tie.Need-enum-told-3
-enum-told-3 c = search needs
-
-operation-requires-3 : tie.Need-operation-requires-3
-operation-requires-3 c κs = search needs
-
-enum-told-4 : tie.Need-enum-told-4
-enum-told-4 c = search needs
-
-operation-requires-4 : tie.Need-operation-requires-4
-operation-requires-4 c κs = search needs
-
-enum-told-5 : tie.Need-enum-told-5
-enum-told-5 c = search needs
-
-operation-requires-5 : tie.Need-operation-requires-5
-operation-requires-5 c κs = search needs
-
-enum-told-6 : tie.Need-enum-told-6
-enum-told-6 c = search needs
-
-operation-requires-6 : tie.Need-operation-requires-6
-operation-requires-6 c κs = search needs
-
-enum-told-7 : tie.Need-enum-told-7
-enum-told-7 c = search needs
-
-operation-requires-7 : tie.Need-operation-requires-7
-operation-requires-7 c κs = search needs
-
-enum-told-8 : tie.Need-enum-told-8
-enum-told-8 c = search needs
-
-long-requires : tie.Need-long-requires
-long-requires c κs = search needs
-
 returns : tie.Need-returns
 unfolding noOperandParts
 returns c = rw (c .operation .ensures, c .before .enum-told .given .1)
@@ -87,22 +39,22 @@ pub no-operand-spec : {M : Type 1} → statement M
 no-operand-spec =
     tie.close
     (tie.spec
-    enum-told
-    operation-requires
-    enum-told-2
-    operation-requires-2
-    enum-told-3
-    operation-requires-3
-    enum-told-4
-    operation-requires-4
-    enum-told-5
-    operation-requires-5
-    enum-told-6
-    operation-requires-6
-    enum-told-7
-    operation-requires-7
-    enum-told-8
-    long-requires
+    (λ c. search needs)
+    (λ c κs. search needs)
+    (λ c. search needs)
+    (λ c κs. search needs)
+    (λ c. search needs)
+    (λ c κs. search needs)
+    (λ c. search needs)
+    (λ c κs. search needs)
+    (λ c. search needs)
+    (λ c κs. search needs)
+    (λ c. search needs)
+    (λ c κs. search needs)
+    (λ c. search needs)
+    (λ c κs. search needs)
+    (λ c. search needs)
+    (λ c κs. search needs)
     returns
     returns-2
     returns-3

@@ -3,15 +3,9 @@ use Rattle.isa_operands.proofs.byte_of_address.Statement.{statement}
 use Rattle.isa_operands.proofs.byte_of_address.Tie as tie
 use Rattle.encode_spec.specs.Ea.{byteOfAddress}
 
-is-byte-requires : tie.Need-is-byte-requires
-is-byte-requires c κs = search needs
-
-mode-of-requires : tie.Need-mode-of-requires
-mode-of-requires c κs = search needs
-
 returns : tie.Need-returns
 unfolding byteOfAddress
 returns c = rw (c .mode-of .ensures .0, c .before .is-byte .ensures)
 
 pub byte-of-address-spec : {M : Type 1} → statement M
-byte-of-address-spec = tie.close (tie.spec is-byte-requires mode-of-requires returns)
+byte-of-address-spec = tie.close (tie.spec (λ c κs. search needs) (λ c κs. search needs) returns)

@@ -5,9 +5,6 @@ use borrow.Author.Tests.{lt-ltb, le-ltb}
 use native.Mathlib.Omega.{arith}
 use mathlib.Core.Path.{refl}
 
-cast-result : tie.Need-cast-result
-cast-result c = search needs
-
 returns : tie.Need-returns
 returns c = rw (lt-ltb _ _ (c .if1 .taken)) (refl, omega arith)
 
@@ -15,4 +12,4 @@ returns-2 : tie.Need-returns-2
 returns-2 c = rw (le-ltb _ _ (c .if1 .left)) (refl, omega arith)
 
 pub extended-register-field-spec : {M : Type 1} → statement M
-extended-register-field-spec = tie.close (tie.spec cast-result returns returns-2)
+extended-register-field-spec = tie.close (tie.spec (λ c. search needs) returns returns-2)

@@ -2,11 +2,8 @@ use borrow.Author.Needs.{needs}
 use Rattle.isa_operands.proofs.is_extended_typed.Statement.{statement}
 use Rattle.isa_operands.proofs.is_extended_typed.Tie as tie
 
-is-canonical-requires : tie.Need-is-canonical-requires
-is-canonical-requires c κs = search needs
-
 returns : tie.Need-returns
 returns c = rw (c .is-canonical .ensures)
 
 pub is-extended-typed-spec : {M : Type 1} → statement M
-is-extended-typed-spec = tie.close (tie.spec is-canonical-requires returns)
+is-extended-typed-spec = tie.close (tie.spec (λ c κs. search needs) returns)

@@ -7,9 +7,6 @@ use Prim.Native.Nat.{_<_}
 use lib.ListN.{length}
 use Rattle.m68k.specs.Laws.{encode-most, places-law, bytes-refused, bytes-short, bytes-done}
 
-encode-requires : tie.Need-encode-requires
-encode-requires c κs = search needs
-
 measure-requires : tie.Need-measure-requires
 measure-requires c κs = let a = c .before .before .before .before .args in rw (c .before .before .encode .ensures) (encode-most (a .instruction) (a .address))
 
@@ -28,9 +25,6 @@ put-bytes-requires c κs = let a = c .before .before .before .before .before .be
 measure-requires-2 : tie.Need-measure-requires-2
 measure-requires-2 c κs = let a = c .before .before .before .before .before .before .before .before .before .before .args in rw (c .before .before .before .before .before .before .before .before .encode .ensures) (encode-most (a .instruction) (a .address))
 
-same-length : tie.Need-same-length
-same-length c = search needs
-
 returns-3 : tie.Need-returns-3
 returns-3 c = let a = c .before .before .before .before .before .before .before .before .before .before .before .args in let e = c .before .before .before .before .before .before .before .before .before .encode .ensures in rw (c .measure2 .ensures, c .before .before .before .put-bytes .ensures, e) (bytes-done (a .instruction) (a .address) (a .lent .now) (rw e at (c .before .before .before .before .before .before .before .if1 .left)) (rw e at (c .before .before .before .before .before .before .if2 .left)))
 
@@ -38,12 +32,12 @@ pub encode-bytes-spec : {M : Type 1} → statement M
 encode-bytes-spec =
     tie.close
     (tie.spec
-    encode-requires
+    (λ c κs. search needs)
     measure-requires
     returns
     mul-if2
     returns-2
     put-bytes-requires
     measure-requires-2
-    same-length
+    (λ c. search needs)
     returns-3)

@@ -8,15 +8,6 @@ use Rattle.encode_spec.specs.Instruction.{partsOf}
 use Rattle.encode_state.specs.Laws.{view}
 use Rattle.m68k.specs.Laws.{few, count-most}
 
-begin-requires : tie.Need-begin-requires
-begin-requires c κs = search needs
-
-instruction-words-requires : tie.Need-instruction-words-requires
-instruction-words-requires c κs = search needs
-
-finish-requires : tie.Need-finish-requires
-finish-requires c κs = search needs
-
 returns : tie.Need-returns
 returns c =
     let a = c .before .before .before .args in
@@ -27,4 +18,4 @@ returns c =
 
 pub encoded-spec : {M : Type 1} → statement M
 encoded-spec =
-    tie.close (tie.spec begin-requires instruction-words-requires finish-requires returns)
+    tie.close (tie.spec (λ c κs. search needs) (λ c κs. search needs) (λ c κs. search needs) returns)

@@ -5,9 +5,6 @@ use mathlib.Core.Bool.{false}
 use Rattle.encode_spec.specs.Encode.{sizeOf, refusalOf, wordsOf}
 use Rattle.m68k.specs.Laws.{measured-as}
 
-encoded-requires : tie.Need-encoded-requires
-encoded-requires c κs = search needs
-
 measure-requires : tie.Need-measure-requires
 measure-requires c κs = c .encoded .ensures .1
 
@@ -16,4 +13,4 @@ unfolding sizeOf
 returns c = let a = c .before .before .args in rw (c .measure .ensures, c .before .encoded .ensures .0) (measured-as (refusalOf false (a .instruction) 0) (wordsOf (a .instruction) 0))
 
 pub size-spec : {M : Type 1} → statement M
-size-spec = tie.close (tie.spec encoded-requires measure-requires returns)
+size-spec = tie.close (tie.spec (λ c κs. search needs) measure-requires returns)

@@ -7,9 +7,6 @@ use Rattle.m68k_round_trip.proofs.InTypes.{instruction-typed}
 use Rattle.m68k_round_trip.proofs.read_back.Statement.{statement}
 use Rattle.m68k_round_trip.proofs.read_back.Tie as tie
 
-encode-requires : tie.Need-encode-requires
-encode-requires c κs = search needs
-
 array-share-prefix-words : tie.Need-array-share-prefix-words
 array-share-prefix-words c =
     let a = c .before .before .args in
@@ -22,9 +19,6 @@ slice-aggregate-read c =
     take-count (e .result .count) (e .result .words)
     (rw (e .ensures) (omega (arith, encode-most (a .instruction) (a .address), places-law (a .instruction) (a .address))))
 
-read-requires : tie.Need-read-requires
-read-requires c κs = search needs
-
 returns : tie.Need-returns
 returns c =
     let s = c .before .before .before .before in
@@ -34,4 +28,4 @@ returns c =
 pub read-back-spec : {M : Type 1} → statement M
 read-back-spec =
     tie.close
-    (tie.spec encode-requires array-share-prefix-words slice-aggregate-read read-requires returns)
+    (tie.spec (λ c κs. search needs) array-share-prefix-words slice-aggregate-read (λ c κs. search needs) returns)

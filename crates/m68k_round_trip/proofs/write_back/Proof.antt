@@ -8,27 +8,6 @@ use Rattle.m68k_round_trip.specs.RoundTrip.{words-all, writtenBack, writ
 use Rattle.m68k_round_trip.proofs.write_back.Statement.{statement}
 use Rattle.m68k_round_trip.proofs.write_back.Tie as tie
 
-read-requires : tie.Need-read-requires
-read-requires c κs = search needs
-
-enum-known-reading : tie.Need-enum-known-reading
-enum-known-reading c = search needs
-
-encode-requires : tie.Need-encode-requires
-encode-requires c κs = search needs
-
-enum-told : tie.Need-enum-told
-enum-told c = search needs
-
-refused-requires : tie.Need-refused-requires
-refused-requires c κs = search needs
-
-enum-told-2 : tie.Need-enum-told-2
-enum-told-2 c = search needs
-
-refused-requires-2 : tie.Need-refused-requires-2
-refused-requires-2 c κs = search needs
-
 returns : tie.Need-returns
 returns c =
     let s = c .before .before .before .before .before .before in
@@ -51,13 +30,13 @@ pub write-back-spec : {M : Type 1} → statement M
 write-back-spec =
     tie.close
     (tie.spec
-    read-requires
-    enum-known-reading
-    encode-requires
-    enum-told
-    refused-requires
-    enum-told-2
-    refused-requires-2
+    (λ c κs. search needs)
+    (λ c. search needs)
+    (λ c κs. search needs)
+    (λ c. search needs)
+    (λ c κs. search needs)
+    (λ c. search needs)
+    (λ c κs. search needs)
     returns
     returns-2
     returns-3)

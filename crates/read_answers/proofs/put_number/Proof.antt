@@ -5,17 +5,8 @@ use borrow.Author.Needs.{needs}
 use Rattle.read_answers.proofs.put_number.Statement.{statement}
 use Rattle.read_answers.proofs.put_number.Tie as tie
 
-put-sign-requires : tie.Need-put-sign-requires
-put-sign-requires c κs = search needs
-
-put-decimal-requires : tie.Need-put-decimal-requires
-put-decimal-requires c κs = search needs
-
 put-byte-requires : tie.Need-put-byte-requires
 put-byte-requires c κs = omega (arith, decimal-20 (c .before .before .before .before .before .before .before .before .before .before .args .magnitude) (omega arith))
-
-same-length : tie.Need-same-length
-same-length c = search needs
 
 returns : tie.Need-returns
 returns c =
@@ -28,4 +19,4 @@ returns c =
 pub put-number-spec : {M : Type 1} → statement M
 put-number-spec =
     tie.close
-    (tie.spec put-sign-requires put-decimal-requires put-byte-requires same-length returns)
+    (tie.spec (λ c κs. search needs) (λ c κs. search needs) put-byte-requires (λ c. search needs) returns)

@@ -6,23 +6,8 @@ use borrow.Author.Needs.{needs}
 use Rattle.read_answers.proofs.put_read.Statement.{statement}
 use Rattle.read_answers.proofs.put_read.Tie as tie
 
-put-numbers-requires : tie.Need-put-numbers-requires
-put-numbers-requires c κs = search needs
-
-slice-aggregate-put : tie.Need-slice-aggregate-put
-slice-aggregate-put c = search needs
-
-put-requires : tie.Need-put-requires
-put-requires c κs = search needs
-
-put-decimal-requires : tie.Need-put-decimal-requires
-put-decimal-requires c κs = search needs
-
 put-byte-requires : tie.Need-put-byte-requires
 put-byte-requires c κs = omega (arith, decimal-20 (c .before .before .before .before .before .before .before .before .before .before .before .before .before .before .before .args .bytes) (omega arith))
-
-same-length : tie.Need-same-length
-same-length c = search needs
 
 returns : tie.Need-returns
 unfolding putText
@@ -39,10 +24,10 @@ pub put-read-spec : {M : Type 1} → statement M
 put-read-spec =
     tie.close
     (tie.spec
-    put-numbers-requires
-    slice-aggregate-put
-    put-requires
-    put-decimal-requires
+    (λ c κs. search needs)
+    (λ c. search needs)
+    (λ c κs. search needs)
+    (λ c κs. search needs)
     put-byte-requires
-    same-length
+    (λ c. search needs)
     returns)

@@ -5,20 +5,8 @@ use borrow.Author.Needs.{needs}
 use Rattle.read_answers.proofs.put_run.Statement.{statement}
 use Rattle.read_answers.proofs.put_run.Tie as tie
 
-array-share-prefix-words : tie.Need-array-share-prefix-words
-array-share-prefix-words c = search needs
-
 slice-aggregate-read : tie.Need-slice-aggregate-read
 slice-aggregate-read c = simp length-take (omega arith)
-
-read-requires : tie.Need-read-requires
-read-requires c κs = search needs
-
-put-reading-requires : tie.Need-put-reading-requires
-put-reading-requires c κs = search needs
-
-same-length : tie.Need-same-length
-same-length c = search needs
 
 returns : tie.Need-returns
 unfolding runText
@@ -28,9 +16,9 @@ pub put-run-spec : {M : Type 1} → statement M
 put-run-spec =
     tie.close
     (tie.spec
-    array-share-prefix-words
+    (λ c. search needs)
     slice-aggregate-read
-    read-requires
-    put-reading-requires
-    same-length
+    (λ c κs. search needs)
+    (λ c κs. search needs)
+    (λ c. search needs)
     returns)

@@ -6,12 +6,6 @@ use Rattle.read_instruction.specs.ReadAt.{read-none, read-some}
 use Rattle.read_instruction.proofs.read.Statement.{statement}
 use Rattle.read_instruction.proofs.read.Tie as tie
 
-shared-slice-read-read-word : tie.Need-shared-slice-read-read-word
-shared-slice-read-read-word c = search needs
-
-read-word-requires : tie.Need-read-word-requires
-read-word-requires c κs = search needs
-
 returns : tie.Need-returns
 returns c =
     let a = c .before .before .args in
@@ -23,4 +17,4 @@ returns-2 c =
     read-some (a .address) (now (a .words)) (c .read-word .result) (omega (arith, c .before .before .if1 .left)) (c .read-word .ensures)
 
 pub read-spec : {M : Type 1} → statement M
-read-spec = tie.close (tie.spec returns shared-slice-read-read-word read-word-requires returns-2)
+read-spec = tie.close (tie.spec returns (λ c. search needs) (λ c κs. search needs) returns-2)

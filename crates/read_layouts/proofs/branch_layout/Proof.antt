@@ -3,15 +3,6 @@ use borrow.Author.Tests.{eq-eqb, ne-eqb}
 use Rattle.read_layouts.proofs.branch_layout.Statement.{statement}
 use Rattle.read_layouts.proofs.branch_layout.Tie as tie
 
-alone-requires : tie.Need-alone-requires
-alone-requires c κs = search needs
-
-alone-requires-2 : tie.Need-alone-requires-2
-alone-requires-2 c κs = search needs
-
-bare-requires : tie.Need-bare-requires
-bare-requires c κs = search needs
-
 returns : tie.Need-returns
 returns c = rw (c .alone .ensures, eq-eqb _ _ (c .before .if1 .taken))
 
@@ -23,4 +14,4 @@ returns-3 c = rw (c .bare .ensures, ne-eqb _ _ (c .before .if2 .left), ne-eqb _ 
 
 pub branch-layout-spec : {M : Type 1} → statement M
 branch-layout-spec =
-    tie.close (tie.spec alone-requires alone-requires-2 bare-requires returns returns-2 returns-3)
+    tie.close (tie.spec (λ c κs. search needs) (λ c κs. search needs) (λ c κs. search needs) returns returns-2 returns-3)

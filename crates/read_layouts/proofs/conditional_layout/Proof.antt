@@ -3,18 +3,6 @@ use borrow.Author.Tests.{eq-eqb, ne-eqb}
 use Rattle.read_layouts.proofs.conditional_layout.Statement.{statement}
 use Rattle.read_layouts.proofs.conditional_layout.Tie as tie
 
-alone-requires : tie.Need-alone-requires
-alone-requires c κs = search needs
-
-trap-specifier-requires : tie.Need-trap-specifier-requires
-trap-specifier-requires c κs = search needs
-
-alone-requires-2 : tie.Need-alone-requires-2
-alone-requires-2 c κs = search needs
-
-one-requires : tie.Need-one-requires
-one-requires c κs = search needs
-
 returns : tie.Need-returns
 returns c = rw (c .alone .ensures, eq-eqb _ _ (c .before .if1 .taken))
 
@@ -28,10 +16,10 @@ pub conditional-layout-spec : {M : Type 1} → statement M
 conditional-layout-spec =
     tie.close
     (tie.spec
-    alone-requires
-    trap-specifier-requires
-    alone-requires-2
-    one-requires
+    (λ c κs. search needs)
+    (λ c κs. search needs)
+    (λ c κs. search needs)
+    (λ c κs. search needs)
     returns
     returns-2
     returns-3)

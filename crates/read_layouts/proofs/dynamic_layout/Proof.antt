@@ -3,21 +3,6 @@ use borrow.Author.Tests.{eq-eqb, ne-eqb}
 use Rattle.read_layouts.proofs.dynamic_layout.Statement.{statement}
 use Rattle.read_layouts.proofs.dynamic_layout.Tie as tie
 
-less-requires : tie.Need-less-requires
-less-requires c κs = search needs
-
-pick-requires : tie.Need-pick-requires
-pick-requires c κs = search needs
-
-add-one : tie.Need-add-one
-add-one c = search needs
-
-one-requires : tie.Need-one-requires
-one-requires c κs = search needs
-
-one-requires-2 : tie.Need-one-requires-2
-one-requires-2 c κs = search needs
-
 returns : tie.Need-returns
 returns c = rw (c .one .ensures, eq-eqb _ _ (c .before .if1 .taken))
 
@@ -27,4 +12,4 @@ returns-2 c = rw (c .one2 .ensures, c .before .before .pick .ensures, c .before 
 pub dynamic-layout-spec : {M : Type 1} → statement M
 dynamic-layout-spec =
     tie.close
-    (tie.spec less-requires pick-requires add-one one-requires one-requires-2 returns returns-2)
+    (tie.spec (λ c κs. search needs) (λ c κs. search needs) (λ c. search needs) (λ c κs. search needs) (λ c κs. search needs) returns returns-2)

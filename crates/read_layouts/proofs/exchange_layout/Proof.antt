@@ -2,21 +2,6 @@ use borrow.Author.Needs.{needs}
 use Rattle.read_layouts.proofs.exchange_layout.Statement.{statement}
 use Rattle.read_layouts.proofs.exchange_layout.Tie as tie
 
-less-requires : tie.Need-less-requires
-less-requires c κs = search needs
-
-size-at-requires : tie.Need-size-at-requires
-size-at-requires c κs = search needs
-
-is-exchange-requires : tie.Need-is-exchange-requires
-is-exchange-requires c κs = search needs
-
-bare-requires : tie.Need-bare-requires
-bare-requires c κs = search needs
-
-one-requires : tie.Need-one-requires
-one-requires c κs = search needs
-
 returns : tie.Need-returns
 returns c = rw (c .bare .ensures, ← c .before .before .is-exchange .ensures, c .before .if1 .taken)
 
@@ -27,10 +12,10 @@ pub exchange-layout-spec : {M : Type 1} → statement M
 exchange-layout-spec =
     tie.close
     (tie.spec
-    less-requires
-    size-at-requires
-    is-exchange-requires
-    bare-requires
-    one-requires
+    (λ c κs. search needs)
+    (λ c κs. search needs)
+    (λ c κs. search needs)
+    (λ c κs. search needs)
+    (λ c κs. search needs)
     returns
     returns-2)

@@ -3,12 +3,6 @@ use borrow.Author.Tests.{lt-ltb, le-ltb}
 use Rattle.read_layouts.proofs.from_data_layout.Statement.{statement}
 use Rattle.read_layouts.proofs.from_data_layout.Tie as tie
 
-alone-requires : tie.Need-alone-requires
-alone-requires c κs = search needs
-
-one-requires : tie.Need-one-requires
-one-requires c κs = search needs
-
 returns : tie.Need-returns
 returns c = rw (c .alone .ensures, lt-ltb _ _ (c .before .if1 .taken))
 
@@ -16,4 +10,4 @@ returns-2 : tie.Need-returns-2
 returns-2 c = rw (c .one .ensures, le-ltb _ _ (c .before .if1 .left))
 
 pub from-data-layout-spec : {M : Type 1} → statement M
-from-data-layout-spec = tie.close (tie.spec alone-requires one-requires returns returns-2)
+from-data-layout-spec = tie.close (tie.spec (λ c κs. search needs) (λ c κs. search needs) returns returns-2)

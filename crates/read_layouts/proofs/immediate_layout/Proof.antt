@@ -2,24 +2,6 @@ use borrow.Author.Needs.{needs}
 use Rattle.read_layouts.proofs.immediate_layout.Statement.{statement}
 use Rattle.read_layouts.proofs.immediate_layout.Tie as tie
 
-size-at-requires : tie.Need-size-at-requires
-size-at-requires c κs = search needs
-
-immediate-specifier-requires : tie.Need-immediate-specifier-requires
-immediate-specifier-requires c κs = search needs
-
-pick-requires : tie.Need-pick-requires
-pick-requires c κs = search needs
-
-to-status-requires : tie.Need-to-status-requires
-to-status-requires c κs = search needs
-
-alone-requires : tie.Need-alone-requires
-alone-requires c κs = search needs
-
-one-requires : tie.Need-one-requires
-one-requires c κs = search needs
-
 returns : tie.Need-returns
 returns c = rw (c .alone .ensures, c .before .before .before .before .immediate-specifier .ensures, c .before .before .before .before .before .size-at .ensures, ← c .before .before .to-status .ensures, c .before .if1 .taken)
 
@@ -30,11 +12,11 @@ pub immediate-layout-spec : {M : Type 1} → statement M
 immediate-layout-spec =
     tie.close
     (tie.spec
-    size-at-requires
-    immediate-specifier-requires
-    pick-requires
-    to-status-requires
-    alone-requires
-    one-requires
+    (λ c κs. search needs)
+    (λ c κs. search needs)
+    (λ c κs. search needs)
+    (λ c κs. search needs)
+    (λ c κs. search needs)
+    (λ c κs. search needs)
     returns
     returns-2)

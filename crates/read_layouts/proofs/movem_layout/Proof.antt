@@ -2,27 +2,6 @@ use borrow.Author.Needs.{needs}
 use Rattle.read_layouts.proofs.movem_layout.Statement.{statement}
 use Rattle.read_layouts.proofs.movem_layout.Tie as tie
 
-less-requires : tie.Need-less-requires
-less-requires c κs = search needs
-
-size-at-requires : tie.Need-size-at-requires
-size-at-requires c κs = search needs
-
-less-requires-2 : tie.Need-less-requires-2
-less-requires-2 c κs = search needs
-
-to-memory-at-requires : tie.Need-to-memory-at-requires
-to-memory-at-requires c κs = search needs
-
-movem-modes-requires : tie.Need-movem-modes-requires
-movem-modes-requires c κs = search needs
-
-bare-requires : tie.Need-bare-requires
-bare-requires c κs = search needs
-
-one-requires : tie.Need-one-requires
-one-requires c κs = search needs
-
 returns : tie.Need-returns
 returns c = rw (c .bare .ensures, c .before .if1 .taken)
 
@@ -33,12 +12,12 @@ pub movem-layout-spec : {M : Type 1} → statement M
 movem-layout-spec =
     tie.close
     (tie.spec
-    less-requires
-    size-at-requires
-    less-requires-2
-    to-memory-at-requires
-    movem-modes-requires
-    bare-requires
-    one-requires
+    (λ c κs. search needs)
+    (λ c κs. search needs)
+    (λ c κs. search needs)
+    (λ c κs. search needs)
+    (λ c κs. search needs)
+    (λ c κs. search needs)
+    (λ c κs. search needs)
     returns
     returns-2)

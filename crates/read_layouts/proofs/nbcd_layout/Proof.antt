@@ -3,12 +3,6 @@ use borrow.Author.Tests.{eq-eqb, ne-eqb}
 use Rattle.read_layouts.proofs.nbcd_layout.Statement.{statement}
 use Rattle.read_layouts.proofs.nbcd_layout.Tie as tie
 
-alone-requires : tie.Need-alone-requires
-alone-requires c κs = search needs
-
-unsized-layout-requires : tie.Need-unsized-layout-requires
-unsized-layout-requires c κs = search needs
-
 returns : tie.Need-returns
 returns c = rw (c .alone .ensures, eq-eqb _ _ (c .before .if1 .taken))
 
@@ -16,4 +10,4 @@ returns-2 : tie.Need-returns-2
 returns-2 c = rw (c .unsized-layout .ensures, ne-eqb _ _ (c .before .if1 .left))
 
 pub nbcd-layout-spec : {M : Type 1} → statement M
-nbcd-layout-spec = tie.close (tie.spec alone-requires unsized-layout-requires returns returns-2)
+nbcd-layout-spec = tie.close (tie.spec (λ c κs. search needs) (λ c κs. search needs) returns returns-2)

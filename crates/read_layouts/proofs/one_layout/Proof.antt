@@ -2,17 +2,8 @@ use borrow.Author.Needs.{needs}
 use Rattle.read_layouts.proofs.one_layout.Statement.{statement}
 use Rattle.read_layouts.proofs.one_layout.Tie as tie
 
-readable-modes-requires : tie.Need-readable-modes-requires
-readable-modes-requires c κs = search needs
-
-pick-requires : tie.Need-pick-requires
-pick-requires c κs = search needs
-
-one-requires : tie.Need-one-requires
-one-requires c κs = search needs
-
 returns : tie.Need-returns
 returns c = rw (c .one .ensures, c .before .pick .ensures, c .before .before .readable-modes .ensures)
 
 pub one-layout-spec : {M : Type 1} → statement M
-one-layout-spec = tie.close (tie.spec readable-modes-requires pick-requires one-requires returns)
+one-layout-spec = tie.close (tie.spec (λ c κs. search needs) (λ c κs. search needs) (λ c κs. search needs) returns)

@@ -3,12 +3,6 @@ use borrow.Author.Tests.{lt-ltb, le-ltb}
 use Rattle.read_layouts.proofs.pea_layout.Statement.{statement}
 use Rattle.read_layouts.proofs.pea_layout.Tie as tie
 
-bare-requires : tie.Need-bare-requires
-bare-requires c κs = search needs
-
-unsized-layout-requires : tie.Need-unsized-layout-requires
-unsized-layout-requires c κs = search needs
-
 returns : tie.Need-returns
 returns c = rw (c .bare .ensures, lt-ltb _ _ (c .before .if1 .taken))
 
@@ -16,4 +10,4 @@ returns-2 : tie.Need-returns-2
 returns-2 c = rw (c .unsized-layout .ensures, le-ltb _ _ (c .before .if1 .left))
 
 pub pea-layout-spec : {M : Type 1} → statement M
-pea-layout-spec = tie.close (tie.spec bare-requires unsized-layout-requires returns returns-2)
+pea-layout-spec = tie.close (tie.spec (λ c κs. search needs) (λ c κs. search needs) returns returns-2)

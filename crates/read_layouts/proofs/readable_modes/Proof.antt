@@ -2,14 +2,8 @@ use borrow.Author.Needs.{needs}
 use Rattle.read_layouts.proofs.readable_modes.Statement.{statement}
 use Rattle.read_layouts.proofs.readable_modes.Tie as tie
 
-is-byte-requires : tie.Need-is-byte-requires
-is-byte-requires c κs = search needs
-
-pick-requires : tie.Need-pick-requires
-pick-requires c κs = search needs
-
 returns : tie.Need-returns
 returns c = rw (c .pick .ensures, c .before .is-byte .ensures)
 
 pub readable-modes-spec : {M : Type 1} → statement M
-readable-modes-spec = tie.close (tie.spec is-byte-requires pick-requires returns)
+readable-modes-spec = tie.close (tie.spec (λ c κs. search needs) (λ c κs. search needs) returns)

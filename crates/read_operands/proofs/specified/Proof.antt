@@ -8,21 +8,6 @@ use Rattle.read_places.specs.RunAtLaws.{runAt-bind}
 use Rattle.read_operands.specs.Part.{sourceTree}
 use Rattle.read_operands.specs.ReadLaws.{number-found, number-ended, number-refused}
 
-specifier-requires : tie.Need-specifier-requires
-specifier-requires c κs = search needs
-
-enum-known-read : tie.Need-enum-known-read
-enum-known-read c = search needs
-
-with-source-requires : tie.Need-with-source-requires
-with-source-requires c κs = search needs
-
-enum-told : tie.Need-enum-told
-enum-told c = search needs
-
-enum-told-2 : tie.Need-enum-told-2
-enum-told-2 c = search needs
-
 returns : tie.Need-returns
 returns c =
     let s = c .before .before .before .before .before .before in
@@ -42,11 +27,11 @@ pub specified-spec : {M : Type 1} → statement M
 specified-spec =
     tie.close
     (tie.spec
-    specifier-requires
-    enum-known-read
-    with-source-requires
-    enum-told
-    enum-told-2
+    (λ c κs. search needs)
+    (λ c. search needs)
+    (λ c κs. search needs)
+    (λ c. search needs)
+    (λ c. search needs)
     returns
     returns-2
     returns-3)

@@ -15,20 +15,8 @@ Inv-loop line first r₀ from₀ r from = (from ≤ length line + 1) × (runOf l
 abbrev μ-loop : tie.MeasureT-loop
 μ-loop line first r₀ from₀ r from = length line + 1 - from
 
-field-end-requires : tie.Need-field-end-requires Inv-loop μ-loop
-field-end-requires c κs = omega arith
-
 slice-aggregate-read-number : tie.Need-slice-aggregate-read-number Inv-loop μ-loop
 slice-aggregate-read-number c = simp length-take (omega arith)
-
-read-number-requires : tie.Need-read-number-requires Inv-loop μ-loop
-read-number-requires c κs = tt
-
-start-requires : tie.Need-start-requires Inv-loop μ-loop
-start-requires c κs = tt
-
-add-from : tie.Need-add-from Inv-loop μ-loop
-add-from c = omega arith
 
 loop-holds : tie.Need-loop-holds Inv-loop μ-loop
 loop-holds c =
@@ -36,30 +24,6 @@ loop-holds c =
     let e = c .before .before .before .field-end in
     let n = c .start .ensures ∙ ap startOf (c .before .read-number .ensures) in
     (omega arith, run-start line (e .result) (e .ensures .0) ∙ ap (λ (r : Run). runOn r (wordsFrom line (e .result + 1))) (sym n))
-
-field-end-requires-2 : tie.Need-field-end-requires-2 Inv-loop μ-loop
-field-end-requires-2 c κs = omega arith
-
-sub-read-word : tie.Need-sub-read-word Inv-loop μ-loop
-sub-read-word c = omega arith
-
-part-read-word-start : tie.Need-part-read-word-start Inv-loop μ-loop
-part-read-word-start c = omega arith
-
-part-read-word-end : tie.Need-part-read-word-end Inv-loop μ-loop
-part-read-word-end c = omega arith
-
-read-word-requires : tie.Need-read-word-requires Inv-loop μ-loop
-read-word-requires c κs = tt
-
-with-word-requires : tie.Need-with-word-requires Inv-loop μ-loop
-with-word-requires c κs = tt
-
-add-from-2 : tie.Need-add-from-2 Inv-loop μ-loop
-add-from-2 c = omega arith
-
-loop-less : tie.Need-loop-less Inv-loop μ-loop
-loop-less c = omega arith
 
 loop-again : tie.Need-loop-again Inv-loop μ-loop
 loop-again c =
@@ -83,19 +47,19 @@ read-run-spec =
     (tie.spec
     Inv-loop
     μ-loop
-    field-end-requires
+    (λ c κs. omega arith)
     slice-aggregate-read-number
-    read-number-requires
-    start-requires
-    add-from
+    (λ c κs. tt)
+    (λ c κs. tt)
+    (λ c. omega arith)
     loop-holds
-    field-end-requires-2
-    sub-read-word
-    part-read-word-start
-    part-read-word-end
-    read-word-requires
-    with-word-requires
-    add-from-2
-    loop-less
+    (λ c κs. omega arith)
+    (λ c. omega arith)
+    (λ c. omega arith)
+    (λ c. omega arith)
+    (λ c κs. tt)
+    (λ c κs. tt)
+    (λ c. omega arith)
+    (λ c. omega arith)
     loop-again
     returns)

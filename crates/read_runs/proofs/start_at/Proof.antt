@@ -12,12 +12,9 @@ returns : tie.Need-returns
 unfolding startAt
 returns c = rw (c .if1 .taken)
 
-no-run-requires : tie.Need-no-run-requires
-no-run-requires c κs = search needs
-
 returns-2 : tie.Need-returns-2
 unfolding startAt
 returns-2 c = rw (c .before .if1 .left) (c .no-run .ensures)
 
 pub start-at-spec : {M : Type 1} → statement M
-start-at-spec = tie.close (tie.spec cast-t6 returns no-run-requires returns-2)
+start-at-spec = tie.close (tie.spec cast-t6 returns (λ c κs. search needs) returns-2)

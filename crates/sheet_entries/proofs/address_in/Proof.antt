@@ -5,21 +5,6 @@ use borrow.Author.Needs.{needs}
 use Rattle.sheet_entries.proofs.address_in.Statement.{statement}
 use Rattle.sheet_entries.proofs.address_in.Tie as tie
 
-returns : tie.Need-returns
-returns c = search needs
-
-sub-i : tie.Need-sub-i
-sub-i c = search needs
-
-mul-wide : tie.Need-mul-wide
-mul-wide c = search needs
-
-shared-slice-read-wide : tie.Need-shared-slice-read-wide
-shared-slice-read-wide c = search needs
-
-wide-requires : tie.Need-wide-requires
-wide-requires c κs = search needs
-
 returns-2 : tie.Need-returns-2
 returns-2 c = let a = c .before .before .before .before .before .args in c .wide .ensures ∙ sym (address-line (a .addresses .now) (a .k) (c .before .before .before .if1 .left))
 
@@ -29,4 +14,4 @@ returns-3 c = let a = c .before .before .before .args in sym (address-line (a .a
 pub address-in-spec : {M : Type 1} → statement M
 address-in-spec =
     tie.close
-    (tie.spec returns sub-i mul-wide shared-slice-read-wide wide-requires returns-2 returns-3)
+    (tie.spec (λ c. search needs) (λ c. search needs) (λ c. search needs) (λ c. search needs) (λ c κs. search needs) returns-2 returns-3)

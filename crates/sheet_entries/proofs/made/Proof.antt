@@ -6,12 +6,6 @@ use Rattle.sheet_entries.proofs.Laws.{made-ok, made-not}
 use Rattle.sheet_entries.proofs.made.Statement.{statement}
 use Rattle.sheet_entries.proofs.made.Tie as tie
 
-numbers-requires : tie.Need-numbers-requires
-numbers-requires c κs = search needs
-
-build-requires : tie.Need-build-requires
-build-requires c κs = search needs
-
 returns : tie.Need-returns
 returns c =
     let a = c .before .before .before .before .args in
@@ -21,4 +15,4 @@ returns-2 : tie.Need-returns-2
 returns-2 c = let a = c .before .before .args in sym (made-not (a .addresses .now) (a .e) (c .if1 .left))
 
 pub made-spec : {M : Type 1} → statement M
-made-spec = tie.close (tie.spec numbers-requires build-requires returns returns-2)
+made-spec = tie.close (tie.spec (λ c κs. search needs) (λ c κs. search needs) returns returns-2)

@@ -18,24 +18,6 @@ loop-holds : tie.Need-loop-holds Inv-loop μ-loop
 unfolding namesLines
 loop-holds c = (omega arith, refl)
 
-element-copy-out-names-one : tie.Need-element-copy-out-names-one Inv-loop μ-loop
-element-copy-out-names-one c = omega arith
-
-mul-names-one : tie.Need-mul-names-one Inv-loop μ-loop
-mul-names-one c = omega arith
-
-element-copy-out-names-one-2 : tie.Need-element-copy-out-names-one-2 Inv-loop μ-loop
-element-copy-out-names-one-2 c = omega arith
-
-names-one-requires : tie.Need-names-one-requires Inv-loop μ-loop
-names-one-requires c κs = tt
-
-add-i : tie.Need-add-i Inv-loop μ-loop
-add-i c = omega arith
-
-loop-less : tie.Need-loop-less Inv-loop μ-loop
-loop-less c = omega arith
-
 loop-again : tie.Need-loop-again Inv-loop μ-loop
 loop-again c =
     let b = c .before .before .before .before in
@@ -61,11 +43,11 @@ names-lines-spec =
     Inv-loop
     μ-loop
     loop-holds
-    element-copy-out-names-one
-    mul-names-one
-    element-copy-out-names-one-2
-    names-one-requires
-    add-i
-    loop-less
+    (λ c. omega arith)
+    (λ c. omega arith)
+    (λ c. omega arith)
+    (λ c κs. tt)
+    (λ c. omega arith)
+    (λ c. omega arith)
     loop-again
     returns)

@@ -16,30 +16,6 @@ abbrev μ-loop : tie.MeasureT-loop
 loop-holds : tie.Need-loop-holds Inv-loop μ-loop
 loop-holds c = (omega arith, refl, refl)
 
-element-copy-out-number-in : tie.Need-element-copy-out-number-in Inv-loop μ-loop
-element-copy-out-number-in c = omega arith
-
-mul-number-in : tie.Need-mul-number-in Inv-loop μ-loop
-mul-number-in c = omega arith
-
-element-copy-out-number-in-2 : tie.Need-element-copy-out-number-in-2 Inv-loop μ-loop
-element-copy-out-number-in-2 c = omega arith
-
-number-in-requires : tie.Need-number-in-requires Inv-loop μ-loop
-number-in-requires c κs = tt
-
-mul-magnitude : tie.Need-mul-magnitude Inv-loop μ-loop
-mul-magnitude c = omega arith
-
-array-write-magnitude : tie.Need-array-write-magnitude Inv-loop μ-loop
-array-write-magnitude c = omega arith
-
-add-i : tie.Need-add-i Inv-loop μ-loop
-add-i c = omega arith
-
-loop-less : tie.Need-loop-less Inv-loop μ-loop
-loop-less c = omega arith
-
 loop-again : tie.Need-loop-again Inv-loop μ-loop
 loop-again c =
     let b = c .before .before .before .before in
@@ -66,13 +42,13 @@ numbers-spec =
     Inv-loop
     μ-loop
     loop-holds
-    element-copy-out-number-in
-    mul-number-in
-    element-copy-out-number-in-2
-    number-in-requires
-    mul-magnitude
-    array-write-magnitude
-    add-i
-    loop-less
+    (λ c. omega arith)
+    (λ c. omega arith)
+    (λ c. omega arith)
+    (λ c κs. tt)
+    (λ c. omega arith)
+    (λ c. omega arith)
+    (λ c. omega arith)
+    (λ c. omega arith)
     loop-again
     returns)

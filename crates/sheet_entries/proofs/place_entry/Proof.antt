@@ -24,9 +24,6 @@ add-r c = let h = room (c .before .before .args .e .ok) (c .before .before .args
 returns : tie.Need-returns
 returns c = let a = c .before .before .args in placed-entry (a .e) (a .named) (a .negative) (a .magnitude) (c .if1 .taken)
 
-no-entries-requires : tie.Need-no-entries-requires
-no-entries-requires c κs = search needs
-
 returns-2 : tie.Need-returns-2
 returns-2 c = let a = c .before .before .before .args in c .no-entries .ensures ∙ sym (no-room (a .e) (a .named) (a .negative) (a .magnitude) (c .before .if1 .left))
 
@@ -40,5 +37,5 @@ place-entry-spec =
     element-write-r-3
     add-r
     returns
-    no-entries-requires
+    (λ c κs. search needs)
     returns-2)

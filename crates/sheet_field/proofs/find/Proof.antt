@@ -27,21 +27,6 @@ loop-holds c =
     let a = c .before .before .before .args in
     (omega arith, omega arith, place-start (a .names .now) (a .f .now))
 
-field-end-requires : tie.Need-field-end-requires Inv-loop μ-loop
-field-end-requires c κs = omega arith
-
-sub-equal : tie.Need-sub-equal Inv-loop μ-loop
-sub-equal c = omega arith
-
-part-equal-start : tie.Need-part-equal-start Inv-loop μ-loop
-part-equal-start c = omega arith
-
-part-equal-end : tie.Need-part-equal-end Inv-loop μ-loop
-part-equal-end c = omega arith
-
-equal-requires : tie.Need-equal-requires Inv-loop μ-loop
-equal-requires c κs = tt
-
 returns-2 : tie.Need-returns-2 Inv-loop μ-loop
 returns-2 c =
     let e = c .before .before .before .field-end in
@@ -50,15 +35,6 @@ returns-2 c =
     let t = sym (c .before .equal .ensures) ∙ c .if2 .taken in
     let p = place-here (a .names .now) (a .f .now) (b .loop .place) (b .loop .from) (e .result) (omega arith) (e .ensures .0) (b .before .if1 .left) t in
     sym (ap valueOf (b .loop .inv .2 ∙ p))
-
-add-place : tie.Need-add-place Inv-loop μ-loop
-add-place c = omega arith
-
-add-from : tie.Need-add-from Inv-loop μ-loop
-add-from c = omega arith
-
-loop-less : tie.Need-loop-less Inv-loop μ-loop
-loop-less c = omega arith
 
 loop-again : tie.Need-loop-again Inv-loop μ-loop
 loop-again c =
@@ -83,14 +59,14 @@ find-spec =
     μ-loop
     returns
     loop-holds
-    field-end-requires
-    sub-equal
-    part-equal-start
-    part-equal-end
-    equal-requires
+    (λ c κs. omega arith)
+    (λ c. omega arith)
+    (λ c. omega arith)
+    (λ c. omega arith)
+    (λ c κs. tt)
     returns-2
-    add-place
-    add-from
-    loop-less
+    (λ c. omega arith)
+    (λ c. omega arith)
+    (λ c. omega arith)
     loop-again
     returns-3)

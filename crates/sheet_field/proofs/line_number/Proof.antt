@@ -16,9 +16,6 @@ abbrev μ-loop : tie.MeasureT-loop
 loop-holds : tie.Need-loop-holds Inv-loop μ-loop
 loop-holds c = (omega arith, omega arith, refl)
 
-shared-slice-read-b : tie.Need-shared-slice-read-b Inv-loop μ-loop
-shared-slice-read-b c = omega arith
-
 returns : tie.Need-returns Inv-loop μ-loop
 returns c =
     let b = c .before .before .before in
@@ -30,24 +27,6 @@ returns-2 c =
     let b = c .before .before .before .before in
     let f = b .before .before .args .f .now in
     sym (b .loop .inv .2 ∙ line-high f (b .loop .i) (b .loop .a) (omega arith) (c .if2 .taken))
-
-mul-capped : tie.Need-mul-capped Inv-loop μ-loop
-mul-capped c = omega arith
-
-cast-capped : tie.Need-cast-capped Inv-loop μ-loop
-cast-capped c = omega arith
-
-add-capped : tie.Need-add-capped Inv-loop μ-loop
-add-capped c = omega arith
-
-capped-requires : tie.Need-capped-requires Inv-loop μ-loop
-capped-requires c κs = tt
-
-add-i : tie.Need-add-i Inv-loop μ-loop
-add-i c = omega arith
-
-loop-less : tie.Need-loop-less Inv-loop μ-loop
-loop-less c = omega arith
 
 loop-again : tie.Need-loop-again Inv-loop μ-loop
 loop-again c =
@@ -70,14 +49,14 @@ line-number-spec =
     Inv-loop
     μ-loop
     loop-holds
-    shared-slice-read-b
+    (λ c. omega arith)
     returns
     returns-2
-    mul-capped
-    cast-capped
-    add-capped
-    capped-requires
-    add-i
-    loop-less
+    (λ c. omega arith)
+    (λ c. omega arith)
+    (λ c. omega arith)
+    (λ c κs. tt)
+    (λ c. omega arith)
+    (λ c. omega arith)
     loop-again
     returns-3)

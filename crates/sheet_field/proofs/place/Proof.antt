@@ -8,17 +8,8 @@ use Rattle.sheet_field.proofs.place.Tie as tie
 returns : tie.Need-returns
 returns c = sym (ap valueOf (said-none (c .before .before .args .f .now) (c .if1 .taken)))
 
-shared-slice-read-if2 : tie.Need-shared-slice-read-if2
-shared-slice-read-if2 c = search needs
-
-line-name-requires : tie.Need-line-name-requires
-line-name-requires c κs = search needs
-
 returns-2 : tie.Need-returns-2
 returns-2 c = c .line-name .ensures ∙ sym (ap valueOf (said-name (c .before .before .before .before .before .args .f .now) (c .before .if2 .taken)))
-
-number-requires : tie.Need-number-requires
-number-requires c κs = search needs
 
 returns-3 : tie.Need-returns-3
 returns-3 c = c .number .ensures ∙ sym (ap valueOf (said-number (c .before .before .before .before .before .args .f .now) (c .before .if2 .left)))
@@ -26,4 +17,4 @@ returns-3 c = c .number .ensures ∙ sym (ap valueOf (said-number (c .before .be
 pub place-spec : {M : Type 1} → statement M
 place-spec =
     tie.close
-    (tie.spec returns shared-slice-read-if2 line-name-requires returns-2 number-requires returns-3)
+    (tie.spec returns (λ c. search needs) (λ c κs. search needs) returns-2 (λ c κs. search needs) returns-3)

@@ -2,141 +2,6 @@ use borrow.Author.Needs.{needs}
 use Rattle.sheet_field.proofs.value.Statement.{statement}
 use Rattle.sheet_field.proofs.value.Tie as tie
 
-enum-told : tie.Need-enum-told
-enum-told c = search needs
-
-number-requires : tie.Need-number-requires
-number-requires c κs = search needs
-
-enum-told-2 : tie.Need-enum-told-2
-enum-told-2 c = search needs
-
-line-name-requires : tie.Need-line-name-requires
-line-name-requires c κs = search needs
-
-enum-told-3 : tie.Need-enum-told-3
-enum-told-3 c = search needs
-
-place-requires : tie.Need-place-requires
-place-requires c κs = search needs
-
-enum-told-4 : tie.Need-enum-told-4
-enum-told-4 c = search needs
-
-slice-aggregate-find : tie.Need-slice-aggregate-find
-slice-aggregate-find c = search needs
-
-find-requires : tie.Need-find-requires
-find-requires c κs = search needs
-
-enum-told-5 : tie.Need-enum-told-5
-enum-told-5 c = search needs
-
-slice-aggregate-find-2 : tie.Need-slice-aggregate-find-2
-slice-aggregate-find-2 c = search needs
-
-find-requires-2 : tie.Need-find-requires-2
-find-requires-2 c κs = search needs
-
-enum-told-6 : tie.Need-enum-told-6
-enum-told-6 c = search needs
-
-slice-aggregate-find-3 : tie.Need-slice-aggregate-find-3
-slice-aggregate-find-3 c = search needs
-
-find-requires-3 : tie.Need-find-requires-3
-find-requires-3 c κs = search needs
-
-enum-told-7 : tie.Need-enum-told-7
-enum-told-7 c = search needs
-
-slice-aggregate-find-4 : tie.Need-slice-aggregate-find-4
-slice-aggregate-find-4 c = search needs
-
-find-requires-4 : tie.Need-find-requires-4
-find-requires-4 c κs = search needs
-
-enum-told-8 : tie.Need-enum-told-8
-enum-told-8 c = search needs
-
-condition-requires : tie.Need-condition-requires
-condition-requires c κs = search needs
-
-enum-told-9 : tie.Need-enum-told-9
-enum-told-9 c = search needs
-
-slice-aggregate-find-5 : tie.Need-slice-aggregate-find-5
-slice-aggregate-find-5 c = search needs
-
-find-requires-5 : tie.Need-find-requires-5
-find-requires-5 c κs = search needs
-
-enum-told-10 : tie.Need-enum-told-10
-enum-told-10 c = search needs
-
-slice-aggregate-find-6 : tie.Need-slice-aggregate-find-6
-slice-aggregate-find-6 c = search needs
-
-find-requires-6 : tie.Need-find-requires-6
-find-requires-6 c κs = search needs
-
-enum-told-11 : tie.Need-enum-told-11
-enum-told-11 c = search needs
-
-slice-aggregate-find-7 : tie.Need-slice-aggregate-find-7
-slice-aggregate-find-7 c = search needs
-
-find-requires-7 : tie.Need-find-requires-7
-find-requires-7 c κs = search needs
-
-enum-told-12 : tie.Need-enum-told-12
-enum-told-12 c = search needs
-
-slice-aggregate-find-8 : tie.Need-slice-aggregate-find-8
-slice-aggregate-find-8 c = search needs
-
-find-requires-8 : tie.Need-find-requires-8
-find-requires-8 c κs = search needs
-
-enum-told-13 : tie.Need-enum-told-13
-enum-told-13 c = search needs
-
-slice-aggregate-find-9 : tie.Need-slice-aggregate-find-9
-slice-aggregate-find-9 c = search needs
-
-find-requires-9 : tie.Need-find-requires-9
-find-requires-9 c κs = search needs
-
-enum-told-14 : tie.Need-enum-told-14
-enum-told-14 c = search needs
-
-slice-aggregate-find-10 : tie.Need-slice-aggregate-find-10
-slice-aggregate-find-10 c = search needs
-
-find-requires-10 : tie.Need-find-requires-10
-find-requires-10 c κs = search needs
-
-enum-told-15 : tie.Need-enum-told-15
-enum-told-15 c = search needs
-
-slice-aggregate-find-11 : tie.Need-slice-aggregate-find-11
-slice-aggregate-find-11 c = search needs
-
-find-requires-11 : tie.Need-find-requires-11
-find-requires-11 c κs = search needs
-
-enum-told-16 : tie.Need-enum-told-16
-enum-told-16 c = search needs
-
-operand-requires : tie.Need-operand-requires
-operand-requires c κs = search needs
-
-enum-told-17 : tie.Need-enum-told-17
-enum-told-17 c = search needs
-
-instruction-requires : tie.Need-instruction-requires
-instruction-requires c κs = search needs
-
 returns : tie.Need-returns
 returns c = rw (c .before .enum-told .given .1) (c .number .ensures)
 
@@ -192,51 +57,51 @@ pub value-spec : {M : Type 1} → statement M
 value-spec =
     tie.close
     (tie.spec
-    enum-told
-    number-requires
-    enum-told-2
-    line-name-requires
-    enum-told-3
-    place-requires
-    enum-told-4
-    slice-aggregate-find
-    find-requires
-    enum-told-5
-    slice-aggregate-find-2
-    find-requires-2
-    enum-told-6
-    slice-aggregate-find-3
-    find-requires-3
-    enum-told-7
-    slice-aggregate-find-4
-    find-requires-4
-    enum-told-8
-    condition-requires
-    enum-told-9
-    slice-aggregate-find-5
-    find-requires-5
-    enum-told-10
-    slice-aggregate-find-6
-    find-requires-6
-    enum-told-11
-    slice-aggregate-find-7
-    find-requires-7
-    enum-told-12
-    slice-aggregate-find-8
-    find-requires-8
-    enum-told-13
-    slice-aggregate-find-9
-    find-requires-9
-    enum-told-14
-    slice-aggregate-find-10
-    find-requires-10
-    enum-told-15
-    slice-aggregate-find-11
-    find-requires-11
-    enum-told-16
-    operand-requires
-    enum-told-17
-    instruction-requires
+    (λ c. search needs)
+    (λ c κs. search needs)
+    (λ c. search needs)
+    (λ c κs. search needs)
+    (λ c. search needs)
+    (λ c κs. search needs)
+    (λ c. search needs)
+    (λ c. search needs)
+    (λ c κs. search needs)
+    (λ c. search needs)
+    (λ c. search needs)
+    (λ c κs. search needs)
+    (λ c. search needs)
+    (λ c. search needs)
+    (λ c κs. search needs)
+    (λ c. search needs)
+    (λ c. search needs)
+    (λ c κs. search needs)
+    (λ c. search needs)
+    (λ c κs. search needs)
+    (λ c. search needs)
+    (λ c. search needs)
+    (λ c κs. search needs)
+    (λ c. search needs)
+    (λ c. search needs)
+    (λ c κs. search needs)
+    (λ c. search needs)
+    (λ c. search needs)
+    (λ c κs. search needs)
+    (λ c. search needs)
+    (λ c. search needs)
+    (λ c κs. search needs)
+    (λ c. search needs)
+    (λ c. search needs)
+    (λ c κs. search needs)
+    (λ c. search needs)
+    (λ c. search needs)
+    (λ c κs. search needs)
+    (λ c. search needs)
+    (λ c. search needs)
+    (λ c κs. search needs)
+    (λ c. search needs)
+    (λ c κs. search needs)
+    (λ c. search needs)
+    (λ c κs. search needs)
     returns
     returns-2
     returns-3

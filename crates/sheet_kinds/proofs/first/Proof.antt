@@ -6,14 +6,8 @@ use Rattle.sheet_kinds.specs.Packed.{kinds}
 use Rattle.sheet_kinds.proofs.first.Statement.{statement}
 use Rattle.sheet_kinds.proofs.first.Tie as tie
 
-array-copy-out-result : tie.Need-array-copy-out-result
-array-copy-out-result c = search needs
-
-returns : tie.Need-returns
-returns c = search needs
-
 returns-2 : tie.Need-returns-2
 returns-2 c = sym (List·getD-eq-default kinds kind.Number (c .if1 .left))
 
 pub first-spec : {M : Type 1} → statement M
-first-spec = tie.close (tie.spec array-copy-out-result returns returns-2)
+first-spec = tie.close (tie.spec (λ c. search needs) (λ c. search needs) returns-2)

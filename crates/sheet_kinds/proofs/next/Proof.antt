@@ -7,12 +7,6 @@ use Rattle.sheet_kinds.specs.Next.{below}
 use Rattle.sheet_kinds.proofs.next.Statement.{statement}
 use Rattle.sheet_kinds.proofs.next.Tie as tie
 
-first-requires : tie.Need-first-requires
-first-requires c κs = search needs
-
-fields-of-requires : tie.Need-fields-of-requires
-fields-of-requires c κs = search needs
-
 onto-requires : tie.Need-onto-requires
 onto-requires c κs =
     let s = c .before .before in
@@ -30,4 +24,4 @@ returns c =
     ∙ ap (λ (k : Kind). below (fieldsOf k (s .args .place)) (s .args .kinds / 32)) (k .ensures)
 
 pub next-spec : {M : Type 1} → statement M
-next-spec = tie.close (tie.spec first-requires fields-of-requires onto-requires returns)
+next-spec = tie.close (tie.spec (λ c κs. search needs) (λ c κs. search needs) onto-requires returns)

@@ -13,43 +13,13 @@ Inv-loop line e₀ kinds₀ from₀ e kinds from = (from ≤ length line + 1) ×
 abbrev μ-loop : tie.MeasureT-loop
 μ-loop line e₀ kinds₀ from₀ e kinds from = length line + 1 - from
 
-begin-requires : tie.Need-begin-requires Inv-loop μ-loop
-begin-requires c κs = tt
-
 loop-holds : tie.Need-loop-holds Inv-loop μ-loop
 loop-holds c = (omega arith, reading-start (c .before .before .args .line .now) (c .begin .result) (c .begin .ensures))
-
-no-entries-requires : tie.Need-no-entries-requires Inv-loop μ-loop
-no-entries-requires c κs = tt
 
 returns : tie.Need-returns Inv-loop μ-loop
 returns c =
     let l = c .before .before .before in
     c .no-entries .ensures ∙ reading-over (l .before .before .before .args .line .now) (l .loop .e) (l .loop .kinds) (l .loop .from) (l .loop .inv .1) (omega arith) (c .before .if1 .taken)
-
-field-end-requires : tie.Need-field-end-requires Inv-loop μ-loop
-field-end-requires c κs = omega arith
-
-first-requires : tie.Need-first-requires Inv-loop μ-loop
-first-requires c κs = tt
-
-sub-value : tie.Need-sub-value Inv-loop μ-loop
-sub-value c = omega arith
-
-part-value-start : tie.Need-part-value-start Inv-loop μ-loop
-part-value-start c = omega arith
-
-part-value-end : tie.Need-part-value-end Inv-loop μ-loop
-part-value-end c = omega arith
-
-value-requires : tie.Need-value-requires Inv-loop μ-loop
-value-requires c κs = tt
-
-says-requires : tie.Need-says-requires Inv-loop μ-loop
-says-requires c κs = tt
-
-no-entries-requires-2 : tie.Need-no-entries-requires-2 Inv-loop μ-loop
-no-entries-requires-2 c κs = tt
 
 returns-2 : tie.Need-returns-2 Inv-loop μ-loop
 returns-2 c =
@@ -73,22 +43,10 @@ returns-2 c =
     (w .value .ensures)
     (sym (c .before .before .says .ensures) ∙ not-true (c .before .before .says .result) (c .before .if2 .taken))
 
-with-value-requires : tie.Need-with-value-requires Inv-loop μ-loop
-with-value-requires c κs = tt
-
-number-in-requires : tie.Need-number-in-requires Inv-loop μ-loop
-number-in-requires c κs = tt
-
 next-requires : tie.Need-next-requires Inv-loop μ-loop
 next-requires c κs =
     let l = c .before .before .before .before .before .before .before .before .before .before in
     next-fits (l .before .before .before .args .line .now) (l .loop .e) (l .loop .kinds) (l .loop .from) (l .loop .inv .1) (c .before .before .before .before .before .before .before .before .if1 .left) (c .number-in .result)
-
-add-from : tie.Need-add-from Inv-loop μ-loop
-add-from c = omega arith
-
-loop-less : tie.Need-loop-less Inv-loop μ-loop
-loop-less c = omega arith
 
 loop-again : tie.Need-loop-again Inv-loop μ-loop
 loop-again c =
@@ -115,9 +73,6 @@ loop-again c =
           (sym (t .before .says .ensures) ∙ not-false (t .before .says .result) (t .if2 .left))),
     )
 
-no-entries-requires-3 : tie.Need-no-entries-requires-3 Inv-loop μ-loop
-no-entries-requires-3 c κs = tt
-
 returns-3 : tie.Need-returns-3 Inv-loop μ-loop
 returns-3 c =
     let l = c .before .before in
@@ -134,25 +89,25 @@ read-line-spec =
     (tie.spec
     Inv-loop
     μ-loop
-    begin-requires
+    (λ c κs. tt)
     loop-holds
-    no-entries-requires
+    (λ c κs. tt)
     returns
-    field-end-requires
-    first-requires
-    sub-value
-    part-value-start
-    part-value-end
-    value-requires
-    says-requires
-    no-entries-requires-2
+    (λ c κs. omega arith)
+    (λ c κs. tt)
+    (λ c. omega arith)
+    (λ c. omega arith)
+    (λ c. omega arith)
+    (λ c κs. tt)
+    (λ c κs. tt)
+    (λ c κs. tt)
     returns-2
-    with-value-requires
-    number-in-requires
+    (λ c κs. tt)
+    (λ c κs. tt)
     next-requires
-    add-from
-    loop-less
+    (λ c. omega arith)
+    (λ c. omega arith)
     loop-again
-    no-entries-requires-3
+    (λ c κs. tt)
     returns-3
     returns-4)

@@ -4,21 +4,6 @@ use Rattle.sheet_passes.proofs.sized.Statement.{statement}
 use Rattle.sheet_passes.proofs.sized.Tie as tie
 use Rattle.sheet_passes.proofs.Laws.{line-sized}
 
-read-line-requires : tie.Need-read-line-requires
-read-line-requires c κs = search needs
-
-slice-aggregate-made : tie.Need-slice-aggregate-made
-slice-aggregate-made c = search needs
-
-made-requires : tie.Need-made-requires
-made-requires c κs = search needs
-
-names-lines-requires : tie.Need-names-lines-requires
-names-lines-requires c κs = search needs
-
-sized-as-requires : tie.Need-sized-as-requires
-sized-as-requires c κs = search needs
-
 returns : tie.Need-returns
 returns c =
     let a = c .before .before .before .before .before .before in
@@ -29,9 +14,9 @@ pub sized-spec : {M : Type 1} → statement M
 sized-spec =
     tie.close
     (tie.spec
-    read-line-requires
-    slice-aggregate-made
-    made-requires
-    names-lines-requires
-    sized-as-requires
+    (λ c κs. search needs)
+    (λ c. search needs)
+    (λ c κs. search needs)
+    (λ c κs. search needs)
+    (λ c κs. search needs)
     returns)

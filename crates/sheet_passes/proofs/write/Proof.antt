@@ -19,42 +19,12 @@ loop-holds c =
     let s = c .before .before .before in
     (omega arith, omega arith, refl, writing (s .args .text .now) (s .args .from) (s .args .addresses .now) (s .args .image .now) (s .pre .0))
 
-line-end-requires : tie.Need-line-end-requires Inv-loop μ-loop
-line-end-requires c κs = omega arith
-
-sub-encoded : tie.Need-sub-encoded Inv-loop μ-loop
-sub-encoded c = omega arith
-
-part-encoded-start : tie.Need-part-encoded-start Inv-loop μ-loop
-part-encoded-start c = omega arith
-
-part-encoded-end : tie.Need-part-encoded-end Inv-loop μ-loop
-part-encoded-end c = omega arith
-
-mul-encoded : tie.Need-mul-encoded Inv-loop μ-loop
-mul-encoded c = omega arith
-
 shared-slice-read-encoded : tie.Need-shared-slice-read-encoded Inv-loop μ-loop
 shared-slice-read-encoded c =
     let l = c .before .before .before .before .loop in
     let a = c .before .before .before .before .before .before .before .before .args in
     let e = c .before .before .line-end in
     place-inside (a .text .now) (a .addresses .now) (length (linesAt (a .text .now) (a .from))) (l .next) (l .k) (l .inv .3 .address) (l .inv .3 .left) (e .result) (omega arith) (e .ensures .0)
-
-encoded-requires : tie.Need-encoded-requires Inv-loop μ-loop
-encoded-requires c κs = omega arith
-
-mul-put-words : tie.Need-mul-put-words Inv-loop μ-loop
-mul-put-words c = omega arith
-
-sub-put-words : tie.Need-sub-put-words Inv-loop μ-loop
-sub-put-words c = omega arith
-
-part-put-words-start : tie.Need-part-put-words-start Inv-loop μ-loop
-part-put-words-start c = omega arith
-
-part-put-words-end : tie.Need-part-put-words-end Inv-loop μ-loop
-part-put-words-end c = omega arith
 
 put-words-requires : tie.Need-put-words-requires Inv-loop μ-loop
 put-words-requires c κs =
@@ -73,15 +43,6 @@ add-at c =
     let r = c .before .before .before .before .before .encoded in
     omega (arith, c .before .before .before .before .before .before .before .before .before .before .before .before .before .before .good, writing-room (a .text .now) (a .from) (a .addresses .now) (a .image .now) (l .inv .3) (e .result) (omega arith) (e .ensures .0) (r .result) (r .ensures) (c .before .before .before .before .before .before .before .before .before .before .before .before .before .before .pre .1))
 
-add-k : tie.Need-add-k Inv-loop μ-loop
-add-k c = omega arith
-
-add-next : tie.Need-add-next Inv-loop μ-loop
-add-next c = omega arith
-
-loop-less : tie.Need-loop-less Inv-loop μ-loop
-loop-less c = omega arith
-
 loop-again : tie.Need-loop-again Inv-loop μ-loop
 loop-again c =
     let l = c .before .before .before .before .before .before .before .before .before .before .loop in
@@ -92,9 +53,6 @@ loop-again c =
     let room = writing-room (a .text .now) (a .from) (a .addresses .now) (a .image .now) (l .inv .3) (e .result) (omega arith) (e .ensures .0) (r .result) (r .ensures) pre in
     let inside = place-inside (a .text .now) (a .addresses .now) (length (linesAt (a .text .now) (a .from))) (l .next) (l .k) (l .inv .3 .address) (l .inv .3 .left) (e .result) (omega arith) (e .ensures .0) in
     (omega arith, omega arith, omega arith, writing-next (a .text .now) (a .from) (a .addresses .now) (a .image .now) (l .inv .3) (e .result) (omega arith) (e .ensures .0) (r .result) (r .ensures) pre (c .before .before .before .put-words .last .0) (c .before .before .before .put-words .ensures))
-
-same-length : tie.Need-same-length Inv-loop μ-loop
-same-length c = omega arith
 
 returns : tie.Need-returns Inv-loop μ-loop
 returns c =
@@ -109,22 +67,22 @@ write-spec =
     Inv-loop
     μ-loop
     loop-holds
-    line-end-requires
-    sub-encoded
-    part-encoded-start
-    part-encoded-end
-    mul-encoded
+    (λ c κs. omega arith)
+    (λ c. omega arith)
+    (λ c. omega arith)
+    (λ c. omega arith)
+    (λ c. omega arith)
     shared-slice-read-encoded
-    encoded-requires
-    mul-put-words
-    sub-put-words
-    part-put-words-start
-    part-put-words-end
+    (λ c κs. omega arith)
+    (λ c. omega arith)
+    (λ c. omega arith)
+    (λ c. omega arith)
+    (λ c. omega arith)
     put-words-requires
     add-at
-    add-k
-    add-next
-    loop-less
+    (λ c. omega arith)
+    (λ c. omega arith)
+    (λ c. omega arith)
     loop-again
-    same-length
+    (λ c. omega arith)
     returns)

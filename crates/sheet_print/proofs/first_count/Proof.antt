@@ -8,12 +8,6 @@ use Rattle.sheet_print.specs.ListingLaws.{count-last, count-more, rises-
 returns : tie.Need-returns
 returns c = sym (count-last (c .before .before .args .addresses .now) (c .before .before .args .left) (omega arith))
 
-shared-slice-read-words-between : tie.Need-shared-slice-read-words-between
-shared-slice-read-words-between c = search needs
-
-shared-slice-read-words-between-2 : tie.Need-shared-slice-read-words-between-2
-shared-slice-read-words-between-2 c = search needs
-
 words-between-requires : tie.Need-words-between-requires
 words-between-requires c κs = rises-more (c .before .before .before .before .args .addresses .now) (c .before .before .before .before .pre) (omega arith)
 
@@ -25,7 +19,7 @@ first-count-spec =
     tie.close
     (tie.spec
     returns
-    shared-slice-read-words-between
-    shared-slice-read-words-between-2
+    (λ c. search needs)
+    (λ c. search needs)
     words-between-requires
     returns-2)

@@ -7,9 +7,6 @@ use mir.Syntax.{w64}
 use lib.ListN.{length-take}
 use Rattle.sheet_print.specs.PrintedLaws.{listable, refusal-is, from-first}
 
-translate-requires : tie.Need-translate-requires
-translate-requires c κs = search needs
-
 slice-reshare-prefix-put-listing : tie.Need-slice-reshare-prefix-put-listing
 slice-reshare-prefix-put-listing c = listable (c .before .before .before .before .before .before .translate .ensures) (c .if1 .taken) .held
 
@@ -25,15 +22,6 @@ slice-aggregate-put-listing-2 c = rw length-take (omega (arith, listable (c .bef
 put-listing-requires : tie.Need-put-listing-requires
 put-listing-requires c κs = let l = listable (c .before .before .before .before .before .before .before .before .before .translate .ensures) (c .before .before .before .if1 .taken) in (omega arith, l .few, l .laid)
 
-same-length : tie.Need-same-length
-same-length c = search needs
-
-same-length-2 : tie.Need-same-length-2
-same-length-2 c = search needs
-
-same-length-3 : tie.Need-same-length-3
-same-length-3 c = search needs
-
 returns : tie.Need-returns
 returns c =
     let t = c .before .before .before .before .before .before .before .before .before .before .before .before .translate .ensures in
@@ -41,18 +29,6 @@ returns c =
     let p = c .before .before .put-listing .ensures in
     let f = from-first _ (p .0) (l .listing) in
     ((f .0, f .1, omega (arith, l .few)), (t .image, t .scratch))
-
-put-refusal-requires : tie.Need-put-refusal-requires
-put-refusal-requires c κs = search needs
-
-same-length-4 : tie.Need-same-length-4
-same-length-4 c = search needs
-
-same-length-5 : tie.Need-same-length-5
-same-length-5 c = search needs
-
-same-length-6 : tie.Need-same-length-6
-same-length-6 c = search needs
 
 returns-2 : tie.Need-returns-2
 returns-2 c =
@@ -65,18 +41,18 @@ pub print-spec : {M : Type 1} → statement M
 print-spec =
     tie.close
     (tie.spec
-    translate-requires
+    (λ c κs. search needs)
     slice-reshare-prefix-put-listing
     slice-aggregate-put-listing
     slice-reshare-prefix-put-listing-2
     slice-aggregate-put-listing-2
     put-listing-requires
-    same-length
-    same-length-2
-    same-length-3
+    (λ c. search needs)
+    (λ c. search needs)
+    (λ c. search needs)
     returns
-    put-refusal-requires
-    same-length-4
-    same-length-5
-    same-length-6
+    (λ c κs. search needs)
+    (λ c. search needs)
+    (λ c. search needs)
+    (λ c. search needs)
     returns-2)

@@ -5,14 +5,8 @@ use native.Mathlib.Omega.{arith}
 use Rattle.base_text.specs.WrittenLaws.{decimal-20}
 use Rattle.base_text.specs.WroteLaws.{wrote, wrote-then}
 
-put-decimal-requires : tie.Need-put-decimal-requires
-put-decimal-requires c κs = search needs
-
 put-byte-requires : tie.Need-put-byte-requires
 put-byte-requires c κs = omega (arith, decimal-20 (c .before .before .before .before .before .before .args .n) (omega arith))
-
-same-length : tie.Need-same-length
-same-length c = search needs
 
 returns : tie.Need-returns
 returns c =
@@ -20,4 +14,4 @@ returns c =
     (wrote-then (wrote (c .before .before .before .before .before .before .put-decimal .ensures)) (wrote (c .before .before .put-byte .ensures)) (omega arith), omega arith)
 
 pub put-field-spec : {M : Type 1} → statement M
-put-field-spec = tie.close (tie.spec put-decimal-requires put-byte-requires same-length returns)
+put-field-spec = tie.close (tie.spec (λ c κs. search needs) put-byte-requires (λ c. search needs) returns)

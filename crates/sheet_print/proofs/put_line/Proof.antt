@@ -9,12 +9,6 @@ use Rattle.base_spec.specs.Refused.{tab}
 use Rattle.base_text.specs.WroteLaws.{wrote, wrote-then}
 use Rattle.print_spec.specs.Printed.{lineText}
 
-put-field-requires : tie.Need-put-field-requires
-put-field-requires c κs = search needs
-
-put-hex8-requires : tie.Need-put-hex8-requires
-put-hex8-requires c κs = search needs
-
 put-words-requires : tie.Need-put-words-requires
 put-words-requires c κs =
     let k = c .before .before .before .before .before .before .before .before .before .before .before .args .k in
@@ -26,9 +20,6 @@ put-byte-requires c κs =
     let k = c .before .before .before .before .before .before .before .before .before .before .before .before .before .before .before .args .k in
     let n = c .before .before .before .before .before .before .before .before .before .before .before .put-field .ensures .0 .next in
     omega (arith, n, length-append (decimalOf k) tab, decimal-length 3 k (omega arith))
-
-same-length : tie.Need-same-length
-same-length c = search needs
 
 returns : tie.Need-returns
 unfolding lineText
@@ -47,9 +38,9 @@ pub put-line-spec : {M : Type 1} → statement M
 put-line-spec =
     tie.close
     (tie.spec
-    put-field-requires
-    put-hex8-requires
+    (λ c κs. search needs)
+    (λ c κs. search needs)
     put-words-requires
     put-byte-requires
-    same-length
+    (λ c. search needs)
     returns)

@@ -21,21 +21,6 @@ abbrev μ-loop : tie.MeasureT-loop
 loop-holds : tie.Need-loop-holds Inv-loop μ-loop
 loop-holds c = (omega arith, omega arith, refl, omega arith, c .before .before .before .pre .2, [], wrote-none (c .before .before .before .args .out .now) 0, refl)
 
-mul-first-count : tie.Need-mul-first-count Inv-loop μ-loop
-mul-first-count c = omega arith
-
-sub-first-count : tie.Need-sub-first-count Inv-loop μ-loop
-sub-first-count c = omega arith
-
-part-first-count-start : tie.Need-part-first-count-start Inv-loop μ-loop
-part-first-count-start c = omega arith
-
-part-first-count-end : tie.Need-part-first-count-end Inv-loop μ-loop
-part-first-count-end c = omega arith
-
-sub-first-count-2 : tie.Need-sub-first-count-2 Inv-loop μ-loop
-sub-first-count-2 c = omega arith
-
 first-count-requires : tie.Need-first-count-requires Inv-loop μ-loop
 first-count-requires c κs =
     let a = c .before .before .before .before .before .before .args in
@@ -49,24 +34,6 @@ add-to c =
     let f = c .first-count in
     let n = laid-next (a .addresses .now) (a .words .now) (l .k) (l .from) (omega arith) (l .inv .4) (f .result) (f .ensures) in
     omega arith
-
-add-put-line : tie.Need-add-put-line Inv-loop μ-loop
-add-put-line c = omega arith
-
-mul-put-line : tie.Need-mul-put-line Inv-loop μ-loop
-mul-put-line c = omega arith
-
-shared-slice-read-put-line : tie.Need-shared-slice-read-put-line Inv-loop μ-loop
-shared-slice-read-put-line c = omega arith
-
-mul-put-line-2 : tie.Need-mul-put-line-2 Inv-loop μ-loop
-mul-put-line-2 c = omega arith
-
-sub-put-line : tie.Need-sub-put-line Inv-loop μ-loop
-sub-put-line c = omega arith
-
-part-put-line-start : tie.Need-part-put-line-start Inv-loop μ-loop
-part-put-line-start c = omega arith
 
 part-put-line-end : tie.Need-part-put-line-end Inv-loop μ-loop
 part-put-line-end c =
@@ -83,12 +50,6 @@ put-line-requires c κs =
     let f = c .before .before .before .first-count in
     let n = laid-next (a .addresses .now) (a .words .now) (l .k) (l .from) (omega arith) (l .inv .4) (f .result) (f .ensures) in
     (omega arith, omega arith, rw length-take (omega arith))
-
-add-k : tie.Need-add-k Inv-loop μ-loop
-add-k c = omega arith
-
-loop-less : tie.Need-loop-less Inv-loop μ-loop
-loop-less c = omega arith
 
 loop-again : tie.Need-loop-again Inv-loop μ-loop
 loop-again c =
@@ -108,9 +69,6 @@ loop-again c =
       l .inv .7 ∙ rw e (sym (append-assoc (l .inv .5) _ _)),
     )
 
-same-length : tie.Need-same-length Inv-loop μ-loop
-same-length c = omega arith
-
 returns : tie.Need-returns Inv-loop μ-loop
 returns c =
     let a = c .before .before .before .before .before .args in
@@ -125,23 +83,23 @@ put-listing-spec =
     Inv-loop
     μ-loop
     loop-holds
-    mul-first-count
-    sub-first-count
-    part-first-count-start
-    part-first-count-end
-    sub-first-count-2
+    (λ c. omega arith)
+    (λ c. omega arith)
+    (λ c. omega arith)
+    (λ c. omega arith)
+    (λ c. omega arith)
     first-count-requires
     add-to
-    add-put-line
-    mul-put-line
-    shared-slice-read-put-line
-    mul-put-line-2
-    sub-put-line
-    part-put-line-start
+    (λ c. omega arith)
+    (λ c. omega arith)
+    (λ c. omega arith)
+    (λ c. omega arith)
+    (λ c. omega arith)
+    (λ c. omega arith)
     part-put-line-end
     put-line-requires
-    add-k
-    loop-less
+    (λ c. omega arith)
+    (λ c. omega arith)
     loop-again
-    same-length
+    (λ c. omega arith)
     returns)

@@ -8,33 +8,12 @@ use Rattle.sheet_spec.specs.Names.{bytes}
 use Rattle.base_text.specs.WroteLaws.{wrote, wrote-then, signed-20}
 use Rattle.print_spec.specs.Printed.{refusalText}
 
-slice-aggregate-put : tie.Need-slice-aggregate-put
-slice-aggregate-put c = search needs
-
-put-requires : tie.Need-put-requires
-put-requires c κs = search needs
-
-put-field-requires : tie.Need-put-field-requires
-put-field-requires c κs = search needs
-
-put-field-requires-2 : tie.Need-put-field-requires-2
-put-field-requires-2 c κs = search needs
-
-put-field-requires-3 : tie.Need-put-field-requires-3
-put-field-requires-3 c κs = search needs
-
-put-signed-requires : tie.Need-put-signed-requires
-put-signed-requires c κs = search needs
-
 put-byte-requires : tie.Need-put-byte-requires
 put-byte-requires c κs =
     let s = c .before .before .before .before .before .before .before .before .before .before .before .before .before .before .before .before .before .before .before .before .before .before .before in
     let l = signed-20 (s .args .value) (s .fits .value) in
     let value = rw (toZ-ofZ {w = w64} (s .fits .value)) at (c .before .before .before .put-signed .ensures) in
     omega arith
-
-same-length : tie.Need-same-length
-same-length c = search needs
 
 returns : tie.Need-returns
 unfolding refusalText
@@ -54,12 +33,12 @@ pub put-refusal-spec : {M : Type 1} → statement M
 put-refusal-spec =
     tie.close
     (tie.spec
-    slice-aggregate-put
-    put-requires
-    put-field-requires
-    put-field-requires-2
-    put-field-requires-3
-    put-signed-requires
+    (λ c. search needs)
+    (λ c κs. search needs)
+    (λ c κs. search needs)
+    (λ c κs. search needs)
+    (λ c κs. search needs)
+    (λ c κs. search needs)
     put-byte-requires
-    same-length
+    (λ c. search needs)
     returns)

@@ -3,18 +3,6 @@ use borrow.Author.Needs.{needs}
 use Rattle.sheet_same.proofs.compare.Statement.{statement}
 use Rattle.sheet_same.proofs.compare.Tie as tie
 
-translate-requires : tie.Need-translate-requires
-translate-requires c κs = search needs
-
-slice-read-start : tie.Need-slice-read-start
-slice-read-start c = search needs
-
-translate-requires-2 : tie.Need-translate-requires-2
-translate-requires-2 c κs = search needs
-
-slice-read-other : tie.Need-slice-read-other
-slice-read-other c = search needs
-
 slice-reshare-prefix-equal-words : tie.Need-slice-reshare-prefix-equal-words
 slice-reshare-prefix-equal-words c =
     let a = c .before .before .before .before .before .before .before .before .before .before .before .before .before .before .before .before .before .before .before .before .before .args in
@@ -41,18 +29,6 @@ slice-aggregate-equal-words-2 c =
     let u = c .before .before .before .before .before .before .before .translate2 in
     lent (a .second .now) (a .second-image .now) (t .last .1 .1 .0) (u .last .1 .0) (u .last .1 .1 .0) (u .result) (u .ensures)
 
-equal-words-requires : tie.Need-equal-words-requires
-equal-words-requires c κs = search needs
-
-same-length : tie.Need-same-length
-same-length c = search needs
-
-same-length-2 : tie.Need-same-length-2
-same-length-2 c = search needs
-
-same-length-3 : tie.Need-same-length-3
-same-length-3 c = search needs
-
 returns : tie.Need-returns
 returns c =
     let a = c .before .before .before .before .before .before .before .before .before .before .before .before .before .before .before .before .before .before .before .before .before .before .before .before .before .before .args in
@@ -66,16 +42,16 @@ pub compare-spec : {M : Type 1} → statement M
 compare-spec =
     tie.close
     (tie.spec
-    translate-requires
-    slice-read-start
-    translate-requires-2
-    slice-read-other
+    (λ c κs. search needs)
+    (λ c. search needs)
+    (λ c κs. search needs)
+    (λ c. search needs)
     slice-reshare-prefix-equal-words
     slice-aggregate-equal-words
     slice-reshare-prefix-equal-words-2
     slice-aggregate-equal-words-2
-    equal-words-requires
-    same-length
-    same-length-2
-    same-length-3
+    (λ c κs. search needs)
+    (λ c. search needs)
+    (λ c. search needs)
+    (λ c. search needs)
     returns)

@@ -9,26 +9,11 @@ compare-requires c κs =
     let a = c .before .before .before .before .before .before .before .before .before .args in
     room (length (a .scratch .now)) (length (a .first-image .now)) (length (a .second-image .now)) (c .before .before .before .if1 .taken)
 
-same-length : tie.Need-same-length
-same-length c = search needs
-
-same-length-2 : tie.Need-same-length-2
-same-length-2 c = search needs
-
-same-length-3 : tie.Need-same-length-3
-same-length-3 c = search needs
-
 returns : tie.Need-returns
 returns c =
     let a = c .before .before .before .before .before .before .before .before .before .before .before .before .before .before .before .before .args in
     let k = c .before .before .before .before .before .before .compare in
     with-room (a .first .now) (a .second .now) (a .first-image .now) (a .second-image .now) (a .scratch .now) (c .before .before .before .before .before .before .before .before .before .before .if1 .taken) (k .last .1 .1 .0) (k .last .1 .1 .1 .0) (k .last .1 .1 .1 .1 .0) (k .result) (k .ensures)
-
-zero-requires : tie.Need-zero-requires
-zero-requires c κs = search needs
-
-same-length-4 : tie.Need-same-length-4
-same-length-4 c = search needs
 
 returns-2 : tie.Need-returns-2
 returns-2 c =
@@ -41,10 +26,10 @@ same-spec =
     tie.close
     (tie.spec
     compare-requires
-    same-length
-    same-length-2
-    same-length-3
+    (λ c. search needs)
+    (λ c. search needs)
+    (λ c. search needs)
     returns
-    zero-requires
-    same-length-4
+    (λ c κs. search needs)
+    (λ c. search needs)
     returns-2)

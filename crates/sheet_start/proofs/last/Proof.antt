@@ -7,14 +7,8 @@ use Rattle.sheet_start.proofs.last.Tie as tie
 returns : tie.Need-returns
 returns c = sym (last-none (c .before .args .text .now) (c .if1 .taken))
 
-sub-result : tie.Need-sub-result
-sub-result c = search needs
-
-shared-slice-read-result : tie.Need-shared-slice-read-result
-shared-slice-read-result c = search needs
-
 returns-2 : tie.Need-returns-2
 returns-2 c = sym (last-some (c .before .before .args .text .now) (c .before .if1 .left))
 
 pub last-spec : {M : Type 1} → statement M
-last-spec = tie.close (tie.spec returns sub-result shared-slice-read-result returns-2)
+last-spec = tie.close (tie.spec returns (λ c. search needs) (λ c. search needs) returns-2)

@@ -4,14 +4,8 @@ use borrow.Author.Needs.{needs}
 use Rattle.sheet_start.proofs.lines_begin.Statement.{statement}
 use Rattle.sheet_start.proofs.lines_begin.Tie as tie
 
-line-end-requires : tie.Need-line-end-requires
-line-end-requires c κs = search needs
-
-add-result : tie.Need-add-result
-add-result c = search needs
-
 returns : tie.Need-returns
 returns c = omega (arith, start-length (c .before .before .args .text .now), c .line-end .ensures .0)
 
 pub lines-begin-spec : {M : Type 1} → statement M
-lines-begin-spec = tie.close (tie.spec line-end-requires add-result returns)
+lines-begin-spec = tie.close (tie.spec (λ c κs. search needs) (λ c. search needs) returns)

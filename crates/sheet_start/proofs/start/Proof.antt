@@ -8,14 +8,8 @@ use borrow.Author.Needs.{needs}
 use Rattle.sheet_start.proofs.start.Statement.{statement}
 use Rattle.sheet_start.proofs.start.Tie as tie
 
-line-end-requires : tie.Need-line-end-requires
-line-end-requires c κs = search needs
-
 slice-aggregate-start-in : tie.Need-slice-aggregate-start-in
 slice-aggregate-start-in c = rw length-take (omega (arith, c .before .line-end .ensures .1))
-
-start-in-requires : tie.Need-start-in-requires
-start-in-requires c κs = search needs
 
 returns : tie.Need-returns
 returns c =
@@ -24,4 +18,4 @@ returns c =
 
 pub start-spec : {M : Type 1} → statement M
 start-spec =
-    tie.close (tie.spec line-end-requires slice-aggregate-start-in start-in-requires returns)
+    tie.close (tie.spec (λ c κs. search needs) slice-aggregate-start-in (λ c κs. search needs) returns)

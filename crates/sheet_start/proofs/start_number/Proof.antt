@@ -7,22 +7,10 @@ use borrow.Author.Needs.{needs}
 use Rattle.sheet_start.proofs.start_number.Statement.{statement}
 use Rattle.sheet_start.proofs.start_number.Tie as tie
 
-enum-known-n : tie.Need-enum-known-n
-enum-known-n c = search needs
-
 cast-t9 : tie.Need-cast-t9
 cast-t9 c =
     let g = c .before .before .n .given .0 in
     omega (arith, ltb-true (g .1 .0) 4294967296 (and-true (not (g .0)) (ltb (g .1 .0) 4294967296) (c .if1 .taken) .1))
-
-no-start-requires : tie.Need-no-start-requires
-no-start-requires c κs = search needs
-
-enum-told : tie.Need-enum-told
-enum-told c = search needs
-
-no-start-requires-2 : tie.Need-no-start-requires-2
-no-start-requires-2 c κs = search needs
 
 returns : tie.Need-returns
 returns c = rw (c .before .before .n .given .1, c .if1 .taken)
@@ -30,18 +18,15 @@ returns c = rw (c .before .before .n .given .1, c .if1 .taken)
 returns-2 : tie.Need-returns-2
 returns-2 c = rw (c .before .before .before .n .given .1, c .before .if1 .left) (c .no-start .ensures)
 
-returns-3 : tie.Need-returns-3
-returns-3 c = search needs
-
 pub start-number-spec : {M : Type 1} → statement M
 start-number-spec =
     tie.close
     (tie.spec
-    enum-known-n
+    (λ c. search needs)
     cast-t9
-    no-start-requires
-    enum-told
-    no-start-requires-2
+    (λ c κs. search needs)
+    (λ c. search needs)
+    (λ c κs. search needs)
     returns
     returns-2
-    returns-3)
+    (λ c. search needs))

@@ -4,12 +4,6 @@ use borrow.Author.Needs.{needs}
 use Rattle.sheet_translate.proofs.closing.Statement.{statement}
 use Rattle.sheet_translate.proofs.closing.Tie as tie
 
-mul-if1 : tie.Need-mul-if1
-mul-if1 c = search needs
-
-add-if1 : tie.Need-add-if1
-add-if1 c = search needs
-
 returns : tie.Need-returns
 returns c = let a = c .before .args in sym (close-9 (a .start) (a .words) (a .room) (c .if1 .taken))
 
@@ -20,4 +14,4 @@ returns-3 : tie.Need-returns-3
 returns-3 c = let a = c .before .before .args in sym (close-0 (a .start) (a .words) (a .room) (c .before .if1 .left) (c .if2 .left))
 
 pub closing-spec : {M : Type 1} → statement M
-closing-spec = tie.close (tie.spec mul-if1 add-if1 returns returns-2 returns-3)
+closing-spec = tie.close (tie.spec (λ c. search needs) (λ c. search needs) returns returns-2 returns-3)

@@ -5,20 +5,11 @@ use borrow.Author.Needs.{needs}
 use Rattle.sheet_translate.proofs.lay_down.Statement.{statement}
 use Rattle.sheet_translate.proofs.lay_down.Tie as tie
 
-slice-reshare-prefix-ranges : tie.Need-slice-reshare-prefix-ranges
-slice-reshare-prefix-ranges c = search needs
-
 slice-aggregate-ranges : tie.Need-slice-aggregate-ranges
 slice-aggregate-ranges c = lent (c .before .before .before .before .pre)
 
 ranges-requires : tie.Need-ranges-requires
 ranges-requires c κs = placed (c .before .before .before .before .pre)
-
-refuse-requires : tie.Need-refuse-requires
-refuse-requires c κs = search needs
-
-same-length : tie.Need-same-length
-same-length c = search needs
 
 returns : tie.Need-returns
 returns c =
@@ -26,9 +17,6 @@ returns c =
     let r = c .before .before .refuse in
     let f = rw (toZ-ofZ {w = w64} {z = p .result .value} (search needs)) at (r .ensures .0) in
     refused-range (c .before .before .before .before .before .before .before .before .before .before .before .before .pre) (p .result) (p .ensures) (c .before .before .before .before .before .if1 .taken) (r .last .0) (r .result) f (r .ensures .1)
-
-slice-reshare-prefix-write : tie.Need-slice-reshare-prefix-write
-slice-reshare-prefix-write c = search needs
 
 slice-aggregate-write : tie.Need-slice-aggregate-write
 slice-aggregate-write c = lent (c .before .before .before .before .before .before .before .before .pre)
@@ -38,12 +26,6 @@ write-requires c κs =
     let z = c .before .before .before .before .before .before .before .before .before .pre in
     let p = c .before .before .before .before .ranges in
     (placed z, image-fits z (p .result) (p .ensures) (c .before .before .if1 .left))
-
-same-length-2 : tie.Need-same-length-2
-same-length-2 c = search needs
-
-same-length-3 : tie.Need-same-length-3
-same-length-3 c = search needs
 
 returns-2 : tie.Need-returns-2
 returns-2 c =
@@ -55,15 +37,15 @@ pub lay-down-spec : {M : Type 1} → statement M
 lay-down-spec =
     tie.close
     (tie.spec
-    slice-reshare-prefix-ranges
+    (λ c. search needs)
     slice-aggregate-ranges
     ranges-requires
-    refuse-requires
-    same-length
+    (λ c κs. search needs)
+    (λ c. search needs)
     returns
-    slice-reshare-prefix-write
+    (λ c. search needs)
     slice-aggregate-write
     write-requires
-    same-length-2
-    same-length-3
+    (λ c. search needs)
+    (λ c. search needs)
     returns-2)

@@ -7,16 +7,10 @@ use borrow.Author.Needs.{needs}
 use Rattle.sheet_translate.proofs.opening.Statement.{statement}
 use Rattle.sheet_translate.proofs.opening.Tie as tie
 
-is-sheet-requires : tie.Need-is-sheet-requires
-is-sheet-requires c κs = search needs
-
 returns : tie.Need-returns
 returns c =
     let a = c .before .before .before .args in
     sym (open-10 (a .text .now) (a .places) (sym (c .before .is-sheet .ensures) ∙ not-true _ (c .if1 .taken)))
-
-start-requires : tie.Need-start-requires
-start-requires c κs = search needs
 
 returns-2 : tie.Need-returns-2
 returns-2 c =
@@ -29,9 +23,6 @@ returns-3 c =
     let a = c .before .before .before .before .before .before .before .before .args in
     let s = c .before .before .before .before .start in
     sym (open-9 (a .text .now) (a .places) (sym (c .before .before .before .before .before .before .is-sheet .ensures) ∙ not-false _ (c .before .before .before .before .before .if1 .left)) (s .result) (s .ensures) (not-false _ (c .before .before .if2 .left)) (c .if3 .taken))
-
-feeds-requires : tie.Need-feeds-requires
-feeds-requires c κs = search needs
 
 sub-if4 : tie.Need-sub-if4
 sub-if4 c = omega (arith, outline (c .before .before .before .before .before .before .before .before .before .args .text .now) (sym (c .before .before .before .before .before .before .before .is-sheet .ensures) ∙ not-false _ (c .before .before .before .before .before .before .if1 .left)) .least)
@@ -52,12 +43,12 @@ pub opening-spec : {M : Type 1} → statement M
 opening-spec =
     tie.close
     (tie.spec
-    is-sheet-requires
+    (λ c κs. search needs)
     returns
-    start-requires
+    (λ c κs. search needs)
     returns-2
     returns-3
-    feeds-requires
+    (λ c κs. search needs)
     sub-if4
     returns-4
     returns-5)

@@ -5,20 +5,11 @@ use borrow.Author.Needs.{needs}
 use Rattle.sheet_translate.proofs.translate_lines.Statement.{statement}
 use Rattle.sheet_translate.proofs.translate_lines.Tie as tie
 
-feeds-requires : tie.Need-feeds-requires
-feeds-requires c κs = search needs
-
 sub-lines : tie.Need-sub-lines
 sub-lines c =
     let a = c .before .before .before .before .args in
     let n = c .feeds in
     feeds-some (a .text .now) (a .image .now) (a .scratch .now) (c .before .before .before .before .pre) (n .result) (n .ensures)
-
-lines-begin-requires : tie.Need-lines-begin-requires
-lines-begin-requires c κs = search needs
-
-start-requires : tie.Need-start-requires
-start-requires c κs = search needs
 
 sizes-requires : tie.Need-sizes-requires
 sizes-requires c κs =
@@ -26,12 +17,6 @@ sizes-requires c κs =
     let n = c .before .before .before .feeds in
     let f = c .before .before .lines-begin in
     sizes-ready (a .text .now) (a .image .now) (a .scratch .now) (c .before .before .before .before .before .before .before .pre) (n .result) (n .ensures) (f .result) (f .ensures)
-
-refuse-requires : tie.Need-refuse-requires
-refuse-requires c κs = search needs
-
-same-length : tie.Need-same-length
-same-length c = search needs
 
 returns : tie.Need-returns
 returns c =
@@ -52,12 +37,6 @@ closing-requires c κs =
     let t = c .before .before .before .before .before .before .start in
     let p = c .before .before .before .before .sizes in
     words-most (a .text .now) (a .image .now) (a .scratch .now) (c .before .before .before .before .before .before .before .before .before .before .before .before .pre) (n .result) (n .ensures) (f .result) (f .ensures) (t .result) (t .ensures) (p .result) (p .last .1 .1 .1 .1 .0) (p .ensures .0) (p .ensures .1) (c .if1 .left)
-
-refuse-requires-2 : tie.Need-refuse-requires-2
-refuse-requires-2 c κs = search needs
-
-same-length-2 : tie.Need-same-length-2
-same-length-2 c = search needs
 
 returns-2 : tie.Need-returns-2
 returns-2 c =
@@ -80,12 +59,6 @@ lay-down-requires c κs =
     let k = c .before .before .before .closing in
     ready (a .text .now) (a .image .now) (a .scratch .now) (c .before .before .before .before .before .before .before .before .before .before .before .before .before .before .before .before .pre) (n .result) (n .ensures) (f .result) (f .ensures) (t .result) (t .ensures) (p .result) (p .last .1 .1 .1 .1 .0) (p .ensures .0) (p .ensures .1) (c .before .before .before .before .if1 .left) (k .result) (k .ensures) (c .before .before .if2 .left)
 
-same-length-3 : tie.Need-same-length-3
-same-length-3 c = search needs
-
-same-length-4 : tie.Need-same-length-4
-same-length-4 c = search needs
-
 returns-3 : tie.Need-returns-3
 returns-3 c =
     let a = c .before .before .before .before .before .before .before .before .before .before .before .before .before .before .before .before .before .before .before .before .before .args in
@@ -101,19 +74,19 @@ pub translate-lines-spec : {M : Type 1} → statement M
 translate-lines-spec =
     tie.close
     (tie.spec
-    feeds-requires
+    (λ c κs. search needs)
     sub-lines
-    lines-begin-requires
-    start-requires
+    (λ c κs. search needs)
+    (λ c κs. search needs)
     sizes-requires
-    refuse-requires
-    same-length
+    (λ c κs. search needs)
+    (λ c. search needs)
     returns
     closing-requires
-    refuse-requires-2
-    same-length-2
+    (λ c κs. search needs)
+    (λ c. search needs)
     returns-2
     lay-down-requires
-    same-length-3
-    same-length-4
+    (λ c. search needs)
+    (λ c. search needs)
     returns-3)

@@ -5,17 +5,11 @@ use mathlib.Core.Path.{_≡_, sym, _∙_}
 use borrow.Author.Tests.{lt-ltb, le-ltb, le-leb, lt-leb}
 use Rattle.sheets.specs.Headers.{headerOf, none-within}
 
-no-header-requires : tie.Need-no-header-requires
-no-header-requires c κs = search needs
-
 returns : tie.Need-returns
 unfolding headerOf
 returns c =
     let a = c .before .before .args in
     (c .no-header .ensures ∙ rw (le-ltb (a .bytes) (a .left) (c .before .if1 .taken)), none-within (a .line) _ _ (c .no-header .ensures))
-
-no-header-requires-2 : tie.Need-no-header-requires-2
-no-header-requires-2 c κs = search needs
 
 returns-2 : tie.Need-returns-2
 unfolding headerOf
@@ -24,9 +18,6 @@ returns-2 c =
       c .no-header2 .ensures ∙ rw (lt-ltb (a .bytes) (a .left) (c .before .before .if1 .left), lt-leb (a .places) 4096 (c .before .if2 .taken)),
       none-within (a .line) _ _ (c .no-header2 .ensures),
     )
-
-no-header-requires-3 : tie.Need-no-header-requires-3
-no-header-requires-3 c κs = search needs
 
 returns-3 : tie.Need-returns-3
 unfolding headerOf
@@ -41,12 +32,6 @@ returns-3 c =
       none-within (a .line) _ _ (c .no-header3 .ensures),
     )
 
-add-begin : tie.Need-add-begin
-add-begin c = search needs
-
-add-t8 : tie.Need-add-t8
-add-t8 c = search needs
-
 returns-4 : tie.Need-returns-4
 unfolding headerOf
 returns-4 c =
@@ -57,12 +42,12 @@ pub header-of-spec : {M : Type 1} → statement M
 header-of-spec =
     tie.close
     (tie.spec
-    no-header-requires
+    (λ c κs. search needs)
     returns
-    no-header-requires-2
+    (λ c κs. search needs)
     returns-2
-    no-header-requires-3
+    (λ c κs. search needs)
     returns-3
-    add-begin
-    add-t8
+    (λ c. search needs)
+    (λ c. search needs)
     returns-4)

@@ -6,12 +6,6 @@ use mir.Syntax.{w64}
 use Rattle.isa_spec.specs.Field.{holds}
 use Rattle.isa_values.proofs.Laws.{zero-bits}
 
-range-requires : tie.Need-range-requires
-range-requires c κs = search needs
-
-number-requires : tie.Need-number-requires
-number-requires c κs = search needs
-
 returns : tie.Need-returns
 unfolding holds
 returns c =
@@ -28,4 +22,4 @@ returns c =
     ))
 
 pub holds-spec : {M : Type 1} → statement M
-holds-spec = tie.close (tie.spec range-requires number-requires returns)
+holds-spec = tie.close (tie.spec (λ c κs. search needs) (λ c κs. search needs) returns)

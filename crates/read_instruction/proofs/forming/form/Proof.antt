@@ -4,16 +4,10 @@ use borrow.Author.Needs.{needs}
 use Rattle.read_instruction.proofs.forming.form.Statement.{statement}
 use Rattle.read_instruction.proofs.forming.form.Tie as tie
 
-forms-requires : tie.Need-forms-requires
-forms-requires c κs = search needs
-
 instruction-of-requires : tie.Need-instruction-of-requires
 instruction-of-requires c κs =
     let p = c .before .before .pre in
     (p .0, p .1, p .2, p .3, sym (c .before .forms .ensures) ∙ c .if1 .taken)
-
-mul-t13 : tie.Need-mul-t13
-mul-t13 c = search needs
 
 returns : tie.Need-returns
 returns c rest = rw (c .instruction-of .ensures)
@@ -24,4 +18,4 @@ returns-2 c rest =
     rw (forms-not (a .address) (a .line) (a .x) (a .opmode) (a .ea) (a .value) (a .source) (a .destination) (a .group) (sym (c .before .forms .ensures) ∙ c .if1 .left))
 
 pub form-spec : {M : Type 1} → statement M
-form-spec = tie.close (tie.spec forms-requires instruction-of-requires mul-t13 returns returns-2)
+form-spec = tie.close (tie.spec (λ c κs. search needs) instruction-of-requires (λ c. search needs) returns returns-2)

@@ -3,24 +3,6 @@ use borrow.Author.Needs.{needs}
 use Rattle.read_instruction.proofs.forming.forms.Statement.{statement}
 use Rattle.read_instruction.proofs.forming.forms.Tie as tie
 
-enum-told : tie.Need-enum-told
-enum-told c = search needs
-
-enum-told-2 : tie.Need-enum-told-2
-enum-told-2 c = search needs
-
-is-displaced-requires : tie.Need-is-displaced-requires
-is-displaced-requires c κs = search needs
-
-enum-told-3 : tie.Need-enum-told-3
-enum-told-3 c = search needs
-
-is-post-requires : tie.Need-is-post-requires
-is-post-requires c κs = search needs
-
-is-post-requires-2 : tie.Need-is-post-requires-2
-is-post-requires-2 c κs = search needs
-
 returns : tie.Need-returns
 returns c = rw (c .enum-told .given .1)
 
@@ -39,12 +21,12 @@ pub forms-spec : {M : Type 1} → statement M
 forms-spec =
     tie.close
     (tie.spec
-    enum-told
-    enum-told-2
-    is-displaced-requires
-    enum-told-3
-    is-post-requires
-    is-post-requires-2
+    (λ c. search needs)
+    (λ c. search needs)
+    (λ c κs. search needs)
+    (λ c. search needs)
+    (λ c κs. search needs)
+    (λ c κs. search needs)
     returns
     returns-2
     returns-3

@@ -3,9 +3,6 @@ use Rattle.read_instruction.proofs.forming.is_post.Statement.{statement
 use Rattle.read_instruction.proofs.forming.is_post.Tie as tie
 use borrow.Author.Needs.{needs}
 
-enum-told : tie.Need-enum-told
-enum-told c = search needs
-
 returns : tie.Need-returns
 returns c = not-post (c .before .args .operand) (c .match .keys2)
 
@@ -13,4 +10,4 @@ returns-2 : tie.Need-returns-2
 returns-2 c = rw (c .enum-told .given .1)
 
 pub is-post-spec : {M : Type 1} → statement M
-is-post-spec = tie.close (tie.spec enum-told returns returns-2)
+is-post-spec = tie.close (tie.spec (λ c. search needs) returns returns-2)

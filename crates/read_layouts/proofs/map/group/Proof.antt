@@ -5,12 +5,6 @@ use Rattle.read_layouts.proofs.Laws.{numbered}
 use Rattle.read_layouts.proofs.map.group.Statement.{statement}
 use Rattle.read_layouts.proofs.map.group.Tie as tie
 
-group-number-requires : tie.Need-group-number-requires
-group-number-requires c κs = search needs
-
-cast-i : tie.Need-cast-i
-cast-i c = search needs
-
 array-copy-out-result : tie.Need-array-copy-out-result
 unfolding groupNumberOf
 array-copy-out-result c = rw (c .group-number .ensures) (ltb→lt (groupNumber (groupOf (c .before .args .high))) 35 (numbered (groupOf (c .before .args .high)) .1))
@@ -20,4 +14,4 @@ unfolding groupNumberOf
 returns c = rw (c .before .group-number .ensures) (numbered (groupOf (c .before .before .args .high)) .0)
 
 pub group-spec : {M : Type 1} → statement M
-group-spec = tie.close (tie.spec group-number-requires cast-i array-copy-out-result returns)
+group-spec = tie.close (tie.spec (λ c κs. search needs) (λ c. search needs) array-copy-out-result returns)

@@ -5,13 +5,10 @@ use Rattle.read_layouts.proofs.Laws.{by-rule}
 use Rattle.read_layouts.proofs.map.group_number.Statement.{statement}
 use Rattle.read_layouts.proofs.map.group_number.Tie as tie
 
-array-read-result : tie.Need-array-read-result
-array-read-result c = search needs
-
 -- the test of the table, computed
 returns : tie.Need-returns
 unfolding groupNumberOf groupOf groupAt map
 returns c = search (by-rule groupNumberOf, c .pre)
 
 pub group-number-spec : {M : Type 1} → statement M
-group-number-spec = tie.close (tie.spec array-read-result returns)
+group-number-spec = tie.close (tie.spec (λ c. search needs) returns)

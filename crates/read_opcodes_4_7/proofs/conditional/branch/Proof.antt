@@ -3,22 +3,10 @@ use borrow.Author.Needs.{needs}
 use Rattle.read_opcodes_4_7.proofs.conditional.branch.Statement.{statement}
 use Rattle.read_opcodes_4_7.proofs.conditional.branch.Tie as tie
 
-branch-target-requires : tie.Need-branch-target-requires
-branch-target-requires c κs = search needs
-
-branch-size-requires : tie.Need-branch-size-requires
-branch-size-requires c κs = search needs
-
-branch-at-requires : tie.Need-branch-at-requires
-branch-at-requires c κs = search needs
-
 returns : tie.Need-returns
 returns c =
     let a = c .before .before .before .before .args in
     rw (c .branch-at .ensures, c .before .before .branch-size .ensures, c .before .before .before .branch-target .ensures) (always-formed (a .address) (a .code) (a .byte) (a .value) (c .before .if1 .taken))
-
-from-code-requires : tie.Need-from-code-requires
-from-code-requires c κs = search needs
 
 returns-2 : tie.Need-returns-2
 returns-2 c =
@@ -29,9 +17,9 @@ pub branch-spec : {M : Type 1} → statement M
 branch-spec =
     tie.close
     (tie.spec
-    branch-target-requires
-    branch-size-requires
-    branch-at-requires
+    (λ c κs. search needs)
+    (λ c κs. search needs)
+    (λ c κs. search needs)
     returns
-    from-code-requires
+    (λ c κs. search needs)
     returns-2)

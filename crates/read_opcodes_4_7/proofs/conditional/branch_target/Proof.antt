@@ -3,15 +3,6 @@ use borrow.Author.Tests.{eq-eqb, ne-eqb}
 use Rattle.read_opcodes_4_7.proofs.conditional.branch_target.Statement.{statement}
 use Rattle.read_opcodes_4_7.proofs.conditional.branch_target.Tie as tie
 
-word-target-requires : tie.Need-word-target-requires
-word-target-requires c κs = search needs
-
-long-target-requires : tie.Need-long-target-requires
-long-target-requires c κs = search needs
-
-byte-target-requires : tie.Need-byte-target-requires
-byte-target-requires c κs = search needs
-
 returns : tie.Need-returns
 returns c = rw (c .word-target .ensures, eq-eqb _ _ (c .before .if1 .taken))
 
@@ -24,4 +15,4 @@ returns-3 c = rw (c .byte-target .ensures, ne-eqb _ _ (c .before .before .if1 .l
 pub branch-target-spec : {M : Type 1} → statement M
 branch-target-spec =
     tie.close
-    (tie.spec word-target-requires long-target-requires byte-target-requires returns returns-2 returns-3)
+    (tie.spec (λ c κs. search needs) (λ c κs. search needs) (λ c κs. search needs) returns returns-2 returns-3)

@@ -3,17 +3,8 @@ use borrow.Author.Needs.{needs}
 use Rattle.read_opcodes_4_7.proofs.conditional.conditional.Statement.{statement}
 use Rattle.read_opcodes_4_7.proofs.conditional.conditional.Tie as tie
 
-from-code-requires : tie.Need-from-code-requires
-from-code-requires c κs = search needs
-
-word-target-requires : tie.Need-word-target-requires
-word-target-requires c κs = search needs
-
 returns : tie.Need-returns
 returns c = rw (c .word-target .ensures, c .before .before .from-code .ensures, eq-eqb _ _ (c .before .if1 .taken))
-
-trap-at-requires : tie.Need-trap-at-requires
-trap-at-requires c κs = search needs
 
 returns-2 : tie.Need-returns-2
 returns-2 c = rw (c .trap-at .ensures, c .before .before .before .from-code .ensures, ne-eqb _ _ (c .before .before .if1 .left), c .before .if2 .taken)
@@ -25,9 +16,9 @@ pub conditional-spec : {M : Type 1} → statement M
 conditional-spec =
     tie.close
     (tie.spec
-    from-code-requires
-    word-target-requires
+    (λ c κs. search needs)
+    (λ c κs. search needs)
     returns
-    trap-at-requires
+    (λ c κs. search needs)
     returns-2
     returns-3)

@@ -2,14 +2,8 @@ use borrow.Author.Needs.{needs}
 use Rattle.read_opcodes_4_7.proofs.miscellaneous.one_operand.Statement.{statement}
 use Rattle.read_opcodes_4_7.proofs.miscellaneous.one_operand.Tie as tie
 
-one-at-requires : tie.Need-one-at-requires
-one-at-requires c κs = search needs
-
-size-at-requires : tie.Need-size-at-requires
-size-at-requires c κs = search needs
-
 returns : tie.Need-returns
 returns c = rw (c .size-at .ensures, c .before .one-at .ensures)
 
 pub one-operand-spec : {M : Type 1} → statement M
-one-operand-spec = tie.close (tie.spec one-at-requires size-at-requires returns)
+one-operand-spec = tie.close (tie.spec (λ c κs. search needs) (λ c κs. search needs) returns)

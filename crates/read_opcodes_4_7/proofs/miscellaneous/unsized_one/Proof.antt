@@ -5,11 +5,8 @@ use Rattle.read_opcodes_4_7.proofs.miscellaneous.unsized_one.Tie as tie
 returns : tie.Need-returns
 returns c = rw (c .if1 .taken)
 
-unsized-at-requires : tie.Need-unsized-at-requires
-unsized-at-requires c κs = search needs
-
 returns-2 : tie.Need-returns-2
 returns-2 c = rw (c .unsized-at .ensures, c .before .if1 .left)
 
 pub unsized-one-spec : {M : Type 1} → statement M
-unsized-one-spec = tie.close (tie.spec returns unsized-at-requires returns-2)
+unsized-one-spec = tie.close (tie.spec returns (λ c κs. search needs) returns-2)

@@ -11,20 +11,11 @@ returns c = rw (c .match .keys1)
 returns-2 : tie.Need-returns-2
 returns-2 c = rw (c .match .keys2)
 
-cast-t7 : tie.Need-cast-t7
-cast-t7 c = search needs
-
 returns-3 : tie.Need-returns-3
 returns-3 c = rw (c .match .keys3)
 
 returns-4 : tie.Need-returns-4
 returns-4 c = rw (c .match .keys4)
-
-cast-extended : tie.Need-cast-extended
-cast-extended c = search needs
-
-extended-requires : tie.Need-extended-requires
-extended-requires c κs = search needs
 
 returns-5 : tie.Need-returns-5
 returns-5 c = rw (c .extended .ensures, c .before .match .keys5)
@@ -47,11 +38,11 @@ return-at-spec =
     (tie.spec
     returns
     returns-2
-    cast-t7
+    (λ c. search needs)
     returns-3
     returns-4
-    cast-extended
-    extended-requires
+    (λ c. search needs)
+    (λ c κs. search needs)
     returns-5
     returns-6
     returns-7

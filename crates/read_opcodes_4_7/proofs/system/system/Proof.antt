@@ -11,12 +11,6 @@ returns c = rw (c .match .keys1)
 returns-2 : tie.Need-returns-2
 returns-2 c = rw (c .match .keys2)
 
-cast-extended : tie.Need-cast-extended
-cast-extended c = search needs
-
-extended-requires : tie.Need-extended-requires
-extended-requires c κs = search needs
-
 returns-3 : tie.Need-returns-3
 returns-3 c = rw (c .extended .ensures, c .before .match .keys3)
 
@@ -29,14 +23,8 @@ returns-5 c = rw (c .match .keys5)
 returns-6 : tie.Need-returns-6
 returns-6 c = rw (c .match .keys6)
 
-return-at-requires : tie.Need-return-at-requires
-return-at-requires c κs = search needs
-
 returns-7 : tie.Need-returns-7
 returns-7 c = rw (c .return-at .ensures, c .before .match .keys7)
-
-movec-requires : tie.Need-movec-requires
-movec-requires c κs = search needs
 
 returns-8 : tie.Need-returns-8
 returns-8 c = let h : 7 ≤ c .before .before .args .ea / 8 = rest-le 7 _ (c .before .match .rest) in rw (List·getD-eq-default, c .movec .ensures)
@@ -47,13 +35,13 @@ system-spec =
     (tie.spec
     returns
     returns-2
-    cast-extended
-    extended-requires
+    (λ c. search needs)
+    (λ c κs. search needs)
     returns-3
     returns-4
     returns-5
     returns-6
-    return-at-requires
+    (λ c κs. search needs)
     returns-7
-    movec-requires
+    (λ c κs. search needs)
     returns-8)

@@ -3,20 +3,11 @@ use borrow.Author.Needs.{needs}
 use Rattle.read_opcodes_8_f.proofs.arithmetic.compare.Statement.{statement}
 use Rattle.read_opcodes_8_f.proofs.arithmetic.compare.Tie as tie
 
-less-requires : tie.Need-less-requires
-less-requires c κs = search needs
-
-size-at-requires : tie.Need-size-at-requires
-size-at-requires c κs = search needs
-
 returns : tie.Need-returns
 returns c = rw (c .before .size-at .ensures, c .before .before .less .ensures, eq-eqb _ _ (c .if1 .taken))
-
-from-data-requires : tie.Need-from-data-requires
-from-data-requires c κs = search needs
 
 returns-2 : tie.Need-returns-2
 returns-2 c = rw (c .from-data .ensures, c .before .before .size-at .ensures, c .before .before .before .less .ensures, ne-eqb _ _ (c .before .if1 .left))
 
 pub compare-spec : {M : Type 1} → statement M
-compare-spec = tie.close (tie.spec less-requires size-at-requires returns from-data-requires returns-2)
+compare-spec = tie.close (tie.spec (λ c κs. search needs) (λ c κs. search needs) returns (λ c κs. search needs) returns-2)

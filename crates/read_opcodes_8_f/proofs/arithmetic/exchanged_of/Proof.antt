@@ -6,11 +6,8 @@ use Rattle.read_opcodes_8_f.proofs.arithmetic.exchanged_of.Tie as tie
 returns : tie.Need-returns
 returns c = rw (lt-ltb _ _ (c .if1 .taken))
 
-exchanged-at-requires : tie.Need-exchanged-at-requires
-exchanged-at-requires c κs = search needs
-
 returns-2 : tie.Need-returns-2
 returns-2 c = rw (c .exchanged-at .ensures, le-ltb _ _ (c .before .if1 .left))
 
 pub exchanged-of-spec : {M : Type 1} → statement M
-exchanged-of-spec = tie.close (tie.spec returns exchanged-at-requires returns-2)
+exchanged-of-spec = tie.close (tie.spec returns (λ c κs. search needs) returns-2)

@@ -12,21 +12,6 @@ use Rattle.read_places.specs.RunAt.{runAt}
 use Rattle.read_operands.specs.ReadLaws.{number-found, number-ended, number-refused}
 use Rattle.read_operands.proofs.Laws.{long-then}
 
-two-words-requires : tie.Need-two-words-requires
-two-words-requires c κs = search needs
-
-enum-known-read : tie.Need-enum-known-read
-enum-known-read c = search needs
-
-signed32-requires : tie.Need-signed32-requires
-signed32-requires c κs = search needs
-
-enum-told : tie.Need-enum-told
-enum-told c = search needs
-
-enum-told-2 : tie.Need-enum-told-2
-enum-told-2 c = search needs
-
 returns : tie.Need-returns
 returns c a =
     let s = c .before .before .before .before .before .before in
@@ -46,11 +31,11 @@ pub long-displacement-spec : {M : Type 1} → statement M
 long-displacement-spec =
     tie.close
     (tie.spec
-    two-words-requires
-    enum-known-read
-    signed32-requires
-    enum-told
-    enum-told-2
+    (λ c κs. search needs)
+    (λ c. search needs)
+    (λ c κs. search needs)
+    (λ c. search needs)
+    (λ c. search needs)
     returns
     returns-2
     returns-3)

@@ -5,15 +5,6 @@ use mir.Syntax.{w32}
 use mir.Facts.{toZ-ofZ}
 use borrow.Author.Tests.{eq-eqb, ne-eqb}
 
-signed8-requires : tie.Need-signed8-requires
-signed8-requires c κs = search needs
-
-index-operand-requires : tie.Need-index-operand-requires
-index-operand-requires c κs = search needs
-
-scaled-operand-requires : tie.Need-scaled-operand-requires
-scaled-operand-requires c κs = search needs
-
 returns : tie.Need-returns
 returns c = rw (eq-eqb _ _ (c .before .if1 .taken), c .index-operand .ensures, toZ-ofZ {w = w32} {z = c .before .before .signed8 .result} (search needs), c .before .before .signed8 .ensures)
 
@@ -23,4 +14,4 @@ returns-2 c = rw (ne-eqb _ _ (c .before .if1 .left), c .scaled-operand .ensures,
 pub brief-operand-spec : {M : Type 1} → statement M
 brief-operand-spec =
     tie.close
-    (tie.spec signed8-requires index-operand-requires scaled-operand-requires returns returns-2)
+    (tie.spec (λ c κs. search needs) (λ c κs. search needs) (λ c κs. search needs) returns returns-2)

@@ -5,11 +5,8 @@ use mathlib.Core.Path.{_∙_}
 use native.Mathlib.Omega.{arith}
 use Rattle.read_operands.proofs.Laws.{index-is}
 
-index-register-requires : tie.Need-index-register-requires
-index-register-requires c κs = search needs
-
 returns : tie.Need-returns
 returns c = c .index-register .ensures ∙ index-is (c .before .args .w) (omega arith)
 
 pub index-of-spec : {M : Type 1} → statement M
-index-of-spec = tie.close (tie.spec index-register-requires returns)
+index-of-spec = tie.close (tie.spec (λ c κs. search needs) returns)

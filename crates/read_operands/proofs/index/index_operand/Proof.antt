@@ -5,12 +5,6 @@ use mir.Syntax.{w32}
 use mir.Facts.{toZ-ofZ}
 use borrow.Author.Tests.{eq-eqb, ne-eqb}
 
-index-of-requires : tie.Need-index-of-requires
-index-of-requires c κs = search needs
-
-reach-requires : tie.Need-reach-requires
-reach-requires c κs = search needs
-
 returns : tie.Need-returns
 returns c = rw (eq-eqb _ _ (c .before .if1 .taken), c .reach .ensures, c .before .before .index-of .ensures, toZ-ofZ {w = w32} (c .before .before .before .fits .z))
 
@@ -18,4 +12,4 @@ returns-2 : tie.Need-returns-2
 returns-2 c = rw (ne-eqb _ _ (c .if1 .left), c .before .index-of .ensures, toZ-ofZ {w = w32} (c .before .before .fits .z))
 
 pub index-operand-spec : {M : Type 1} → statement M
-index-operand-spec = tie.close (tie.spec index-of-requires reach-requires returns returns-2)
+index-operand-spec = tie.close (tie.spec (λ c κs. search needs) (λ c κs. search needs) returns returns-2)

@@ -3,9 +3,6 @@ use Rattle.read_operands.proofs.mode.mode_at.Statement.{statement}
 use Rattle.read_operands.proofs.mode.mode_at.Tie as tie
 use borrow.Author.Tests.{lt-ltb, le-ltb}
 
-sub-result : tie.Need-sub-result
-sub-result c = search needs
-
 returns : tie.Need-returns
 returns c = rw (lt-ltb _ _ (c .if1 .taken))
 
@@ -13,4 +10,4 @@ returns-2 : tie.Need-returns-2
 returns-2 c = rw (le-ltb _ _ (c .if1 .left))
 
 pub mode-at-spec : {M : Type 1} → statement M
-mode-at-spec = tie.close (tie.spec sub-result returns returns-2)
+mode-at-spec = tie.close (tie.spec (λ c. search needs) returns returns-2)

@@ -3,15 +3,6 @@ use Rattle.read_operands.proofs.mode.permitted.Statement.{statement}
 use Rattle.read_operands.proofs.mode.permitted.Tie as tie
 use borrow.Author.Tests.{lt-ltb, le-ltb}
 
-mode-at-requires : tie.Need-mode-at-requires
-mode-at-requires c κs = search needs
-
-cast-result : tie.Need-cast-result
-cast-result c = search needs
-
-shr-result : tie.Need-shr-result
-shr-result c = search needs
-
 returns : tie.Need-returns
 returns c = rw (← c .before .mode-at .ensures, lt-ltb _ _ (c .if1 .taken))
 
@@ -19,4 +10,4 @@ returns-2 : tie.Need-returns-2
 returns-2 c = rw (← c .before .mode-at .ensures, le-ltb _ _ (c .if1 .left))
 
 pub permitted-spec : {M : Type 1} → statement M
-permitted-spec = tie.close (tie.spec mode-at-requires cast-result shr-result returns returns-2)
+permitted-spec = tie.close (tie.spec (λ c κs. search needs) (λ c. search needs) (λ c. search needs) returns returns-2)

@@ -4,15 +4,6 @@ use Rattle.read_operands.proofs.operand.by_mode.Tie as tie
 use Rattle.read_operands.proofs.Laws.{mode-past}
 use Rattle.base_facts.specs.Numbers.{rest-le}
 
-displaced-requires : tie.Need-displaced-requires
-displaced-requires c κs = search needs
-
-indexed-requires : tie.Need-indexed-requires
-indexed-requires c κs = search needs
-
-special-requires : tie.Need-special-requires
-special-requires c κs = search needs
-
 returns : tie.Need-returns
 returns c = rw (c .match .keys1)
 
@@ -44,9 +35,9 @@ pub by-mode-spec : {M : Type 1} → statement M
 by-mode-spec =
     tie.close
     (tie.spec
-    displaced-requires
-    indexed-requires
-    special-requires
+    (λ c κs. search needs)
+    (λ c κs. search needs)
+    (λ c κs. search needs)
     returns
     returns-2
     returns-3

@@ -6,24 +6,6 @@ use denote.Ref.{now}
 use Rattle.read_operands.specs.Read.{numberRead}
 use Rattle.read_operands.proofs.Laws.{byte-is}
 
-enum-told : tie.Need-enum-told
-enum-told c = search needs
-
-one-word-requires : tie.Need-one-word-requires
-one-word-requires c κs = search needs
-
-enum-told-2 : tie.Need-enum-told-2
-enum-told-2 c = search needs
-
-one-word-requires-2 : tie.Need-one-word-requires-2
-one-word-requires-2 c κs = search needs
-
-enum-told-3 : tie.Need-enum-told-3
-enum-told-3 c = search needs
-
-two-words-requires : tie.Need-two-words-requires
-two-words-requires c κs = search needs
-
 returns : tie.Need-returns
 returns c a =
     let s = c .before .before .before .before in
@@ -39,12 +21,12 @@ pub immediate-spec : {M : Type 1} → statement M
 immediate-spec =
     tie.close
     (tie.spec
-    enum-told
-    one-word-requires
-    enum-told-2
-    one-word-requires-2
-    enum-told-3
-    two-words-requires
+    (λ c. search needs)
+    (λ c κs. search needs)
+    (λ c. search needs)
+    (λ c κs. search needs)
+    (λ c. search needs)
+    (λ c κs. search needs)
     returns
     returns-2
     returns-3)

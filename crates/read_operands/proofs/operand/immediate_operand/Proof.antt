@@ -9,18 +9,6 @@ use Rattle.read_spec.specs.Operand.{immediateTree}
 use Rattle.read_places.specs.RunAtLaws.{runAt-bind}
 use Rattle.read_operands.specs.ReadLaws.{number-found, number-ended, number-refused}
 
-immediate-requires : tie.Need-immediate-requires
-immediate-requires c κs = search needs
-
-enum-known-read : tie.Need-enum-known-read
-enum-known-read c = search needs
-
-enum-told : tie.Need-enum-told
-enum-told c = search needs
-
-enum-told-2 : tie.Need-enum-told-2
-enum-told-2 c = search needs
-
 returns : tie.Need-returns
 returns c a =
     let s = c .before .before .before .before .before in
@@ -39,4 +27,4 @@ returns-3 c a =
 pub immediate-operand-spec : {M : Type 1} → statement M
 immediate-operand-spec =
     tie.close
-    (tie.spec immediate-requires enum-known-read enum-told enum-told-2 returns returns-2 returns-3)
+    (tie.spec (λ c κs. search needs) (λ c. search needs) (λ c. search needs) (λ c. search needs) returns returns-2 returns-3)

@@ -11,21 +11,6 @@ use Rattle.read_places.specs.RunAt.{runAt}
 use Rattle.read_operands.specs.ReadLaws.{number-found, number-ended, number-refused}
 use Rattle.read_operands.proofs.Laws.{long-then}
 
-two-words-requires : tie.Need-two-words-requires
-two-words-requires c κs = search needs
-
-enum-known-read : tie.Need-enum-known-read
-enum-known-read c = search needs
-
-cast-t8 : tie.Need-cast-t8
-cast-t8 c = search needs
-
-enum-told : tie.Need-enum-told
-enum-told c = search needs
-
-enum-told-2 : tie.Need-enum-told-2
-enum-told-2 c = search needs
-
 returns : tie.Need-returns
 returns c a =
     let s = c .before .before .before .before .before in
@@ -45,11 +30,11 @@ pub long-address-spec : {M : Type 1} → statement M
 long-address-spec =
     tie.close
     (tie.spec
-    two-words-requires
-    enum-known-read
-    cast-t8
-    enum-told
-    enum-told-2
+    (λ c κs. search needs)
+    (λ c. search needs)
+    (λ c. search needs)
+    (λ c. search needs)
+    (λ c. search needs)
     returns
     returns-2
     returns-3)

@@ -5,24 +5,6 @@ use mir.Syntax.{w32}
 use mir.Facts.{toZ-ofZ}
 use borrow.Author.Tests.{lt-ltb, le-ltb}
 
-placed-requires : tie.Need-placed-requires
-placed-requires c κs = search needs
-
-mul-signed16 : tie.Need-mul-signed16
-mul-signed16 c = search needs
-
-shared-slice-read-signed16 : tie.Need-shared-slice-read-signed16
-shared-slice-read-signed16 c = search needs
-
-signed16-requires : tie.Need-signed16-requires
-signed16-requires c κs = search needs
-
-reach-requires : tie.Need-reach-requires
-reach-requires c κs = search needs
-
-add-t10 : tie.Need-add-t10
-add-t10 c = search needs
-
 returns : tie.Need-returns
 returns c = rw (lt-ltb _ _ (c .before .before .before .before .if1 .taken), c .reach .ensures, toZ-ofZ {w = w32} {z = c .before .signed16 .result} (search needs), c .before .signed16 .ensures, c .before .before .before .placed .ensures)
 
@@ -33,11 +15,11 @@ pub pc-displacement-spec : {M : Type 1} → statement M
 pc-displacement-spec =
     tie.close
     (tie.spec
-    placed-requires
-    mul-signed16
-    shared-slice-read-signed16
-    signed16-requires
-    reach-requires
-    add-t10
+    (λ c κs. search needs)
+    (λ c. search needs)
+    (λ c. search needs)
+    (λ c κs. search needs)
+    (λ c κs. search needs)
+    (λ c. search needs)
     returns
     returns-2)

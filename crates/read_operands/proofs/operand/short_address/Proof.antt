@@ -3,21 +3,6 @@ use Rattle.read_operands.proofs.operand.short_address.Statement.{statem
 use Rattle.read_operands.proofs.operand.short_address.Tie as tie
 use borrow.Author.Tests.{lt-ltb, le-ltb}
 
-mul-extended : tie.Need-mul-extended
-mul-extended c = search needs
-
-shared-slice-read-extended : tie.Need-shared-slice-read-extended
-shared-slice-read-extended c = search needs
-
-extended-requires : tie.Need-extended-requires
-extended-requires c κs = search needs
-
-cast-t10 : tie.Need-cast-t10
-cast-t10 c = search needs
-
-add-t13 : tie.Need-add-t13
-add-t13 c = search needs
-
 returns : tie.Need-returns
 returns c a = rw (lt-ltb _ _ (c .before .before .if1 .taken), c .extended .ensures)
 
@@ -28,10 +13,10 @@ pub short-address-spec : {M : Type 1} → statement M
 short-address-spec =
     tie.close
     (tie.spec
-    mul-extended
-    shared-slice-read-extended
-    extended-requires
-    cast-t10
-    add-t13
+    (λ c. search needs)
+    (λ c. search needs)
+    (λ c κs. search needs)
+    (λ c. search needs)
+    (λ c. search needs)
     returns
     returns-2)

@@ -4,21 +4,6 @@ use Rattle.read_operands.proofs.operand.special.Tie as tie
 use Rattle.read_operands.proofs.Laws.{special-past}
 use Rattle.base_facts.specs.Numbers.{rest-le}
 
-short-address-requires : tie.Need-short-address-requires
-short-address-requires c κs = search needs
-
-long-address-requires : tie.Need-long-address-requires
-long-address-requires c κs = search needs
-
-pc-displacement-requires : tie.Need-pc-displacement-requires
-pc-displacement-requires c κs = search needs
-
-indexed-requires : tie.Need-indexed-requires
-indexed-requires c κs = search needs
-
-immediate-operand-requires : tie.Need-immediate-operand-requires
-immediate-operand-requires c κs = search needs
-
 returns : tie.Need-returns
 returns c = rw (c .before .match .keys1) (c .short-address .ensures (c .before .before .before .args .address))
 
@@ -41,11 +26,11 @@ pub special-spec : {M : Type 1} → statement M
 special-spec =
     tie.close
     (tie.spec
-    short-address-requires
-    long-address-requires
-    pc-displacement-requires
-    indexed-requires
-    immediate-operand-requires
+    (λ c κs. search needs)
+    (λ c κs. search needs)
+    (λ c κs. search needs)
+    (λ c κs. search needs)
+    (λ c κs. search needs)
     returns
     returns-2
     returns-3

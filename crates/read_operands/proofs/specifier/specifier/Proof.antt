@@ -2,63 +2,6 @@ use borrow.Author.Needs.{needs}
 use Rattle.read_operands.proofs.specifier.specifier.Statement.{statement}
 use Rattle.read_operands.proofs.specifier.specifier.Tie as tie
 
-enum-told : tie.Need-enum-told
-enum-told c = search needs
-
-enum-told-2 : tie.Need-enum-told-2
-enum-told-2 c = search needs
-
-one-word-requires : tie.Need-one-word-requires
-one-word-requires c κs = search needs
-
-enum-told-3 : tie.Need-enum-told-3
-enum-told-3 c = search needs
-
-one-word-requires-2 : tie.Need-one-word-requires-2
-one-word-requires-2 c κs = search needs
-
-enum-told-4 : tie.Need-enum-told-4
-enum-told-4 c = search needs
-
-one-word-requires-3 : tie.Need-one-word-requires-3
-one-word-requires-3 c κs = search needs
-
-enum-told-5 : tie.Need-enum-told-5
-enum-told-5 c = search needs
-
-one-word-requires-4 : tie.Need-one-word-requires-4
-one-word-requires-4 c κs = search needs
-
-enum-told-6 : tie.Need-enum-told-6
-enum-told-6 c = search needs
-
-one-word-requires-5 : tie.Need-one-word-requires-5
-one-word-requires-5 c κs = search needs
-
-enum-told-7 : tie.Need-enum-told-7
-enum-told-7 c = search needs
-
-one-word-requires-6 : tie.Need-one-word-requires-6
-one-word-requires-6 c κs = search needs
-
-enum-told-8 : tie.Need-enum-told-8
-enum-told-8 c = search needs
-
-one-word-requires-7 : tie.Need-one-word-requires-7
-one-word-requires-7 c κs = search needs
-
-enum-told-9 : tie.Need-enum-told-9
-enum-told-9 c = search needs
-
-two-words-requires : tie.Need-two-words-requires
-two-words-requires c κs = search needs
-
-enum-told-10 : tie.Need-enum-told-10
-enum-told-10 c = search needs
-
-two-words-requires-2 : tie.Need-two-words-requires-2
-two-words-requires-2 c κs = search needs
-
 returns : tie.Need-returns
 returns c a = rw (c .enum-told .given .1)
 
@@ -93,25 +36,25 @@ pub specifier-spec : {M : Type 1} → statement M
 specifier-spec =
     tie.close
     (tie.spec
-    enum-told
-    enum-told-2
-    one-word-requires
-    enum-told-3
-    one-word-requires-2
-    enum-told-4
-    one-word-requires-3
-    enum-told-5
-    one-word-requires-4
-    enum-told-6
-    one-word-requires-5
-    enum-told-7
-    one-word-requires-6
-    enum-told-8
-    one-word-requires-7
-    enum-told-9
-    two-words-requires
-    enum-told-10
-    two-words-requires-2
+    (λ c. search needs)
+    (λ c. search needs)
+    (λ c κs. search needs)
+    (λ c. search needs)
+    (λ c κs. search needs)
+    (λ c. search needs)
+    (λ c κs. search needs)
+    (λ c. search needs)
+    (λ c κs. search needs)
+    (λ c. search needs)
+    (λ c κs. search needs)
+    (λ c. search needs)
+    (λ c κs. search needs)
+    (λ c. search needs)
+    (λ c κs. search needs)
+    (λ c. search needs)
+    (λ c κs. search needs)
+    (λ c. search needs)
+    (λ c κs. search needs)
     returns
     returns-2
     returns-3

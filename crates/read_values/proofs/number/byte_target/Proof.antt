@@ -7,15 +7,6 @@ use borrow.Author.Needs.{needs}
 use Rattle.read_values.proofs.number.byte_target.Statement.{statement}
 use Rattle.read_values.proofs.number.byte_target.Tie as tie
 
-placed-requires : tie.Need-placed-requires
-placed-requires c κs = search needs
-
-signed8-requires : tie.Need-signed8-requires
-signed8-requires c κs = search needs
-
-reach-requires : tie.Need-reach-requires
-reach-requires c κs = search needs
-
 returns : tie.Need-returns
 returns c =
     let b = c .before .before .before .args .byte in
@@ -23,4 +14,4 @@ returns c =
     rw (c .reach .ensures, toZ-ofZ {w = w32} {z = c .before .signed8 .result} (search needs), c .before .signed8 .ensures, c .before .before .placed .ensures, e)
 
 pub byte-target-spec : {M : Type 1} → statement M
-byte-target-spec = tie.close (tie.spec placed-requires signed8-requires reach-requires returns)
+byte-target-spec = tie.close (tie.spec (λ c κs. search needs) (λ c κs. search needs) (λ c κs. search needs) returns)

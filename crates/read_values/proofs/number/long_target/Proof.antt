@@ -4,17 +4,8 @@ use borrow.Author.Needs.{needs}
 use Rattle.read_values.proofs.number.long_target.Statement.{statement}
 use Rattle.read_values.proofs.number.long_target.Tie as tie
 
-placed-requires : tie.Need-placed-requires
-placed-requires c κs = search needs
-
-signed32-requires : tie.Need-signed32-requires
-signed32-requires c κs = search needs
-
-reach-requires : tie.Need-reach-requires
-reach-requires c κs = search needs
-
 returns : tie.Need-returns
 returns c = rw (c .reach .ensures, toZ-ofZ {w = w32} {z = c .before .signed32 .result} (search needs), c .before .signed32 .ensures, c .before .before .placed .ensures)
 
 pub long-target-spec : {M : Type 1} → statement M
-long-target-spec = tie.close (tie.spec placed-requires signed32-requires reach-requires returns)
+long-target-spec = tie.close (tie.spec (λ c κs. search needs) (λ c κs. search needs) (λ c κs. search needs) returns)

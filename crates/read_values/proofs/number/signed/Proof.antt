@@ -11,18 +11,6 @@ use borrow.Author.Tests.{lt-ltb, le-ltb}
 use Rattle.base_signed.proofs.Laws.{minus-one}
 use Rattle.read_values.proofs.Laws.{negative}
 
-cast-result : tie.Need-cast-result
-cast-result c = search needs
-
-sub-n : tie.Need-sub-n
-sub-n c = search needs
-
-sub-n-2 : tie.Need-sub-n-2
-sub-n-2 c = search needs
-
-cast-n : tie.Need-cast-n
-cast-n c = search needs
-
 sub-result : tie.Need-sub-result
 sub-result c = rw (toZ-pos w32 {n = c .before .args .half - 1 - (c .before .args .x - c .before .args .half)} (omega arith), minus-one (pos (c .before .args .half - 1 - (c .before .args .x - c .before .args .half)))) (record { sfits = omega arith })
 
@@ -33,4 +21,4 @@ returns-2 : tie.Need-returns-2
 returns-2 c = rw (le-ltb _ _ (c .if1 .left), toZ-pos w32 {n = c .before .args .half - 1 - (c .before .args .x - c .before .args .half)} (omega arith), minus-one (pos (c .before .args .half - 1 - (c .before .args .x - c .before .args .half)))) (toZ-ofZ {w = w32} (record { sfits = omega arith }) ∙ negative (c .before .args .half) (c .before .args .x) (omega arith) (omega arith))
 
 pub signed-spec : {M : Type 1} → statement M
-signed-spec = tie.close (tie.spec cast-result sub-n sub-n-2 cast-n sub-result returns returns-2)
+signed-spec = tie.close (tie.spec (λ c. search needs) (λ c. search needs) (λ c. search needs) (λ c. search needs) sub-result returns returns-2)

@@ -3,15 +3,6 @@ use Rattle.base_facts.specs.Lists.{outside}
 use Rattle.read_values.proofs.operation.address_at.Statement.{statement}
 use Rattle.read_values.proofs.operation.address_at.Tie as tie
 
-less-requires : tie.Need-less-requires
-less-requires c κs = search needs
-
-cast-i : tie.Need-cast-i
-cast-i c = search needs
-
-array-copy-out-result : tie.Need-array-copy-out-result
-array-copy-out-result c = search needs
-
 returns : tie.Need-returns
 returns c = rw (← c .before .before .less .ensures)
 
@@ -19,4 +10,4 @@ returns-2 : tie.Need-returns-2
 returns-2 c = rw (← c .before .less .ensures) (search (outside, c .if1 .left))
 
 pub address-at-spec : {M : Type 1} → statement M
-address-at-spec = tie.close (tie.spec less-requires cast-i array-copy-out-result returns returns-2)
+address-at-spec = tie.close (tie.spec (λ c κs. search needs) (λ c. search needs) (λ c. search needs) returns returns-2)

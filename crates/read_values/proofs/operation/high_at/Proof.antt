@@ -3,9 +3,6 @@ use borrow.Author.Needs.{needs}
 use Rattle.read_values.proofs.operation.high_at.Statement.{statement}
 use Rattle.read_values.proofs.operation.high_at.Tie as tie
 
-cast-t7 : tie.Need-cast-t7
-cast-t7 c = search needs
-
 returns : tie.Need-returns
 returns c = rw (eq-eqb _ _ (c .if1 .taken))
 
@@ -13,4 +10,4 @@ returns-2 : tie.Need-returns-2
 returns-2 c = rw (ne-eqb _ _ (c .if1 .left))
 
 pub high-at-spec : {M : Type 1} → statement M
-high-at-spec = tie.close (tie.spec cast-t7 returns returns-2)
+high-at-spec = tie.close (tie.spec (λ c. search needs) returns returns-2)

@@ -3,12 +3,6 @@ use borrow.Author.Tests.{eq-eqb, ne-eqb}
 use Rattle.read_values.proofs.operation.shift_count.Statement.{statement}
 use Rattle.read_values.proofs.operation.shift_count.Tie as tie
 
-count-at-requires : tie.Need-count-at-requires
-count-at-requires c κs = search needs
-
-cast-t8 : tie.Need-cast-t8
-cast-t8 c = search needs
-
 returns : tie.Need-returns
 returns c = rw (eq-eqb _ _ (c .if1 .taken))
 
@@ -16,4 +10,4 @@ returns-2 : tie.Need-returns-2
 returns-2 c = rw (ne-eqb _ _ (c .before .if1 .left), c .count-at .ensures)
 
 pub shift-count-spec : {M : Type 1} → statement M
-shift-count-spec = tie.close (tie.spec count-at-requires cast-t8 returns returns-2)
+shift-count-spec = tie.close (tie.spec (λ c κs. search needs) (λ c. search needs) returns returns-2)

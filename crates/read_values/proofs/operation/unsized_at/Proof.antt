@@ -4,9 +4,6 @@ use Rattle.base_facts.specs.Lists.{inside, outside}
 use Rattle.read_values.proofs.operation.unsized_at.Statement.{statement}
 use Rattle.read_values.proofs.operation.unsized_at.Tie as tie
 
-array-copy-out-result : tie.Need-array-copy-out-result
-array-copy-out-result c = search needs
-
 returns : tie.Need-returns
 returns c = rw (eq-eqb _ _ (c .if1 .taken))
 
@@ -17,4 +14,4 @@ returns-3 : tie.Need-returns-3
 returns-3 c = rw (ne-eqb _ _ (c .before .if1 .left)) (search (outside, c .if2 .left))
 
 pub unsized-at-spec : {M : Type 1} → statement M
-unsized-at-spec = tie.close (tie.spec array-copy-out-result returns returns-2 returns-3)
+unsized-at-spec = tie.close (tie.spec (λ c. search needs) returns returns-2 returns-3)

@@ -13,20 +13,8 @@ use Rattle.sheet_field.proofs.instructions.instruction.Tie as tie
 returns : tie.Need-returns
 returns c = sym (ap valueOf (place-none (c .before .before .args .f .now) (c .if1 .taken) 0 (map bytes instructionNames)))
 
-hash-requires : tie.Need-hash-requires
-hash-requires c κs = search needs
-
-place-of-requires : tie.Need-place-of-requires
-place-of-requires c κs = search needs
-
-cast-is-name : tie.Need-cast-is-name
-cast-is-name c = search needs
-
 is-name-requires : tie.Need-is-name-requires
 is-name-requires c κs = omega (arith, c .place-of .ensures, place-fits (c .before .hash .result))
-
-cast-t6 : tie.Need-cast-t6
-cast-t6 c = search needs
 
 returns-2 : tie.Need-returns-2
 returns-2 c =
@@ -47,10 +35,10 @@ instruction-spec =
     tie.close
     (tie.spec
     returns
-    hash-requires
-    place-of-requires
-    cast-is-name
+    (λ c κs. search needs)
+    (λ c κs. search needs)
+    (λ c. search needs)
     is-name-requires
-    cast-t6
+    (λ c. search needs)
     returns-2
     returns-3)

@@ -5,24 +5,6 @@ use Rattle.sheet_field.proofs.Hashed.{start-within, part-name}
 use Rattle.sheet_field.proofs.instructions.is_name.Statement.{statement}
 use Rattle.sheet_field.proofs.instructions.is_name.Tie as tie
 
-start-requires : tie.Need-start-requires
-start-requires c κs = search needs
-
-cast-from : tie.Need-cast-from
-cast-from c = search needs
-
-add-start : tie.Need-add-start
-add-start c = search needs
-
-start-requires-2 : tie.Need-start-requires-2
-start-requires-2 c κs = search needs
-
-cast-next : tie.Need-cast-next
-cast-next c = search needs
-
-slice-aggregate-is-part : tie.Need-slice-aggregate-is-part
-slice-aggregate-is-part c = search needs
-
 sub-is-part : tie.Need-sub-is-part
 sub-is-part c =
     let s = c .before .before .before .before in
@@ -48,12 +30,12 @@ pub is-name-spec : {M : Type 1} → statement M
 is-name-spec =
     tie.close
     (tie.spec
-    start-requires
-    cast-from
-    add-start
-    start-requires-2
-    cast-next
-    slice-aggregate-is-part
+    (λ c κs. search needs)
+    (λ c. search needs)
+    (λ c. search needs)
+    (λ c κs. search needs)
+    (λ c. search needs)
+    (λ c. search needs)
     sub-is-part
     is-part-requires
     returns)

@@ -4,12 +4,9 @@ use Rattle.sheet_field.proofs.Hashed.{by-rule}
 use Rattle.sheet_field.proofs.instructions.place_of.Statement.{statement}
 use Rattle.sheet_field.proofs.instructions.place_of.Tie as tie
 
-array-read-result : tie.Need-array-read-result
-array-read-result c = search needs
-
 returns : tie.Need-returns
 unfolding placeOf
 returns c = search (by-rule placeOf 272, c .pre)
 
 pub place-of-spec : {M : Type 1} → statement M
-place-of-spec = tie.close (tie.spec array-read-result returns)
+place-of-spec = tie.close (tie.spec (λ c. search needs) returns)

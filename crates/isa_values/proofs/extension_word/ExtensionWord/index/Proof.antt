@@ -4,12 +4,6 @@ use Rattle.isa_values.proofs.extension_word.ExtensionWord.index.Tie as 
 use mathlib.Core.Path.{ap}
 use Rattle.isa_values.specs.declared.extension_word.IndexChoice.the-variants.{Some}
 
-index-register-requires : tie.Need-index-register-requires
-index-register-requires c κs = search needs
-
-index-suppressed-requires : tie.Need-index-suppressed-requires
-index-suppressed-requires c κs = search needs
-
 returns : tie.Need-returns
 returns c = rw (← c .before .index-suppressed .ensures, c .if1 .taken)
 
@@ -18,4 +12,4 @@ returns-2 c = rw (← c .before .index-suppressed .ensures, c .if1 .left) (ap So
 
 pub index-spec : {M : Type 1} → statement M
 index-spec =
-    tie.close (tie.spec index-register-requires index-suppressed-requires returns returns-2)
+    tie.close (tie.spec (λ c κs. search needs) (λ c κs. search needs) returns returns-2)

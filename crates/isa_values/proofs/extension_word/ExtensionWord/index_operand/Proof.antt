@@ -3,9 +3,6 @@ use Rattle.isa_values.proofs.extension_word.ExtensionWord.index_operand
 use Rattle.isa_values.proofs.extension_word.ExtensionWord.index_operand.Tie as tie
 use borrow.Author.Tests.{eq-eqb, ne-eqb}
 
-cast-number : tie.Need-cast-number
-cast-number c = search needs
-
 returns : tie.Need-returns
 returns c = rw (eq-eqb _ _ (c .if1 .taken))
 
@@ -13,4 +10,4 @@ returns-2 : tie.Need-returns-2
 returns-2 c = rw (ne-eqb _ _ (c .if1 .left))
 
 pub index-operand-spec : {M : Type 1} → statement M
-index-operand-spec = tie.close (tie.spec cast-number returns returns-2)
+index-operand-spec = tie.close (tie.spec (λ c. search needs) returns returns-2)

@@ -3,9 +3,6 @@ use Rattle.isa_values.proofs.extension_word.ExtensionWord.indirection.S
 use Rattle.isa_values.proofs.extension_word.ExtensionWord.indirection.Tie as tie
 use borrow.Author.Tests.{lt-ltb, le-ltb}
 
-is-full-requires : tie.Need-is-full-requires
-is-full-requires c κs = search needs
-
 returns : tie.Need-returns
 returns c = rw (← c .before .is-full .ensures, c .if1 .taken)
 
@@ -16,4 +13,4 @@ returns-3 : tie.Need-returns-3
 returns-3 c = rw (← c .before .before .is-full .ensures, c .before .if1 .left, le-ltb _ _ (c .if2 .left))
 
 pub indirection-spec : {M : Type 1} → statement M
-indirection-spec = tie.close (tie.spec is-full-requires returns returns-2 returns-3)
+indirection-spec = tie.close (tie.spec (λ c κs. search needs) returns returns-2 returns-3)

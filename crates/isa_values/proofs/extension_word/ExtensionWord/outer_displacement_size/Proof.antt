@@ -4,24 +4,6 @@ use Rattle.isa_values.proofs.extension_word.ExtensionWord.outer_displac
 }
 use Rattle.isa_values.proofs.extension_word.ExtensionWord.outer_displacement_size.Tie as tie
 
-indirection-requires : tie.Need-indirection-requires
-indirection-requires c κs = search needs
-
-enum-told : tie.Need-enum-told
-enum-told c = search needs
-
-enum-told-2 : tie.Need-enum-told-2
-enum-told-2 c = search needs
-
-of-code-requires : tie.Need-of-code-requires
-of-code-requires c κs = search needs
-
-enum-told-3 : tie.Need-enum-told-3
-enum-told-3 c = search needs
-
-of-code-requires-2 : tie.Need-of-code-requires-2
-of-code-requires-2 c κs = search needs
-
 returns : tie.Need-returns
 returns c = rw (← c .before .before .indirection .ensures, c .enum-told .given .1)
 
@@ -35,12 +17,12 @@ pub outer-displacement-size-spec : {M : Type 1} → statement M
 outer-displacement-size-spec =
     tie.close
     (tie.spec
-    indirection-requires
-    enum-told
-    enum-told-2
-    of-code-requires
-    enum-told-3
-    of-code-requires-2
+    (λ c κs. search needs)
+    (λ c. search needs)
+    (λ c. search needs)
+    (λ c κs. search needs)
+    (λ c. search needs)
+    (λ c κs. search needs)
     returns
     returns-2
     returns-3)

@@ -4,9 +4,6 @@ use Rattle.isa_values.proofs.extension_word.ExtensionWord.scale.Tie as 
 use native.Mathlib.Omega.{arith}
 use mathlib.Core.Path.{_≡_, refl}
 
-scale-shift-requires : tie.Need-scale-shift-requires
-scale-shift-requires c κs = search needs
-
 returns : tie.Need-returns
 returns c = rw (← c .before .scale-shift .ensures .0, c .match .keys1) (refl, omega arith)
 
@@ -22,4 +19,4 @@ returns-4 c =
     rw (← c .before .scale-shift .ensures .0, e) (refl, omega arith)
 
 pub scale-spec : {M : Type 1} → statement M
-scale-spec = tie.close (tie.spec scale-shift-requires returns returns-2 returns-3 returns-4)
+scale-spec = tie.close (tie.spec (λ c κs. search needs) returns returns-2 returns-3 returns-4)
