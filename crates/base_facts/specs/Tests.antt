@@ -107,3 +107,6 @@ at-word f t w h =
 pub and-false : (t : Bool) → t && false ≡ false
 and-false true = refl
 and-false false = refl
+
+pub never : {A : Type 0} → false ≡ true → A
+never h = let z : _≡_ {A = ℕ} 0 1 = cc in absurd (omega arith)

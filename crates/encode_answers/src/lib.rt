@@ -67,7 +67,12 @@ fn put_built(out: &mut [u8], at: usize, built: Built, address: u32) -> usize
     ensures { λ r. ⌜ Wrote (now (out .entry)) at (builtText built address) (now (out .exit)) r × (r ≤ at + 95) ⌝ }
 {
     match built {
-        Built::Instruction(i) => put_result(out, at, m68k::encode(i, address), m68k::size(i)),
+        Built::Instruction(i) => put_result(
+            out,
+            at,
+            m68k_encode::encode(i, address),
+            m68k_encode::size(i),
+        ),
         Built::NotInForm => base_text::put_not_in_form(out, at),
     }
 }

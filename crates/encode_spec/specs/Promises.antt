@@ -9,10 +9,12 @@ use Rattle.encode_spec.specs.Item.{outOfRange}
 use Rattle.encode_spec.specs.Encode.{refusedWords}
 use Prim.Native.Nat.{_≤_}
 
+-- where `encode` refuses and `size` does not, the number is 2 and the field does not hold the value
 pub data OnlyOutOfRange (e : Encoded) : Type 0 where
   accepted : e .number ≡ 0 → OnlyOutOfRange e
   outside : (f : Field) (z : ℤ) → e ≡ refusedWords (outOfRange f z) → holds f z ≡ false → OnlyOutOfRange e
 
+-- every accepted count is 1 to 11
 pub record Counted (e : Encoded) : Type 0 where
   pub least : 1 ≤ e .count
   pub most : e .count ≤ 11

@@ -1,46 +1,24 @@
 -- What `encode` lays down reads back, and what `read` gives encodes to the words read.
 use Prim.Native.Nat.{ℕ, suc, _*_, _-_, _<_, _≤_}
 use mathlib.Core.Path.{_≡_, refl, ap, sym, _∙_}
-use mathlib.Core.Bool.{true, false}
+use mathlib.Core.Bool.{true}
 use mathlib.Core.List.{List, [], _∷_, _++_, append-nil}
 use native.Mathlib.Omega.{arith}
 use lib.ListN.{length, take, replicate, getD, length-take}
 use lib.Seq.{take-at}
-use lib.IntN.{pos}
 use Rattle.isa.specs.declared.Instruction.{Instruction}
 use Rattle.isa.specs.declared.Encoded.{Encoded}
 use Rattle.isa.specs.declared.Measured.{Measured}
 use Rattle.encode_spec.specs.Item.{Verdict, fine, malformed, outOfRange, noEncoding}
 use Rattle.encode_spec.specs.Encode.{encodedAs, encodeOf, sizeOf, refusalOf, wordsOf}
 use Rattle.read_spec.specs.declared.Reading.{Reading}
-use Rattle.read_spec.specs.declared.Reading.the-variants.{Read, Short, Nothing}
+use Rattle.read_spec.specs.declared.Reading.the-variants.{Read}
 use Rattle.read_spec.specs.Plain.{plain}
-use Rattle.read_spec.specs.Read.{readOf, readingNumber}
-use Rattle.read_spec.specs.LeftOut.{leftOut}
-use Rattle.m68k.specs.Laws.{size-law}
+use Rattle.read_spec.specs.Read.{readOf}
+use Rattle.m68k_encode.specs.Laws.{size-law}
 use Rattle.read_spec.specs.Accepted.{InstructionInTypes, Accepted, Words}
+use Rattle.read_spec.specs.RoundTrip.{readBackOf, ReadsBack, writtenBack, WritesBack}
 use Rattle.read_laws.specs.ReaderLaws.{complete, sound}
-
--- what the two ways round give
-unfoldable pub readBackOf : Instruction → ℕ → Reading
-readBackOf i a = readOf (take (encodeOf i a .count) (encodeOf i a .words)) a
-
--- an instruction that is accepted and not left out comes back in plain form, with its size
-abbrev pub ReadsBack : Instruction → ℕ → Reading → Type 0
-ReadsBack i a r = encodeOf i a .number ≡ 0 → leftOut i a ≡ false → r ≡ Read (plain i) (sizeOf i .size)
-
-abbrev pub refusedBack : ℕ → Encoded
-refusedBack n = record { words = replicate 11 0; count = 0; number = n; detail = 0; value = pos 0 }
-
-abbrev pub writtenBack : Reading → ℕ → Encoded
-writtenBack (Read i n) a = encodeOf i a
-writtenBack Short a = refusedBack (readingNumber Short)
-writtenBack Nothing a = refusedBack (readingNumber Nothing)
-
--- what reads is accepted again, and its words are those read
-abbrev pub WritesBack : List ℕ → ℕ → Encoded → Type 0
-WritesBack ws a r =
-    (i : Instruction) (n : ℕ) → readOf ws a ≡ Read i n → (r .number ≡ 0) × (2 * r .count ≡ n) × (take (r .count) (r .words) ≡ take (r .count) ws)
 
 -- an accepted instruction's words are those that count
 pub encoded-words : (i : Instruction) (a : ℕ) → refusalOf true i a ≡ fine

@@ -2,7 +2,7 @@
 ghost use mathlib.Core.Path.{_≡_};
 ghost use Rattle.encode_spec.specs.Encode.{encodeOf};
 ghost use Rattle.read_spec.specs.Read.{readOf};
-ghost use Rattle.m68k_round_trip.specs.RoundTrip.{readBackOf, ReadsBack, refusedBack, writtenBack, WritesBack};
+ghost use Rattle.read_spec.specs.RoundTrip.{readBackOf, ReadsBack, refusedBack, writtenBack, WritesBack};
 use isa::Encoded;
 use isa::Instruction;
 use read_spec::Reading;

@@ -1,13 +1,10 @@
 -- A computed test of every number below a bound. Assumes nothing.
 use Prim.Native.Nat.{ℕ, zero, suc, _≤_, _<_}
-use mathlib.Core.Path.{_≡_, refl}
-use mathlib.Core.Bool.{Bool, true, false, _&&_}
+use mathlib.Core.Path.{_≡_}
+use mathlib.Core.Bool.{Bool, true, _&&_}
 use native.Mathlib.Omega.{arith}
 use native.Mathlib.Decide.{decLe}
-
-both : (a b : Bool) → a && b ≡ true → (a ≡ true) × (b ≡ true)
-both true b h = (refl, h)
-both false b h = let z : _≡_ {A = ℕ} 0 1 = cc in absurd (omega arith)
+use Rattle.base_facts.specs.Tests.{and-true}
 
 abbrev pub allBelow : ℕ → (ℕ → Bool) → Bool
 allBelow zero f = true
@@ -15,8 +12,8 @@ allBelow (suc n) f = f n && allBelow n f
 
 pub below : (n : ℕ) (f : ℕ → Bool) → allBelow n f ≡ true → (v : ℕ) → v < n → f v ≡ true
 below zero f t v h = absurd (omega arith)
-below (suc n) f t v h = go (decLe n v) (below n f (both (f n) (allBelow n f) t .1) v)
+below (suc n) f t v h = go (decLe n v) (below n f (and-true (f n) (allBelow n f) t .1) v)
   where
     go : Dec (n ≤ v) → (v < n → f v ≡ true) → f v ≡ true
-    go (yes d) r = let e : v ≡ n = omega arith in rw e (both (f n) (allBelow n f) t .0)
+    go (yes d) r = let e : v ≡ n = omega arith in rw e (and-true (f n) (allBelow n f) t .0)
     go (no d) r = r (omega arith)

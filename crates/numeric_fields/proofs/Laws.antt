@@ -11,22 +11,8 @@ use Rattle.numeric_spec.specs.declared.Numbers.{Numbers}
 use Rattle.numeric_fields.specs.declared.UnsignedAt.{UnsignedAt}
 use Rattle.numeric_spec.specs.Number.{minus, numberAt, present, isI32}
 use Rattle.numeric_fields.specs.Number.{upTo, unsignedAt, signedAt}
-
--- what is left after n numbers
-abbrev pub Rest : ℕ → ℕ → Type 0
-Rest zero k = Unit {0}
-Rest (suc n) k = Rest n k × (k ≡ n → ⊥)
-
-pub rest-le : (n k : ℕ) → Rest n k → n ≤ k
-rest-le zero k r = omega arith
-rest-le (suc n) k r = omega (arith, rest-le n k (r .0), r .1)
-
-never : {A : Type 0} → false ≡ true → A
-never h = let z : _≡_ {A = ℕ} 0 1 = cc in absurd (omega arith)
-
-both : (a b : Bool) → a && b ≡ true → (a ≡ true) × (b ≡ true)
-both true b h = (refl, h)
-both false b h = never h
+use Rattle.base_facts.specs.Tests as facts
+use Rattle.base_facts.specs.Tests.{never}
 
 abs-minus : (m : ℕ) → natAbs (minus m) ≡ m
 abs-minus zero = refl
@@ -100,12 +86,12 @@ i32-test true (suc m) true =
     rw (lt-ltb 0 (suc m) (omega arith), ne-eqb (suc m) 0 (λ e. omega arith), and-false (ltb (suc m) 2147483648)) (or-false (leb (suc m) 2147483648))
 
 pub minus-bounds : (there : Bool) (m : ℕ) (negative : Bool) → minusTest there m negative ≡ true → (0 < m) × (m ≤ 2147483648)
-minus-bounds true m true h = let b = both (ltb 0 m) (leb m 2147483648) h in (ltb-true 0 m (b .0), leb-true m 2147483648 (b .1))
+minus-bounds true m true h = let b = facts.and-true (ltb 0 m) (leb m 2147483648) h in (ltb-true 0 m (b .0), leb-true m 2147483648 (b .1))
 minus-bounds true m false h = never h
 minus-bounds false m negative h = never h
 
 pub plus-bound : (there : Bool) (m : ℕ) (negative : Bool) → plusTest there m negative ≡ true → m < 2147483648
-plus-bound true m negative h = ltb-true m 2147483648 (both (ltb m 2147483648) (not negative || eqb m 0) h .0)
+plus-bound true m negative h = ltb-true m 2147483648 (facts.and-true (ltb m 2147483648) (not negative || eqb m 0) h .0)
 plus-bound false m negative h = never h
 
 minus-value : (there : Bool) (m : ℕ) (negative : Bool) → minusTest there m negative ≡ true → cond negative (minus m) (pos m) ≡ minus m
@@ -116,7 +102,7 @@ minus-value false m negative h = never h
 plus-value : (there : Bool) (m : ℕ) (negative : Bool) → plusTest there m negative ≡ true → cond negative (minus m) (pos m) ≡ pos m
 plus-value true m false h = refl
 plus-value true zero true h = refl
-plus-value true (suc m) true h = never (sym (ne-eqb (suc m) 0 (λ e. omega arith)) ∙ both (ltb (suc m) 2147483648) (eqb (suc m) 0) h .1)
+plus-value true (suc m) true h = never (sym (ne-eqb (suc m) 0 (λ e. omega arith)) ∙ facts.and-true (ltb (suc m) 2147483648) (eqb (suc m) 0) h .1)
 plus-value false m negative h = never h
 
 module _ (ns : Numbers) (k : ℕ) (h : k < 24) where

@@ -48,13 +48,7 @@ use Rattle.numeric_build.proofs.Below.{allBelow, below}
 use Rattle.numeric_fields.specs.Operand.{immediateAt, registerOperandAt, indirectAt, postIndirectAt, preIndirectAt, indirectDisplacementAt, indirectIndexAt, pcDisplacementAt, pcIndexAt, extendedAt, absoluteAt, operandOf, operandAt}
 use Rattle.numeric_spec.specs.Entry.{Entry, unsigned, Span}
 use Rattle.numeric_spec.specs.Field.{unsignedForm, byteForm, wordForm, longForm, signedForm, flagPlace, flagForm, sizePlace, sizeForm, targetDirectionPlace, targetDirectionForm, addressWidthPlace, addressWidthForm, conditionPlace, conditionForm, branchSizePlace, branchSizeForm, shiftDirectionPlace, shiftDirectionForm, signPlace, signForm, bitFieldOperationPlace, bitFieldOperationForm, registerPlace, registerFields, registerForm, fieldValuePlace, fieldValueFields, fieldValueForm, trapOperandPlace, trapOperandFields, trapOperandForm, registerChoicePlace, registerChoiceFields, registerChoiceForm, operandPlace, operandFields, operandForm, indexForm, bitFieldForm}
-
-never : {A : Type 0} → false ≡ true → A
-never h = let z : _≡_ {A = ℕ} 0 1 = cc in absurd (omega arith)
-
-both : (a b : Bool) → a && b ≡ true → (a ≡ true) × (b ≡ true)
-both true b h = (refl, h)
-both false b h = never h
+use Rattle.base_facts.specs.Tests.{and-true, never}
 
 join : (ns : Numbers) (k m n : ℕ) (xs ys : List Entry) → Span ns k xs m → Span ns m ys n → Span ns k (xs ++ ys) n
 join ns k m n [] ys p q = rw p q
@@ -74,7 +68,7 @@ module _ {ns : Numbers} {k : ℕ} {A B : Type 0} {f : A → List Entry} {g : B �
   pub thence : Exact ns k f p a n → Exact ns n g q b m → Exact ns k {A = A × B} (λ (x : A × B). f (x .0) ++ g (x .1)) (p && q) (a, b) m
   thence F G =
       record {
-        sound = λ h. let c = both p q h in join ns k n m (f a) (g b) (F .sound (c .0)) (G .sound (c .1));
+        sound = λ h. let c = and-true p q h in join ns k n m (f a) (g b) (F .sound (c .0)) (G .sound (c .1));
         complete = λ x e s.
             let c = cut ns k e (f (x .0)) (g (x .1)) s in
             let d = F .complete (x .0) (c .0) (c .1) in
@@ -255,7 +249,7 @@ module _ {A : Type 0} (ns : Numbers) (top : ℕ) (place : A → ℕ) (fields : A
       let E = unsigned-exact top ns k in
       record {
         sound = λ h.
-            let c = both (u .ok) (ok (u .value) (u .next)) h in
+            let c = and-true (u .ok) (ok (u .value) (u .next)) h in
             let s = E .sound (c .0) in
             let t = there (u .value) (u .next) (leb-true (u .value) top (s .2)) (c .1) in
             let r : Span ns (k + 1) (fields (value (u .value) (u .next))) (next (u .value) (u .next)) = rw (s .3) (t .0) in

@@ -71,6 +71,7 @@ use Rattle.numeric_shapes.specs.Shape.{Shape, shapes, intoRegister, movem, tran
 use Rattle.numeric_build.specs.Row.{fillWith, nothing}
 use Rattle.numeric_build.specs.Build.{InstructionAt, shapeAt, shapeAtPlace, buildOf}
 use Rattle.numeric_spec.specs.Form.{placeOf, fieldsOf, formOf, registerOperationPlace, transferOperationPlace, pairOperationPlace, quickOperationPlace, immediateOperationPlace, wordOperationPlace, unsizedRegisterOperationPlace, unsizedOneOperationPlace, unsizedPairOperationPlace, oneOperationPlace, shiftOperationPlace, packOperationPlace, branchOperationPlace, linkOperationPlace, statusOperationPlace, conditionCodeOperationPlace, vectorOperationPlace, rawOperationPlace, noOperandOperationPlace}
+use Rattle.base_facts.specs.Tests.{and-true}
 
 -- the fields of each shape
 into-register-made : (op : RegisterOperation) (ns : Numbers) (k : ℕ) → Made ns k fieldsOf (λ (x : (Operand × RegisterOperand) × Size). IntoRegister op (x .0 .0) (x .0 .1) (x .1)) (shapeAt (intoRegister op) ns k .ok) (shapeAt (intoRegister op) ns k .instruction) (shapeAt (intoRegister op) ns k .next)
@@ -576,17 +577,10 @@ build-complete ns k x s =
     (λ i. cond (e .0 i && eqb (r .next) (ns .count)) (built.Instruction (e .1 i)) built.NotInForm)
     ∙ ap (λ (b : Bool). cond b (built.Instruction x) built.NotInForm) (eq-eqb (r .next) (ns .count) (e .2))
 
-never : {A : Type 0} → false ≡ true → A
-never h = let z : _≡_ {A = ℕ} 0 1 = cc in absurd (omega arith)
-
-both : (a b : Bool) → a && b ≡ true → (a ≡ true) × (b ≡ true)
-both true b h = (refl, h)
-both false b h = never h
-
 finished : (ns : Numbers) (k : ℕ) (x : Instruction) (u : UnsignedAt) (r : InstructionAt) → Exact ns k formOf (u .ok && r .ok) (r .instruction) (r .next)
     → (t : Bool) → u .ok && r .ok && eqb (r .next) (ns .count) ≡ t → cond t (built.Instruction (r .instruction)) built.NotInForm ≡ built.Instruction x → Span ns k (formOf x) (ns .count)
 finished ns k x u r E true t e =
-    let b = both (u .ok && r .ok) (eqb (r .next) (ns .count)) t in
+    let b = and-true (u .ok && r .ok) (eqb (r .next) (ns .count)) t in
     let same : r .instruction ≡ x = cc in
     rw (same, eqb-true (r .next) (ns .count) (b .1)) at (E .sound (b .0))
 finished ns k x u r E false t e = let z : _≡_ {A = ℕ} 0 1 = cc in absurd (omega arith)

@@ -1,4 +1,4 @@
-// From an instruction to its numbers, the other way of numeric's build.
+// From an instruction to its numbers, the other way of `build`.
 ghost use Prim.Native.Nat.{_≤_};
 ghost use mathlib.Core.Path.{_≡_};
 ghost use Rattle.numeric_spec.specs.Entry.{numbersFrom};

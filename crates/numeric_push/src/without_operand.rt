@@ -143,7 +143,7 @@ pub fn raw(operation: RawOperation, value: u16) -> Numbers
     push_word(n, value)
 }
 
-pub fn plain(operation: NoOperandOperation) -> Numbers
+pub fn no_operand(operation: NoOperandOperation) -> Numbers
     ensures { λ r. ⌜ r ≡ pushedAll none (formOf (NoOperand operation)) ⌝ }
 {
     begin(no_operand_operation_place(operation))

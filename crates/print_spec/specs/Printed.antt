@@ -6,7 +6,7 @@ use Rattle.base_spec.specs.Written.{hex4Of, hex8Of, signedOf}
 use Rattle.base_spec.specs.Refused.{tab, fieldText}
 use Rattle.sheet_spec.specs.Names.{bytes}
 use Rattle.sheet_spec.specs.Sheet.{linesIn, counted}
-use Rattle.sheet_spec.specs.Translate.{Outcome, passed, refused, startIn, countIn, addressesIn, outcomeOf, lineWords}
+use Rattle.sheet_spec.specs.Translate.{Outcome, inOrder, refused, startIn, countIn, addressesIn, outcomeOf, lineWords}
 
 -- a tab and each word
 abbrev pub wordsText : List ℕ → List ℕ
@@ -32,7 +32,7 @@ refusalText number line detail value =
     bytes "refused\t" ++ fieldText number ++ fieldText line ++ fieldText detail ++ signedOf value ++ (10 ∷ [])
 
 abbrev pub printedAs : Outcome → List ℕ → List ℕ
-printedAs passed listing = listing
+printedAs inOrder listing = listing
 printedAs (refused number line detail value) listing = refusalText number line detail value
 
 -- with so many scratch places and image words

@@ -1,4 +1,3 @@
 pub mod Put
 pub mod AnswerLaws
 pub mod Examples
-pub mod Whole

@@ -148,7 +148,7 @@ compare-forms x opmode ea o d h = compare-is x opmode ea o d ∙ ap (λ t. teste
 same-group : (s t : Group) → groupNumber s ≡ groupNumber t → s ≡ t
 same-group s t e = sym (numbered s .0) ∙ ap (λ n. getD groups n group.Unused) e ∙ numbered t .0
 
--- all but Unused, DynamicBit and Compare
+-- all but Unused, DynamicBitMovep and LogicCompare
 abbrev others : List ℕ
 others =
     1 ∷ 2 ∷ 4 ∷ 5 ∷ 6 ∷ 7 ∷ 8 ∷ 9 ∷ 10 ∷ 11 ∷ 12 ∷ 13 ∷ 14 ∷ 15 ∷ 16 ∷ 17 ∷ 18 ∷ 19 ∷ 20 ∷ 21 ∷ 22 ∷ 23 ∷ 24 ∷ 25 ∷ 26 ∷ 28 ∷ 29 ∷ 30

@@ -5,7 +5,7 @@ use lib.Dec.{eqb}
 use Rattle.isa.specs.declared.Operand.{Operand}
 use Rattle.encode_spec.specs.Ea.{modeOf}
 use Rattle.read_spec.specs.declared.Group.{Group}
-use Rattle.read_spec.specs.declared.Group.the-variants.{Unused, DynamicBit, Compare}
+use Rattle.read_spec.specs.declared.Group.the-variants.{Unused, DynamicBitMovep, LogicCompare}
 use Rattle.read_places.specs.Groups.{groupNumber}
 
 abbrev pub movepTakes : ℕ → Operand → Bool
@@ -17,5 +17,5 @@ cmpmTakes ea o d = not (eqb (ea / 8) 1) || (eqb (modeOf o) 3 && eqb (modeOf d) 3
 abbrev pub forms : Group → ℕ → Operand → Operand → Bool
 forms s ea o d =
     cond (eqb (groupNumber s) (groupNumber Unused)) false
-    (cond (eqb (groupNumber s) (groupNumber DynamicBit)) (movepTakes ea o)
-    (cond (eqb (groupNumber s) (groupNumber Compare)) (cmpmTakes ea o d) true))
+    (cond (eqb (groupNumber s) (groupNumber DynamicBitMovep)) (movepTakes ea o)
+    (cond (eqb (groupNumber s) (groupNumber LogicCompare)) (cmpmTakes ea o d) true))

@@ -52,7 +52,7 @@ use Rattle.read_spec.specs.Operand.{permitted}
 use Rattle.read_operand_laws.specs.Stands.{Stands}
 use Rattle.read_laws.specs.Statements.{Reads, reads, Encodes, Sound}
 use Rattle.read_spec.specs.Accepted.{Accepted}
-use Rattle.read_laws.specs.Tests.{Said, equal, yes, no, said, says, implies, among, each, facts-below, modes-say}
+use Rattle.read_laws.specs.Tests.{Known, equal, yes, no, known, says, implies, among, each, facts-below, modes-say}
 use Rattle.read_laws.specs.MapLaws.{At, at-code, at-below, at-sizes, at-line, in-group, each-size, size-code}
 use Rattle.read_laws.specs.DecodedLaws.{Kind, displaced, post, other, kind?}
 use Rattle.read_laws.specs.Forms.{Passing, passing, passed, checked, fieldsOf, behind, one-there, Form, form-is, form-as, form-reads, form-encodes, decoded-as, word-as, alone-reads, alone-encodes, either-encodes, one-words}
@@ -193,7 +193,7 @@ to-status-encodes : (a x opmode v : ℕ) → x < 8 → opmode < 2 → ltb x 2 ||
 to-status-encodes a x opmode v hx ho t =
     let test = equal (conditionCodeCode (conditionCodeAt x)) x ∷ equal (statusCode (statusAt x)) x ∷ no (isStop (statusAt x)) ∷ [] in
     let (c, (d, (n, z))) = says test (rw t at (facts-below 8 (λ x. yes (implies (ltb x 2 || eqb x 5)
-    (said (equal (conditionCodeCode (conditionCodeAt x)) x ∷ equal (statusCode (statusAt x)) x ∷ no (isStop (statusAt x)) ∷ []))) ∷ []) refl x hx .0)) in
+    (known (equal (conditionCodeCode (conditionCodeAt x)) x ∷ equal (statusCode (statusAt x)) x ∷ no (isStop (statusAt x)) ∷ []))) ∷ []) refl x hx .0)) in
     each (λ o. SpecifierStands (immediateSpecifier (sizeAt o)) v → Encodes a (toStatusOf x o v)
     (wordOf 0 x o 60 ∷ specifierWords (immediateSpecifier (sizeAt o)) v))
     (0 ∷ 1 ∷ []) (
@@ -384,7 +384,7 @@ pub dynamic-bit-sound : Sound group.DynamicBitMovep
 unfolding map
 dynamic-bit-sound a line x opmode ea hl hx ho he e f h p i r = go (eq? (ea / 8) 1)
   where
-    facts : Said (equal line 0 ∷ yes (leb 4 opmode) ∷ equal (movepMode (directionIn opmode) (sizeIn opmode)) opmode ∷ yes (not (isByte (sizeIn opmode))) ∷ [])
+    facts : Known (equal line 0 ∷ yes (leb 4 opmode) ∷ equal (movepMode (directionIn opmode) (sizeIn opmode)) opmode ∷ yes (not (isByte (sizeIn opmode))) ∷ [])
     facts =
         in-group group.DynamicBitMovep (λ l x o. equal l 0 ∷ yes (leb 4 o) ∷ equal (movepMode (directionIn o) (sizeIn o)) o ∷ yes (not (isByte (sizeIn o))) ∷ [])
         refl line x opmode e

@@ -30,7 +30,7 @@ use Rattle.read_spec.specs.Operand.{modeAt}
 use Rattle.read_spec.specs.Operation.{sizeAt}
 use Rattle.read_operand_laws.specs.Stands.{Stands}
 use Rattle.read_operand_laws.specs.OperandLaws.{mode-field}
-use Rattle.read_laws.specs.Tests.{equal, said, facts-below}
+use Rattle.read_laws.specs.Tests.{equal, known, facts-below}
 use Rattle.read_laws.specs.Operands.{simple-is}
 
 -- ---- what is formed is an instruction or nothing: no word more is looked at
@@ -187,7 +187,7 @@ pub decoded-live : (a : ℕ) (s : Group) (line x opmode ea : ℕ) (f : Tail) →
     → Live (decoded a s line x opmode ea (f .value) (f .source) (f .destination))
 decoded-live a s line x opmode ea f hx h = go (forming s)
   where
-    mode : (m n : ℕ) → all (λ n. said (equal (modeAt (m + n)) (m / 8) ∷ [])) 8 ≡ true → n < 8 → modeAt (m + n) ≡ m / 8
+    mode : (m n : ℕ) → all (λ n. known (equal (modeAt (m + n)) (m / 8) ∷ [])) 8 ≡ true → n < 8 → modeAt (m + n) ≡ m / 8
     mode m n t l = facts-below 8 (λ n. equal (modeAt (m + n)) (m / 8) ∷ []) t n l .0
 
     go : Forming s → Live (decoded a s line x opmode ea (f .value) (f .source) (f .destination))

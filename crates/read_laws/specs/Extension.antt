@@ -41,7 +41,7 @@ use Rattle.isa.specs.declared.RegisterChoice.{RegisterChoice}
 use Rattle.isa.specs.declared.RegisterChoice.the-variants.{None, Some}
 use Rattle.read_operand_laws.specs.TailStands.{SpecifierStands}
 use Rattle.isa.specs.declared.Instruction.{Instruction}
-use Rattle.read_laws.specs.Tests.{equal, yes, no, said, says, implies, facts-below, modes-say}
+use Rattle.read_laws.specs.Tests.{equal, yes, no, known, says, implies, facts-below, modes-say}
 use Rattle.read_laws.specs.MapLaws.{At, at-code, at-sizes, in-group, size-code, each-size}
 use Rattle.read_laws.specs.Forms.{Passing, passed, checked, Form, form-reads, form-encodes, decoded-as, word-as, alone-reads, alone-encodes, either-encodes, form-word}
 
@@ -397,7 +397,7 @@ pub cas-sound : Sound group.CAS
 unfolding map
 cas-sound a line x opmode ea hl hx ho he e f h p i r =
     let (w, (t, u)) = in-group group.CAS (λ l x o. equal (wordOf 0 (5 + sizeCode (sizeAt (x - 5))) 3 0) (wordOf l x o 0)
-    ∷ yes (implies (leb 6 x) (said (equal (6 + longBit (sizeAt (x - 5))) x ∷ yes (not (isByte (sizeAt (x - 5)))) ∷ equal (wordOf l x o 0) (wordOf 0 x 3 0)
+    ∷ yes (implies (leb 6 x) (known (equal (6 + longBit (sizeAt (x - 5))) x ∷ yes (not (isByte (sizeAt (x - 5)))) ∷ equal (wordOf l x o 0) (wordOf 0 x 3 0)
     ∷ []))) ∷ []) refl line x opmode e in
     let s = sizeAt (x - 5) in
     let v = f .value in

@@ -1,4 +1,4 @@
--- The operation code map: which group fields are in, and what a group says of its fields, both by computed tests; and the sizes.
+-- The operation code map: what a group says of the fields of its words, by induction over the rows; which group fields are in; and the sizes.
 use Prim.Native.Nat.{ℕ, suc, _+_, _-_, _<_, _≤_}
 use mathlib.Core.Path.{_≡_, refl, ap, sym, _∙_}
 use mathlib.Core.Bool.{Bool, true, false, _&&_, cond}
@@ -15,7 +15,7 @@ use Rattle.read_spec.specs.Map.{Row, row, map, inRow, groupIn, firstOf, groupAt
 use Rattle.read_places.specs.Groups.{groupNumber, groups}
 use Rattle.read_spec.specs.Operation.{sizeAt}
 use Rattle.base_facts.specs.Tests.{all, below, and-true, eqb-eq, eqb-is, ltb-is, leb-is}
-use Rattle.read_laws.specs.Tests.{Fact, said, Said, says, implies, among, allIn, each-test}
+use Rattle.read_laws.specs.Tests.{Fact, known, Known, says, implies, among, allIn, each-test}
 
 pub number-group : (s : Group) → getD groups (groupNumber s) group.Unused ≡ s
 number-group group.Unused = refl
@@ -110,7 +110,7 @@ at-among s ls os t line opmode x hl ho hx =
 -- what holds of the fields of a group: a test of its rows
 abbrev rowSays : Group → (ℕ → ℕ → ℕ → List Fact) → Row → Bool
 rowSays s fs (row t l x y o p) =
-    implies (eqb (groupNumber t) (groupNumber s)) (all (λ m. implies (leb x m) (all (λ n. implies (leb o n) (said (fs l m n))) (suc p))) (suc y))
+    implies (eqb (groupNumber t) (groupNumber s)) (all (λ m. implies (leb x m) (all (λ n. implies (leb o n) (known (fs l m n))) (suc p))) (suc y))
 
 abbrev pub rowsSay : Group → (ℕ → ℕ → ℕ → List Fact) → List Row → Bool
 rowsSay s fs [] = ltb 0 (groupNumber s)
@@ -120,30 +120,30 @@ implied : (a b : Bool) → implies a b ≡ true → a ≡ true → b ≡ true
 implied a b t e = rw e at t
 
 row-says : (s : Group) (fs : ℕ → ℕ → ℕ → List Fact) (r : Row) → rowSays s fs r ≡ true
-    → (line x opmode : ℕ) → inRow r line x opmode ≡ true → groupIn r ≡ s → said (fs line x opmode) ≡ true
+    → (line x opmode : ℕ) → inRow r line x opmode ≡ true → groupIn r ≡ s → known (fs line x opmode) ≡ true
 row-says s fs (row t l x₀ y o p) k line x opmode g e =
     let a = and-true (eqb line l && leb x₀ x && leb x y && leb o opmode) _ g in
     let b = and-true (eqb line l && leb x₀ x && leb x y) _ (a .0) in
     let c = and-true (eqb line l && leb x₀ x) _ (b .0) in
     let d = and-true (eqb line l) _ (c .0) in
-    let opmodes : ℕ → Bool = λ m. all (λ n. implies (leb o n) (said (fs l m n))) (suc p) in
+    let opmodes : ℕ → Bool = λ m. all (λ n. implies (leb o n) (known (fs l m n))) (suc p) in
     let u = implied _ _ k (eqb-is (groupNumber t) (groupNumber s) (ap groupNumber e)) in
     let v : opmodes x ≡ true = implied _ _ (below (λ m. implies (leb x₀ m) (opmodes m)) (suc y) u x (omega (arith, leb-is x y (c .1)))) (d .1) in
-    let w = implied _ _ (below (λ n. implies (leb o n) (said (fs l x n))) (suc p) v opmode (omega (arith, leb-is opmode p (a .1)))) (b .1) in
+    let w = implied _ _ (below (λ n. implies (leb o n) (known (fs l x n))) (suc p) v opmode (omega (arith, leb-is opmode p (a .1)))) (b .1) in
     rw (eqb-eq line l (d .0)) w
 
 rows-say : (s : Group) (fs : ℕ → ℕ → ℕ → List Fact) (rs : List Row) → rowsSay s fs rs ≡ true
-    → (line x opmode : ℕ) → firstOf rs line x opmode ≡ s → said (fs line x opmode) ≡ true
+    → (line x opmode : ℕ) → firstOf rs line x opmode ≡ s → known (fs line x opmode) ≡ true
 rows-say s fs [] k line x opmode e = absurd (omega (arith, ltb-is 0 (groupNumber s) k, ap groupNumber e))
 rows-say s fs (r ∷ rs) k line x opmode e = go (rows-say s fs rs (and-true (rowSays s fs r) _ k .1) line x opmode) (inRow r line x opmode) refl e
   where
-    go : (firstOf rs line x opmode ≡ s → said (fs line x opmode) ≡ true) → (b : Bool) → inRow r line x opmode ≡ b
-        → cond b (groupIn r) (firstOf rs line x opmode) ≡ s → said (fs line x opmode) ≡ true
+    go : (firstOf rs line x opmode ≡ s → known (fs line x opmode) ≡ true) → (b : Bool) → inRow r line x opmode ≡ b
+        → cond b (groupIn r) (firstOf rs line x opmode) ≡ s → known (fs line x opmode) ≡ true
     go ih true g e = row-says s fs r (and-true (rowSays s fs r) _ k .0) line x opmode g e
     go ih false g e = ih e
 
 pub in-group : (s : Group) (fs : ℕ → ℕ → ℕ → List Fact) → rowsSay s fs map ≡ true
-    → (line x opmode : ℕ) → groupAt line x opmode ≡ s → Said (fs line x opmode)
+    → (line x opmode : ℕ) → groupAt line x opmode ≡ s → Known (fs line x opmode)
 unfolding groupAt
 in-group s fs t line x opmode e = says (fs line x opmode) (rows-say s fs map t line x opmode e)
 

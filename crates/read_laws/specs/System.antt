@@ -47,7 +47,7 @@ use Rattle.isa.specs.declared.RawOperation.{RawOperation}
 use Rattle.isa.specs.declared.RawOperation.the-variants.{LINEA, LINEF, IllegalWord}
 use Rattle.read_spec.specs.declared.Group.{Group}
 use Rattle.read_spec.specs.LeftOut.{leftOut}
-use Rattle.read_laws.specs.Tests.{Fact, Said, yes, no, equal, said, facts-below, each-eight}
+use Rattle.read_laws.specs.Tests.{Fact, Known, yes, no, equal, known, facts-below, each-eight}
 use Rattle.read_laws.specs.MapLaws.{At, at-code, at-line, in-group}
 use Rattle.read_laws.specs.Forms.{missing, passed, checked, decoded-as, alone-reads, alone-encodes}
 use Rattle.base_facts.specs.Tests.{Lt, lt?, all, ltb-is, ltb-true, eqb-eq, true-not-false, eqb-is}
@@ -63,12 +63,12 @@ layoutFacts b ea =
     yes (ltb ea 56 || eqb (ea / 2) 29) ∷ cond b (no (eqb (ea / 8) 2 || eqb ea 50 || eqb ea 52 || leb 56 ea))
     (yes (eqb (ea / 8) 2 || eqb ea 50 || eqb ea 52 || leb 56 ea)) ∷ []
 
-layout-is : (b : Bool) (ea : ℕ) → Said (layoutFacts b ea) → systemLayout ea ≡ alone (cond b specifier.Nothing specifier.Word)
+layout-is : (b : Bool) (ea : ℕ) → Known (layoutFacts b ea) → systemLayout ea ≡ alone (cond b specifier.Nothing specifier.Word)
 layout-is true ea (p, (q, t)) = rw (p, q)
 layout-is false ea (p, (q, t)) = rw (p, q)
 
 -- eight words in a row
-eight : (b : Bool) (m : ℕ) → all (λ n. said (layoutFacts b (m + n))) 8 ≡ true → (n : ℕ) → n < 8
+eight : (b : Bool) (m : ℕ) → all (λ n. known (layoutFacts b (m + n))) 8 ≡ true → (n : ℕ) → n < 8
     → systemLayout (m + n) ≡ alone (cond b specifier.Nothing specifier.Word)
 eight b m t n h = layout-is b (m + n) (facts-below 8 (λ n. layoutFacts b (m + n)) t n h)
 

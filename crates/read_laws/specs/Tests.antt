@@ -20,18 +20,18 @@ tested (equal m n) = eqb m n
 tested (yes b) = b
 tested (no b) = not b
 
-abbrev pub said : List Fact → Bool
-said [] = true
-said (f ∷ fs) = tested f && said fs
+abbrev pub known : List Fact → Bool
+known [] = true
+known (f ∷ fs) = tested f && known fs
 
 abbrev Holds : Fact → Type 0
 Holds (equal m n) = m ≡ n
 Holds (yes b) = b ≡ true
 Holds (no b) = b ≡ false
 
-abbrev pub Said : List Fact → Type 0
-Said [] = Unit {0}
-Said (f ∷ fs) = Holds f × Said fs
+abbrev pub Known : List Fact → Type 0
+Known [] = Unit {0}
+Known (f ∷ fs) = Holds f × Known fs
 
 pub not-true : (b : Bool) → not b ≡ true → b ≡ false
 not-true true e = sym e
@@ -42,22 +42,22 @@ holds (equal m n) e = eqb-eq m n e
 holds (yes b) e = e
 holds (no b) e = not-true b e
 
-pub says : (fs : List Fact) → said fs ≡ true → Said fs
+pub says : (fs : List Fact) → known fs ≡ true → Known fs
 says [] e = tt
-says (f ∷ fs) e = let t = and-true (tested f) (said fs) e in (holds f (t .0), says fs (t .1))
+says (f ∷ fs) e = let t = and-true (tested f) (known fs) e in (holds f (t .0), says fs (t .1))
 
-pub facts-below : (n : ℕ) (fs : ℕ → List Fact) → all (λ k. said (fs k)) n ≡ true → (k : ℕ) → k < n → Said (fs k)
-facts-below n fs t k h = says (fs k) (below (λ k. said (fs k)) n t k h)
+pub facts-below : (n : ℕ) (fs : ℕ → List Fact) → all (λ k. known (fs k)) n ≡ true → (k : ℕ) → k < n → Known (fs k)
+facts-below n fs t k h = says (fs k) (below (λ k. known (fs k)) n t k h)
 
 abbrev pub implies : Bool → Bool → Bool
 implies true b = b
 implies false b = true
 
 -- what a set of modes says of six bits
-pub modes-say : (modes : ℕ) (fs : ℕ → List Fact) → all (λ ea. implies (permitted modes ea) (said (fs ea))) 64 ≡ true
-    → (ea : ℕ) → permitted modes ea ≡ true → Said (fs ea)
+pub modes-say : (modes : ℕ) (fs : ℕ → List Fact) → all (λ ea. implies (permitted modes ea) (known (fs ea))) 64 ≡ true
+    → (ea : ℕ) → permitted modes ea ≡ true → Known (fs ea)
 modes-say modes fs t ea m =
-    let w : implies (permitted modes ea) (said (fs ea)) ≡ true = below (λ ea. implies (permitted modes ea) (said (fs ea))) 64 t ea (permitted-lt modes ea m) in
+    let w : implies (permitted modes ea) (known (fs ea)) ≡ true = below (λ ea. implies (permitted modes ea) (known (fs ea))) 64 t ea (permitted-lt modes ea m) in
     says (fs ea) (rw m at w)
 
 -- a number that is one of a few

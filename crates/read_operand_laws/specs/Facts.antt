@@ -17,14 +17,6 @@ use Rattle.read_spec.specs.Number.{signed, signed8, signed16, reach}
 use Rattle.read_spec.specs.Accepted.{Fits32}
 use Rattle.base_facts.specs.Tests.{Lt, lt?, less, past, and-true, and-yes, leb-is, ltb-is, ltb-not, ltb-true}
 
--- ---- tests
-
--- ---- a test of all numbers below n, computed
-
--- ---- verdicts
-
--- ---- items
-
 -- ---- signed numbers: z lies from -h to h - 1
 abbrev pub fits : ℕ → ℤ → Bool
 fits h z = ltb (mag z) h

@@ -1,5 +1,4 @@
--- What follows an operation word: fields that follow it are read in their plain form, and fields that are read follow it and
--- are plain.
+-- A tail that follows an operation word is read in its plain form, and a tail that is read follows it and is plain.
 use Prim.Native.Nat.{ℕ, _+_, _*_, _/_, _%_, _<_}
 use mathlib.Core.Path.{_≡_, refl, ap, sym, _∙_, subst}
 use mathlib.Core.Bool.{true, _&&_}

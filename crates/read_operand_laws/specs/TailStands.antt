@@ -1,4 +1,4 @@
--- What it is for fields to follow an operation word of a layout at an address, and their words.
+-- What it is for a tail to follow an operation word of a layout at an address, and its words.
 use Prim.Native.Nat.{ℕ, _+_, _/_, _%_, _^_, _<_}
 use mathlib.Core.Path.{_≡_}
 use mathlib.Core.Bool.{true}

@@ -10,3 +10,4 @@ pub mod Layouts
 pub mod Decoded
 pub mod Read
 pub mod Accepted
+pub mod RoundTrip

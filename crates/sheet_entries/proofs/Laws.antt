@@ -17,9 +17,9 @@ use Rattle.sheet_tokens.specs.declared.Entries.{Entries}
 use Rattle.sheet_tokens.proofs.Entries as entries
 use Rattle.sheet_spec.specs.Made.{addressIn}
 use Rattle.sheet_tokens.specs.Entries.{noEntries}
-use Rattle.sheet_token_laws.specs.Facts.{cond-true, cond-false}
 use Rattle.sheet_entries.specs.With.{placedEntry}
 use Rattle.sheet_entries.specs.Made.{namesOne, namesEach, resolvedNumber, resolvedNumbers, numbersWith, madeWith}
+use Rattle.base_facts.specs.Tests.{cond-true, cond-false}
 
 pub named-places : (e : Entries) (vs : List Val) → Is (row entries.the-type) e vs → length (e .named) ≡ 24
 named-places e vs h = sym (length-map (e .named) (λ b. b)) ∙ h .1 .1 .1 .1 .0 .1 .0 .1

@@ -18,7 +18,7 @@ use Rattle.sheet_spec.specs.declared.Kind.the-variants as kind
 use Rattle.sheet_tokens.specs.declared.Value.the-variants as value
 use Rattle.sheet_spec.specs.Line.{literal, label, invalid, equal, isNone, placeFrom, asName, asNumber, token}
 use Rattle.sheet_tokens.specs.Entries.{capped, valueOf}
-use Rattle.sheet_token_laws.specs.Facts as facts
+use Rattle.base_facts.specs.Tests as facts
 use Rattle.sheet_field.specs.LineNumber.{lineAfter}
 
 -- equal texts

@@ -13,8 +13,8 @@ use Rattle.base_text.specs.WrittenLaws.{decimal-small, decimal-more}
 use Rattle.base_text.specs.ReadBack.{Digits, decimal-digits, decimal-back, negative-back}
 use Rattle.sheet_spec.specs.Line.{literal}
 use Rattle.sheet_spec.specs.Spell.{signText, Written}
-use Rattle.sheet_token_laws.specs.Facts.{and-true}
 use Rattle.sheet_token_laws.specs.Fields.{number-is}
+use Rattle.base_facts.specs.Tests.{and-true}
 
 pub digit : (b : ℕ) → isDigit b ≡ true → (48 ≤ b) × (b ≤ 57)
 digit b e = let t = and-true (leb 48 b) (leb b 57) e in (leb-true 48 b (t .0), leb-true b 57 (t .1))

@@ -17,10 +17,10 @@ use Rattle.sheet_spec.specs.Grammar.{fieldsOf}
 use Rattle.sheet_spec.specs.Line.{Token, literal, label, invalid}
 use Rattle.sheet_spec.specs.Spell.{numberAs, Suits, Variant, nextKinds}
 use Rattle.sheet_spec.specs.Made.{names, namesAll}
-use Rattle.sheet_token_laws.specs.Facts.{and-true, all, below}
 use Rattle.sheet_form_laws.specs.Turned.{Input, Turned, Turn, head-is, tail-is, inside-append, inside-parts}
 use Rattle.sheet_form_laws.specs.Fitting.{Fitting}
 use Rattle.sheet_spec.specs.Told.{Mark, numbered, named, field, unaimed}
+use Rattle.base_facts.specs.Tests.{and-true, below, all}
 
 -- what is known of their targets is in Aims
 pub record Sort (n : ℕ) (X : Type 0) : Type 1 where

@@ -10,9 +10,9 @@ use borrow.Author.Tests.{ltb-true}
 use Rattle.sheet_spec.specs.declared.Kind.{Kind}
 use Rattle.sheet_spec.specs.declared.Kind.the-variants as kind
 use Rattle.sheet_spec.specs.Grammar.{fieldsOf}
-use Rattle.sheet_token_laws.specs.Facts.{and-true}
 use Rattle.sheet_kinds.specs.Packed.{codeOf, packed, kindAt}
 use Rattle.sheet_kinds.specs.Next.{below, kindsAfter, Holds, Joined}
+use Rattle.base_facts.specs.Tests.{and-true}
 
 codes : (k : Kind) → (ltb 0 (codeOf k) && ltb (codeOf k) 32 ≡ true) × (kindAt (codeOf k) ≡ k)
 codes kind.Number = (refl, refl)

@@ -10,7 +10,7 @@ use borrow.Author.Tests.{leb-true, ltb-true}
 use Rattle.sheet_spec.specs.declared.Kind.{Kind}
 use Rattle.sheet_spec.specs.declared.Kind.the-variants as kind
 use Rattle.sheet_spec.specs.Grammar.{operandFields, instructionFields, fieldsOf}
-use Rattle.sheet_token_laws.specs.Facts.{and-true}
+use Rattle.base_facts.specs.Tests.{and-true}
 
 -- the kinds that may stand for a kind at once
 abbrev pub room : Kind → ℕ

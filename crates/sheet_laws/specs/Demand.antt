@@ -12,7 +12,7 @@ use Rattle.sheet_spec.specs.Made.{addressIn}
 use Rattle.read_spec.specs.declared.Reading.the-variants.{Read}
 use Rattle.read_spec.specs.Plain.{plain}
 use Rattle.read_spec.specs.Read.{readOf}
-use Rattle.read_laws.specs.Statements as reads
+use Rattle.read_spec.specs.Accepted as reads
 use Rattle.read_laws.specs.ReaderLaws.{complete}
 use Rattle.sheet_spec.specs.Translate.{countIn, addressesIn}
 use Rattle.sheet_spec.specs.Follow.{Next, on, to, either, stop, nextOf, target, lineAt, addressOf, countOf, instructionIn, plainLine, named}
@@ -77,7 +77,7 @@ module _ (text : List ℕ) (places room : ℕ) (ok : AcceptedSheet text places r
         subst (λ (k : ℕ). Lands (nextOf i) (addressOf text k) k (countIn text)) (sym (named-is ∙ e (λ k. k)))
         (aimed-lands (nextOf i) (addressOf text m) m (countIn text) (e A ∙ address-is text m p q) (address-even m) p q)
 
-    line-accepted : reads.AcceptedSheet a i
+    line-accepted : reads.Accepted a i
     line-accepted = (
       inside-typed i (l .inside A (addresses-bounded text (measured text places room ok))),
       counted.is-fine text places room ok n h g l,

@@ -19,17 +19,17 @@ use Rattle.sheet_spec.specs.Names.{bytes}
 use Rattle.sheet_spec.specs.Line.{lineOf}
 use Rattle.sheet_spec.specs.Made.{numbersAs, madeOf}
 use Rattle.sheet_spec.specs.Sheet.{sizedOf, counted, lineEncoded}
-use Rattle.sheet_spec.specs.Translate.{passed, refused, outcomeOf, imageIn, addressesIn}
+use Rattle.sheet_spec.specs.Translate.{inOrder, refused, outcomeOf, imageIn, addressesIn}
 
 abbrev countdown : List ℕ
 countdown = bytes "START\t4096\nMOVEQ\t5\tData\t0\nSUBQ\t1\tRegister\tData\t0\tWord\nBcc\t@2\tNotEqual\tShort\nRTS\n"
 
-listed : (outcomeOf countdown 4096 16384 ≡ passed) × (imageIn countdown ≡ 0x7005 ∷ 0x5340 ∷ 0x66FC ∷ 0x4E75 ∷ []) × (addressesIn countdown ≡ 4096 ∷ 4098 ∷ 4100 ∷ 4102 ∷ [])
+listed : (outcomeOf countdown 4096 16384 ≡ inOrder) × (imageIn countdown ≡ 0x7005 ∷ 0x5340 ∷ 0x66FC ∷ 0x4E75 ∷ []) × (addressesIn countdown ≡ 4096 ∷ 4098 ∷ 4100 ∷ 4102 ∷ [])
 unfolding outcomeOf sizedOf counted lineEncoded madeOf lineOf numbersAs buildOf shapeAtPlace shapeAt fillWith nothing unsignedAt byteAt longAt sizeAt registerOf registerAt registerOperandAt operandOf operandAt encodeOf sizeOf moveqParts quickParts branchParts bccParts noOperandParts permits byteOfAddress single ranges holds
 listed = (refl, refl, refl)
 
 -- the last word below 2^32, and one word beyond; an odd start
-starts : (outcomeOf (bytes "START\t4294967294\nNOP\n") 4096 16384 ≡ passed)
+starts : (outcomeOf (bytes "START\t4294967294\nNOP\n") 4096 16384 ≡ inOrder)
     × (outcomeOf (bytes "START\t4294967294\nNOP\nNOP\n") 4096 16384 ≡ refused 9 0 0 (pos 0))
     × (outcomeOf (bytes "START\t4097\nNOP\n") 4096 16384 ≡ refused 9 0 0 (pos 0))
     × (outcomeOf (bytes "START\t4294967296\nNOP\n") 4096 16384 ≡ refused 7 0 0 (pos 0))

@@ -4,7 +4,8 @@ use mathlib.Core.Path.{sym, ap, _∙_, subst}
 use mathlib.Core.List.{List}
 use Rattle.isa.specs.declared.Measured.{Measured}
 use Rattle.numeric_build.specs.declared.Built.{Built}
-use Rattle.m68k.specs.Laws.{Outcome, range-law}
+use Rattle.encode_spec.specs.Promises.{OnlyOutOfRange}
+use Rattle.m68k_encode.specs.Laws.{range-law}
 use Rattle.sheet_spec.specs.Made.{addressIn}
 use Rattle.sheet_spec.specs.Sheet.{encodedLine, lineEncoded}
 use Rattle.sheet_spec.specs.Translate.{countIn, addressesIn}
@@ -13,10 +14,10 @@ use Rattle.sheet_size_laws.specs.Bounds.{line-at, addresses-bounded}
 use Rattle.sheet_spec.specs.Promises.{MeasuredSheet}
 
 pub only-ranges : (text : List ℕ) → MeasuredSheet text → (n : ℕ) → 1 ≤ n → n ≤ countIn text
-    → Outcome (lineEncoded (addressesIn text) (lineAt text n) (addressOf text n))
+    → OnlyOutOfRange (lineEncoded (addressesIn text) (lineAt text n) (addressOf text n))
 unfolding lineEncoded
 only-ranges text ok n h g =
     let l = line-at text ok n h g in
     let f = addressIn (addressesIn text) in
-    subst (λ (b : Built). Outcome (encodedLine b (addressOf text n))) (sym (l .makes f (addresses-bounded text ok)))
+    subst (λ (b : Built). OnlyOutOfRange (encodedLine b (addressOf text n))) (sym (l .makes f (addresses-bounded text ok)))
     (range-law (l .made f) (addressOf text n) (ap (λ (m : Measured). m .number) (l .follows .size f) ∙ l .number))

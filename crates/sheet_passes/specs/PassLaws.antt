@@ -15,10 +15,10 @@ use Rattle.sheet_spec.specs.Line.{lineOf}
 use Rattle.sheet_spec.specs.Made.{addressIn, namesIn, madeOf}
 use Rattle.encode_facts.specs.Items.{words-count}
 use Rattle.sheet_token_laws.specs.Listing.{both-fine, fine-zero, measured-size}
-use Rattle.m68k.specs.Lays.{instruction-lays}
-use Rattle.m68k.specs.Laws.{places-law, encode-most}
+use Rattle.m68k_encode.specs.Lays.{instruction-lays}
+use Rattle.m68k_encode.specs.Laws.{places-law, encode-most}
 use Rattle.sheet_spec.specs.Sheet.{sizedAs, sizedOf, counted, total, addressesFrom, encodedLine, lineEncoded}
-use Rattle.sheet_spec.specs.Translate.{Outcome, passed, asOutcome, sizesOutcome, lineWords}
+use Rattle.sheet_spec.specs.Translate.{Outcome, inOrder, asOutcome, sizesOutcome, lineWords}
 use Rattle.sheet_passes.specs.Passes.{filledOf}
 
 -- ---- an encoded line has eleven places, and so many words count
@@ -84,7 +84,7 @@ module _ (n : ℕ) where
   total-most (l ∷ ls) = omega (arith, counted-most l, total-most ls)
 
 -- ---- the scratch of a sheet whose lines are not refused, and which ends in time, holds the addresses
-pub filled-addresses : (n k a : ℕ) (ls : List (List ℕ)) → sizesOutcome n k ls ≡ passed → a + 2 * total n ls ≤ 2 ^ 32
+pub filled-addresses : (n k a : ℕ) (ls : List (List ℕ)) → sizesOutcome n k ls ≡ inOrder → a + 2 * total n ls ≤ 2 ^ 32
     → filledOf n a ls ≡ addressesFrom n a ls
 filled-addresses n k a [] e h = refl
 filled-addresses n k a (l ∷ ls) e h =

@@ -8,7 +8,7 @@ use lib.IntN.{pos}
 use lib.ListN.{length, drop, getD}
 use Rattle.base_spec.specs.Lines.{linesOf}
 use Rattle.sheet_spec.specs.Sheet.{sizedOf, counted, addressesFrom}
-use Rattle.sheet_spec.specs.Translate.{Outcome, passed, refused, rangesOutcome, imageFrom}
+use Rattle.sheet_spec.specs.Translate.{Outcome, inOrder, refused, rangesOutcome, imageFrom}
 use Rattle.sheet_passes.specs.declared.Passed.{Passed}
 
 -- the lines of a text from a place on
@@ -17,7 +17,7 @@ linesAt text from = linesOf (drop from text)
 
 -- the words that were counted, or the refusal
 abbrev pub passedOf : Outcome → ℕ → Passed
-passedOf passed words = record { number = 0; line = 0; detail = 0; value = pos 0; words = words }
+passedOf inOrder words = record { number = 0; line = 0; detail = 0; value = pos 0; words = words }
 passedOf (refused number line detail value) words = record { number = number; line = line; detail = detail; value = value; words = 0 }
 
 -- the low 32 bits of the addresses of the lines before the first that is refused

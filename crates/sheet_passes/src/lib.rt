@@ -25,7 +25,7 @@ fn sized_as(b: Built, named: bool) -> Measured
     match b {
         Built::Instruction(i) => {
             if named {
-                return m68k::size(i);
+                return m68k_encode::size(i);
             }
             turned_back(8)
         }
@@ -58,7 +58,7 @@ fn encoded_as(b: Built, address: u32) -> Encoded
     ensures { λ r. ⌜ r ≡ encodedLine b address ⌝ }
 {
     match b {
-        Built::Instruction(i) => m68k::encode(i, address),
+        Built::Instruction(i) => m68k_encode::encode(i, address),
         Built::NotInForm => Encoded {
             words: [0; 11],
             count: 0,

@@ -13,7 +13,7 @@ use Rattle.base_spec.specs.Written.{placed}
 use Rattle.base_text.specs.Wrote.{Wrote}
 use Rattle.sheet_spec.specs.declared.Listed.{Listed}
 use Rattle.sheet_spec.specs.Sheet.{isSheet, feeds, last, linesIn}
-use Rattle.sheet_spec.specs.Translate.{Outcome, passed, refused, startIn, countIn, addressesIn, needIn, outcomeOf, listedOf, imageIn, over, imageOf, scratchOf}
+use Rattle.sheet_spec.specs.Translate.{Outcome, inOrder, refused, startIn, countIn, addressesIn, needIn, outcomeOf, listedOf, imageIn, over, imageOf, scratchOf}
 use Rattle.sheet_size_laws.specs.Image.{Counts}
 use Rattle.sheet_size_laws.specs.Outcomes.{accepted}
 use Rattle.sheet_size_laws.specs.Counted.{counts, image-counts}
@@ -27,7 +27,7 @@ use Rattle.sheet_print.specs.Listing.{linesText, Laid}
 use Rattle.sheet_print.specs.ListingLaws.{listing-is, laid}
 
 -- ---- an accepted sheet
-module _ (text : List ℕ) (places room : ℕ) (e : outcomeOf text places room ≡ passed) where
+module _ (text : List ℕ) (places room : ℕ) (e : outcomeOf text places room ≡ inOrder) where
   counted-words : Counts (addressesIn text) (countIn text) (startIn text) (linesIn text)
   counted-words = counts text places room (accepted text places room e)
 
@@ -48,7 +48,7 @@ pub record Listable (scratch image : List ℕ) (lines words : ℕ) (printed : Li
   pub laid : Laid (take lines scratch) (take words image)
   pub listing : linesText 1 (take lines scratch) (take words image) ≡ printed
 
-accepted-listable : (text v s : List ℕ) → outcomeOf text (length s) (length v) ≡ passed
+accepted-listable : (text v s : List ℕ) → outcomeOf text (length s) (length v) ≡ inOrder
     → Listable (over (addressesIn text) s) (over (imageIn text) v) (countIn text) (needIn text) (printedOf text (length s) (length v))
 accepted-listable text v s e =
     let a = accepted text (length s) (length v) e in
@@ -71,7 +71,7 @@ module _ {text v s v′ s′ : List ℕ} {r : Listed} (t : Translated text v s v
     where
       go : (w : Outcome) → outcomeOf text (length s) (length v) ≡ w → Sound w
           → Listable s′ v′ (r .lines) (r .words) (printedOf text (length s) (length v))
-      go passed e n = rw (t .listed, t .image, t .scratch, e) (accepted-listable text v s e)
+      go inOrder e n = rw (t .listed, t .image, t .scratch, e) (accepted-listable text v s e)
       go (refused number line detail value) e n = absurd (n (rw (t .listed, e) at h))
 
   pub refusal-is : (r .number ≡ 0 → ⊥) → refusalText (r .number) (r .line) (r .detail) (r .value) ≡ printedOf text (length s) (length v)
@@ -80,7 +80,7 @@ module _ {text v s v′ s′ : List ℕ} {r : Listed} (t : Translated text v s v
     where
       go : (w : Outcome) → outcomeOf text (length s) (length v) ≡ w
           → refusalText (r .number) (r .line) (r .detail) (r .value) ≡ printedOf text (length s) (length v)
-      go passed e = absurd (h (rw (t .listed, e)))
+      go inOrder e = absurd (h (rw (t .listed, e)))
       go (refused number line detail value) e = rw (t .listed, e)
 
 -- a text from the first place on

@@ -7,20 +7,20 @@ use native.Mathlib.Omega.{arith}
 use lib.Dec.{eqb, leb}
 use lib.ListN.{length, take, getD, replicate, length-take}
 use borrow.Author.Tests.{eqb-true, ne-eqb, leb-true}
-use Rattle.sheet_token_laws.specs.Facts.{and-true}
 use Rattle.sheet_spec.specs.Line.{equal}
 use Rattle.sheet_spec.specs.declared.Listed.{Listed}
-use Rattle.sheet_spec.specs.Translate.{Outcome, passed, refused, startIn, countIn, needIn, imageIn, outcomeOf, listedAs, listedOf, imageAs, imageOf, scratchOf, isPassed, same}
+use Rattle.sheet_spec.specs.Translate.{Outcome, inOrder, refused, startIn, countIn, needIn, imageIn, outcomeOf, listedAs, listedOf, imageAs, imageOf, scratchOf, isInOrder, same}
 use Rattle.sheet_size_laws.specs.Outcomes.{accepted}
 use Rattle.sheet_spec.specs.Promises.{Translated, enough, Compared}
 use Rattle.sheet_translate.specs.OutcomeLaws.{Sound, verdict-sound}
 use Rattle.sheet_translate.specs.PlaceLaws.{scratch-length, image-length, words-fit}
 use Rattle.sheet_translate.specs.Left.{left}
 use Rattle.sheet_same.specs.Room.{verdict-more}
+use Rattle.base_facts.specs.Tests.{and-true}
 
 -- an answer's number is 0 exactly where nothing is refused
-fine-number : (w : Outcome) → Sound w → (lines words : ℕ) → eqb (listedAs w lines words .number) 0 ≡ isPassed w
-fine-number passed s lines words = refl
+fine-number : (w : Outcome) → Sound w → (lines words : ℕ) → eqb (listedAs w lines words .number) 0 ≡ isInOrder w
+fine-number inOrder s lines words = refl
 fine-number (refused number line detail value) s lines words = ne-eqb number 0 s
 
 -- ---- one sheet translated with room enough
@@ -40,12 +40,12 @@ module _ (text v s v′ s′ : List ℕ) (r : Listed) (t : Translated text v s v
       let some = accepted text (length s) (length v) (l .accepts) .lines-some in
       omega (arith, l .addresses 1 (omega arith) (omega arith))
 
-  judged : 4096 ≤ length s → 45056 ≤ length v → eqb (r .number) 0 ≡ isPassed (outcomeOf text 4096 45056)
+  judged : 4096 ≤ length s → 45056 ≤ length v → eqb (r .number) 0 ≡ isInOrder (outcomeOf text 4096 45056)
   unfolding listedOf
   judged h g =
       ap (λ (x : Listed). eqb (x .number) 0) (t .listed)
       ∙ fine-number (outcomeOf text (length s) (length v)) (verdict-sound text (length s) (length v)) (countIn text) (needIn text)
-      ∙ ap isPassed (verdict-more text (length s) (length v) h g)
+      ∙ ap isInOrder (verdict-more text (length s) (length v) h g)
 
 both : (x y a b c d : Bool) → (x ≡ true → y ≡ true → (a ≡ c) × (b ≡ d)) → x && y && a && b ≡ x && y && c && d
 both true true a b c d f = let e = f refl refl in rw (e .0, e .1)

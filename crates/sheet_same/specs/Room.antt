@@ -1,4 +1,4 @@
--- More than 4,096 places and 45,056 words change nothing in a sheet's verdict.
+-- More than 4,096 places and 45,056 words change nothing in a sheet's outcome.
 use Prim.Native.Nat.{ℕ, _+_, _*_, _^_, _≤_}
 use mathlib.Core.Path.{_≡_, refl, sym, ap, _∙_}
 use mathlib.Core.Bool.{Bool, true, false}
@@ -13,7 +13,7 @@ use Rattle.sheet_spec.specs.Translate.{Outcome, andThen, require, startOutcome,
 use Rattle.sheet_translate.specs.Translated.{sizesIn, rangesIn}
 
 module _ (text : List ℕ) where
-  -- 01's table by its tests of the shape, the scratch and the image
+  -- 01's table by its tests of the sheet's outline, the scratch and the image
   abbrev by : Bool → Bool → Bool → Outcome
   by sheet scratch image =
       andThen (require sheet 10)

@@ -6,20 +6,21 @@ use mathlib.Core.List.{List}
 use lib.Dec.{eqb}
 use borrow.Author.Tests.{eq-eqb, eqb-true}
 use Rattle.sheet_spec.specs.Line.{equal}
-use Rattle.sheet_token_laws.specs.Facts.{and-true, equal-is, equal-refl}
-use Rattle.sheet_spec.specs.Translate.{Outcome, passed, refused, startIn, imageIn, outcomeOf, isPassed, same}
+use Rattle.sheet_token_laws.specs.Facts.{equal-is, equal-refl}
+use Rattle.sheet_spec.specs.Translate.{Outcome, inOrder, refused, startIn, imageIn, outcomeOf, isInOrder, same}
 use Rattle.sheet_spec.specs.Promises.{Same}
+use Rattle.base_facts.specs.Tests.{and-true}
 
 -- ---- exactly where
-is-fine : (w : Outcome) → isPassed w ≡ true → w ≡ passed
-is-fine passed e = refl
+is-fine : (w : Outcome) → isInOrder w ≡ true → w ≡ inOrder
+is-fine inOrder e = refl
 is-fine (refused number line detail value) e = absurd (false≢true e)
 
 pub same-is : (s t : List ℕ) → same s t ≡ true → Same s t
 unfolding same
 same-is s t e =
-    let a = isPassed (outcomeOf s 4096 45056) in
-    let b = isPassed (outcomeOf t 4096 45056) in
+    let a = isInOrder (outcomeOf s 4096 45056) in
+    let b = isInOrder (outcomeOf t 4096 45056) in
     let c = eqb (startIn s) (startIn t) in
     let p = and-true (a && b && c) (equal (imageIn s) (imageIn t)) e in
     let q = and-true (a && b) c (p .0) in
@@ -36,7 +37,7 @@ unfolding same
 is-same s t h =
     rw (h .first, h .second, eq-eqb (startIn s) (startIn t) (h .starts), h .images) (equal-refl (imageIn t))
 
-pub same-refl : (s : List ℕ) → outcomeOf s 4096 45056 ≡ passed → same s s ≡ true
+pub same-refl : (s : List ℕ) → outcomeOf s 4096 45056 ≡ inOrder → same s s ≡ true
 same-refl s e = is-same s s (record { first = e; second = e; starts = refl; images = refl })
 
 turn : {s t : List ℕ} → Same s t → Same t s

@@ -17,7 +17,7 @@ use Rattle.sheet_spec.specs.Promises.{MeasuredSheet}
 use Rattle.sheet_size_laws.specs.Image.{address-is, address-next, total-take}
 use Rattle.sheet_form_laws.specs.Turned.{Bounded}
 use Rattle.sheet_size_laws.specs.Made.{LineMade, line-made}
-use Rattle.m68k.specs.Lays.{instruction-lays, alike-count}
+use Rattle.m68k_encode.specs.Lays.{instruction-lays, alike-count}
 
 -- ---- counts of lines
 total-some : (m : ℕ) (ls : List (List ℕ)) → ((j : ℕ) → j < length ls → 1 ≤ counted m (getD ls j [])) → length ls ≤ total m ls

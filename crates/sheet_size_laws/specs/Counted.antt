@@ -15,7 +15,7 @@ use Rattle.numeric_build.specs.declared.Built.{Built}
 use Rattle.numeric_build.specs.declared.Built.the-variants as built
 use Rattle.sheet_spec.specs.Made.{madeOf, addressIn}
 use Rattle.sheet_spec.specs.Sheet.{encodedLine, lineEncoded, linesIn, total}
-use Rattle.sheet_spec.specs.Translate.{passed, startIn, countIn, addressesIn, needIn, imageIn, outcomeOf}
+use Rattle.sheet_spec.specs.Translate.{inOrder, startIn, countIn, addressesIn, needIn, imageIn, outcomeOf}
 use Rattle.sheet_spec.specs.Follow.{lineAt, addressOf, countOf}
 use Rattle.sheet_size_laws.specs.Image.{Counts, image-length, words-stand}
 use Rattle.sheet_size_laws.specs.Outcomes.{accepted}
@@ -72,10 +72,10 @@ module _ (text : List ℕ) (places room : ℕ) (ok : AcceptedSheet text places r
   counts j h = words-count (suc j) (omega arith) h (line-at text measured (suc j) (omega arith) h)
 
 -- the image has the words of all lines
-pub image-counts : (text : List ℕ) (places room : ℕ) → outcomeOf text places room ≡ passed → length (imageIn text) ≡ needIn text
+pub image-counts : (text : List ℕ) (places room : ℕ) → outcomeOf text places room ≡ inOrder → length (imageIn text) ≡ needIn text
 image-counts text places room e = image-length text (counts text places room (accepted text places room e))
 
 -- each line's words, those of `encode`, stand at its offset
-pub each-stands : (text : List ℕ) (places room : ℕ) → outcomeOf text places room ≡ passed → (n : ℕ) → suc n ≤ countIn text
+pub each-stands : (text : List ℕ) (places room : ℕ) → outcomeOf text places room ≡ inOrder → (n : ℕ) → suc n ≤ countIn text
     → take (countOf text (suc n)) (drop (total (countIn text) (take n (linesIn text))) (imageIn text)) ≡ wordsAt text (suc n)
 each-stands text places room e n h = words-stand text (counts text places room (accepted text places room e)) n h

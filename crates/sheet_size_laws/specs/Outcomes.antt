@@ -1,4 +1,4 @@
--- What an accepted sheet is: the verdict `fine`, place by place.
+-- What an accepted sheet is: every place of 01's table in order.
 use Prim.Native.Nat.{ℕ, zero, suc, pred, _+_, _*_, _%_, _^_, _<_}
 use mathlib.Core.Path.{_≡_, refl, sym, ap, _∙_}
 use mathlib.Core.Bool.{Bool, true, false, cond, not, _&&_, false≢true}
@@ -14,14 +14,14 @@ use Rattle.base_spec.specs.Parts.{fields}
 use Rattle.base_spec.specs.Number.{numberOf}
 use Rattle.sheet_spec.specs.Names.{bytes}
 use Rattle.sheet_spec.specs.Line.{equal}
-use Rattle.sheet_token_laws.specs.Facts.{and-true}
 use Rattle.sheet_spec.specs.Sheet.{isSheet, startLine, linesIn, Start, at, notInForm, startAs, startOf, sizedOf, counted, total, lineEncoded}
 use Rattle.sheet_spec.specs.Sheet as sheet
-use Rattle.sheet_spec.specs.Translate.{Outcome, passed, andThen, require, startOutcome, startNumber, asOutcome, sizesOutcome, rangesOutcome, startIn, countIn, addressesIn, needIn, outcomeOf}
+use Rattle.sheet_spec.specs.Translate.{Outcome, inOrder, andThen, require, startOutcome, startNumber, asOutcome, sizesOutcome, rangesOutcome, startIn, countIn, addressesIn, needIn, outcomeOf}
 use Rattle.sheet_spec.specs.Promises.{AcceptedSheet}
 use Rattle.sheet_token_laws.specs.SheetLaws.{outline, count-feeds}
 use Rattle.sheet_token_laws.specs.Listing.{refused-not, both-fine, unless-true, as-fine, fine-zero}
 use Rattle.sheet_size_laws.specs.Image.{further}
+use Rattle.base_facts.specs.Tests.{and-true}
 
 -- ---- START
 start-as : (b : Bool) (n : ℕ) → (b ≡ true → n < 2 ^ 32) → startNumber (cond b (at n) notInForm) < 2 ^ 32
@@ -46,17 +46,17 @@ fields-low (f ∷ (g ∷ (h ∷ fs))) = omega arith
 pub start-low : (text : List ℕ) → startIn text < 2 ^ 32
 start-low text = fields-low (fields (startLine text))
 
-start-even : (s : Start) → startOutcome s ≡ passed → (s ≡ at (startNumber s)) × (startNumber s % 2 ≡ 0)
+start-even : (s : Start) → startOutcome s ≡ inOrder → (s ≡ at (startNumber s)) × (startNumber s % 2 ≡ 0)
 start-even (at n) e = (refl, eqb-true (n % 2) 0 (unless-true (eqb (n % 2) 0) 9 e))
 start-even notInForm e = refused-not e
 
 -- ---- each line
-sizes-fine : (n k : ℕ) (ls : List (List ℕ)) → sizesOutcome n k ls ≡ passed → (j : ℕ) → j < length ls → sizedOf n (getD ls j []) .number ≡ 0
+sizes-fine : (n k : ℕ) (ls : List (List ℕ)) → sizesOutcome n k ls ≡ inOrder → (j : ℕ) → j < length ls → sizedOf n (getD ls j []) .number ≡ 0
 sizes-fine n k [] e j h = absurd (omega arith)
 sizes-fine n k (l ∷ ls) e zero h = fine-zero k _ (sizedOf n l .detail) (sizedOf n l .value) (both-fine _ (sizesOutcome n (suc k) ls) e .0)
 sizes-fine n k (l ∷ ls) e (suc j) h = sizes-fine n (suc k) ls (both-fine (asOutcome k (sizedOf n l .number) (sizedOf n l .detail) (sizedOf n l .value)) _ e .1) j (omega arith)
 
-ranges-fine : (A : List ℕ) (n k a : ℕ) (ls : List (List ℕ)) → rangesOutcome A n k a ls ≡ passed
+ranges-fine : (A : List ℕ) (n k a : ℕ) (ls : List (List ℕ)) → rangesOutcome A n k a ls ≡ inOrder
     → (j : ℕ) → j < length ls → lineEncoded A (getD ls j []) (a + 2 * total n (take j ls)) .number ≡ 0
 ranges-fine A n k a [] e j h = absurd (omega arith)
 ranges-fine A n k a (l ∷ ls) e zero h =
@@ -68,7 +68,7 @@ ranges-fine A n k a (l ∷ ls) e (suc j) h =
 
 -- ---- an accepted sheet
 
-pub accepted : (text : List ℕ) (places room : ℕ) → outcomeOf text places room ≡ passed → AcceptedSheet text places room
+pub accepted : (text : List ℕ) (places room : ℕ) → outcomeOf text places room ≡ inOrder → AcceptedSheet text places room
 unfolding outcomeOf
 accepted text places room e =
     let a = both-fine (require (isSheet text) 10) _ e in
@@ -92,18 +92,18 @@ accepted text places room e =
     }
 
 -- ---- no refusal comes otherwise
-unless-is : (b : Bool) (k : ℕ) → b ≡ true → require b k ≡ passed
+unless-is : (b : Bool) (k : ℕ) → b ≡ true → require b k ≡ inOrder
 unless-is true k e = refl
 unless-is false k e = absurd (false≢true e)
 
-sizes-all : (n k : ℕ) (ls : List (List ℕ)) → ((j : ℕ) → j < length ls → sizedOf n (getD ls j []) .number ≡ 0) → sizesOutcome n k ls ≡ passed
+sizes-all : (n k : ℕ) (ls : List (List ℕ)) → ((j : ℕ) → j < length ls → sizedOf n (getD ls j []) .number ≡ 0) → sizesOutcome n k ls ≡ inOrder
 sizes-all n k [] h = refl
 sizes-all n k (l ∷ ls) h =
     ap (λ v. andThen v (sizesOutcome n (suc k) ls)) (as-fine k (sizedOf n l .number) (sizedOf n l .detail) (sizedOf n l .value) (h 0 (omega arith)))
     ∙ sizes-all n (suc k) ls (λ j q. h (suc j) (omega arith))
 
 ranges-all : (A : List ℕ) (n k a : ℕ) (ls : List (List ℕ))
-    → ((j : ℕ) → j < length ls → lineEncoded A (getD ls j []) (a + 2 * total n (take j ls)) .number ≡ 0) → rangesOutcome A n k a ls ≡ passed
+    → ((j : ℕ) → j < length ls → lineEncoded A (getD ls j []) (a + 2 * total n (take j ls)) .number ≡ 0) → rangesOutcome A n k a ls ≡ inOrder
 ranges-all A n k a [] h = refl
 ranges-all A n k a (l ∷ ls) h =
     let first = ap (λ (x : ℕ). lineEncoded A l x .number) (sym (add-zero a)) ∙ h 0 (omega arith) in
@@ -111,10 +111,10 @@ ranges-all A n k a (l ∷ ls) h =
     ∙ ranges-all A n (suc k) (a + 2 * counted n l) ls
     (λ j q. ap (λ (x : ℕ). lineEncoded A (getD ls j []) x .number) (further a (counted n l) (total n (take j ls))) ∙ h (suc j) (omega arith))
 
-and-fine : (u v : Outcome) → u ≡ passed → v ≡ passed → andThen u v ≡ passed
+and-fine : (u v : Outcome) → u ≡ inOrder → v ≡ inOrder → andThen u v ≡ inOrder
 and-fine u v p q = ap (λ w. andThen w v) p ∙ q
 
-pub not-otherwise : (text : List ℕ) (places room : ℕ) → AcceptedSheet text places room → outcomeOf text places room ≡ passed
+pub not-otherwise : (text : List ℕ) (places room : ℕ) → AcceptedSheet text places room → outcomeOf text places room ≡ inOrder
 unfolding outcomeOf
 not-otherwise text places room ok =
     and-fine (require (isSheet text) 10) _ (unless-is (isSheet text) 10 (ok .sheet))

@@ -4,7 +4,7 @@ use mathlib.Core.List.{List, _∷_, _++_}
 use Rattle.base_spec.specs.Written.{decimalOf}
 use Rattle.sheet_spec.specs.Names.{bytes}
 use Rattle.sheet_spec.specs.Sheet.{isSheet, startLine, at, startOf, sizedOf, lineEncoded}
-use Rattle.sheet_spec.specs.Translate.{startIn, countIn, addressesIn, needIn, lineWords, listedOf, imageOf, scratchOf, same, passed, imageIn, outcomeOf}
+use Rattle.sheet_spec.specs.Translate.{startIn, countIn, addressesIn, needIn, lineWords, listedOf, imageOf, scratchOf, same, inOrder, imageIn, outcomeOf}
 use Rattle.sheet_spec.specs.Follow.{lineAt, addressOf, Together, byLines, byWords, readingAt, plainLine, countOf}
 use Rattle.sheet_spec.specs.declared.Listed.{Listed}
 use Rattle.sheet_spec.specs.declared.Comparison.{Comparison}
@@ -14,9 +14,11 @@ use lib.ListN.{length, replicate, take, drop, getD}
 use lib.Dec.{leb}
 use Rattle.read_spec.specs.declared.Reading.the-variants.{Read}
 
+-- a START line in the form
 abbrev pub startText : ℕ → List ℕ
 startText n = bytes "START" ++ (9 ∷ decimalOf n)
 
+-- every place of 01's table is in order
 pub record AcceptedSheet (text : List ℕ) (places room : ℕ) : Type 0 where
   pub sheet : isSheet text ≡ true
   pub lines-some : 1 ≤ countIn text
@@ -28,6 +30,7 @@ pub record AcceptedSheet (text : List ℕ) (places room : ℕ) : Type 0 where
   pub image : needIn text ≤ room
   pub encoded : (n : ℕ) → 1 ≤ n → n ≤ countIn text → lineEncoded (addressesIn text) (lineAt text n) (addressOf text n) .number ≡ 0
 
+-- its lines are measured, and its end is at most 2^32
 pub record MeasuredSheet (text : List ℕ) : Type 0 where
   pub sized : (n : ℕ) → 1 ≤ n → n ≤ countIn text → sizedOf (countIn text) (lineAt text n) .number ≡ 0
   pub ends : startIn text + 2 * needIn text ≤ 2 ^ 32
@@ -57,9 +60,10 @@ pub record Compared (f g v w s v′ w′ s′ : List ℕ) (r : Comparison) : Typ
   pub second : w′ ≡ cond (enough (length s) (length v) (length w)) (imageOf g s w) w
   pub scratch : s′ ≡ cond (enough (length s) (length v) (length w)) (scratchOf g (scratchOf f s v) w) (replicate (length s) 0)
 
+-- two sheets are the same (01)
 pub record Same (s t : List ℕ) : Type 0 where
-  pub first : outcomeOf s 4096 45056 ≡ passed
-  pub second : outcomeOf t 4096 45056 ≡ passed
+  pub first : outcomeOf s 4096 45056 ≡ inOrder
+  pub second : outcomeOf t 4096 45056 ≡ inOrder
   pub starts : startIn s ≡ startIn t
   pub images : imageIn s ≡ imageIn t
 

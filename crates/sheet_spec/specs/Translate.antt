@@ -9,18 +9,18 @@ use Rattle.sheet_spec.specs.Line.{equal}
 use Rattle.sheet_spec.specs.declared.Listed.{Listed}
 use Rattle.sheet_spec.specs.Sheet.{isSheet, startLine, linesIn, Start, at, notInForm, startOf, sizedOf, counted, total, addressesFrom, lineEncoded}
 
--- a verdict: nothing refused, or a refusal with its line
+-- what a place of 01's table says: in order, or a refusal with its line
 pub data Outcome : Type 0 where
-  passed : Outcome
+  inOrder : Outcome
   refused : ℕ → ℕ → ℕ → ℤ → Outcome
 
 abbrev pub andThen : Outcome → Outcome → Outcome
-andThen passed v = v
+andThen inOrder v = v
 andThen (refused number line detail value) v = refused number line detail value
 
 -- refused, outside lines, where a test fails
 abbrev pub require : Bool → ℕ → Outcome
-require b number = cond b passed (refused number 0 0 (pos 0))
+require b number = cond b inOrder (refused number 0 0 (pos 0))
 
 -- START: 7, then 9 where it is odd
 abbrev pub startOutcome : Start → Outcome
@@ -33,15 +33,15 @@ startNumber notInForm = 0
 
 -- each line in turn, from line k on
 abbrev pub asOutcome : ℕ → ℕ → ℕ → ℤ → Outcome
-asOutcome k number detail value = cond (eqb number 0) passed (refused number k detail value)
+asOutcome k number detail value = cond (eqb number 0) inOrder (refused number k detail value)
 
 abbrev pub sizesOutcome : ℕ → ℕ → List (List ℕ) → Outcome
-sizesOutcome n k [] = passed
+sizesOutcome n k [] = inOrder
 sizesOutcome n k (l ∷ ls) =
     let m = sizedOf n l in andThen (asOutcome k (m .number) (m .detail) (m .value)) (sizesOutcome n (suc k) ls)
 
 abbrev pub rangesOutcome : List ℕ → ℕ → ℕ → ℕ → List (List ℕ) → Outcome
-rangesOutcome addresses n k a [] = passed
+rangesOutcome addresses n k a [] = inOrder
 rangesOutcome addresses n k a (l ∷ ls) =
     let e = lineEncoded addresses l a in
     andThen (asOutcome k (e .number) (e .detail) (e .value)) (rangesOutcome addresses n (suc k) (a + 2 * counted n l) ls)
@@ -71,7 +71,7 @@ outcomeOf text places room =
     (rangesOutcome (addressesIn text) (countIn text) 1 (startIn text) (linesIn text)))))))
 
 abbrev pub listedAs : Outcome → ℕ → ℕ → Listed
-listedAs passed lines words = record { lines = lines; words = words; number = 0; line = 0; detail = 0; value = pos 0 }
+listedAs inOrder lines words = record { lines = lines; words = words; number = 0; line = 0; detail = 0; value = pos 0 }
 listedAs (refused number line detail value) lines words =
     record { lines = 0; words = 0; number = number; line = line; detail = detail; value = value }
 
@@ -95,11 +95,11 @@ abbrev pub over : List ℕ → List ℕ → List ℕ
 over written lent = written ++ drop (length written) lent
 
 abbrev pub imageAs : Outcome → List ℕ → List ℕ → List ℕ
-imageAs passed words image = over words image
+imageAs inOrder words image = over words image
 imageAs (refused number line detail value) words image = image
 
 abbrev pub scratchAs : Outcome → List ℕ → List ℕ → List ℕ
-scratchAs passed addresses scratch = over addresses scratch
+scratchAs inOrder addresses scratch = over addresses scratch
 scratchAs (refused number line detail value) addresses scratch = replicate (length scratch) 0
 
 unfoldable pub imageOf : List ℕ → List ℕ → List ℕ → List ℕ
@@ -109,10 +109,10 @@ unfoldable pub scratchOf : List ℕ → List ℕ → List ℕ → List ℕ
 scratchOf text scratch image = scratchAs (outcomeOf text (length scratch) (length image)) (addressesIn text) scratch
 
 -- two sheets are the same (01): both are accepted with 4,096 places and 45,056 words, their starts and their images are equal
-abbrev pub isPassed : Outcome → Bool
-isPassed passed = true
-isPassed (refused number line detail value) = false
+abbrev pub isInOrder : Outcome → Bool
+isInOrder inOrder = true
+isInOrder (refused number line detail value) = false
 
 unfoldable pub same : List ℕ → List ℕ → Bool
 same s t =
-    isPassed (outcomeOf s 4096 45056) && isPassed (outcomeOf t 4096 45056) && eqb (startIn s) (startIn t) && equal (imageIn s) (imageIn t)
+    isInOrder (outcomeOf s 4096 45056) && isInOrder (outcomeOf t 4096 45056) && eqb (startIn s) (startIn t) && equal (imageIn s) (imageIn t)

@@ -1,6 +1,6 @@
-// The form of a sheet's line.
+// Definitions alone: a sheet, its lines, its translation and its following. The types that they and the code share.
 
-// What a field of a line is: a number, a line's name, either, or a variant's name of a type.
+// What a field of a line is: a number, a label, either, or a variant's name of a type.
 pub enum Kind {
     Number,
     Target,

@@ -1,4 +1,4 @@
-// What stands before a sheet's lines: its shape, and the START line.
+// What stands before a sheet's lines: its outline, and the START line.
 ghost use mathlib.Core.Path.{_≡_};
 ghost use Prim.Native.Nat.{_+_};
 ghost use lib.ListN.{length};

@@ -17,8 +17,8 @@ use Rattle.sheet_spec.specs.Line.{Token, literal, label, invalid, asNumber, asN
 use Rattle.sheet_spec.specs.Line as line
 use Rattle.sheet_spec.specs.Spell.{signText, nameText, Written, Named, Either, Variant, Suits}
 use Rattle.sheet_spec.specs.Spell as spell
-use Rattle.sheet_token_laws.specs.Facts.{and-true}
 use Rattle.sheet_token_laws.specs.Names.{Place, place-is}
+use Rattle.base_facts.specs.Tests.{and-true}
 
 -- ---- the kinds: a number, a line's name, either, or a variant's name
 pub record Enumerated (k : Kind) : Type 0 where

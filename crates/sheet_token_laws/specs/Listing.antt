@@ -1,4 +1,4 @@
--- Facts about the verdicts on a sheet, about what `size` says, and about lent places.
+-- Facts about the outcomes of a sheet, about what `size` says, and about lent places.
 use Prim.Native.Nat.{ℕ, _≤_}
 use mathlib.Core.Path.{_≡_, refl}
 use mathlib.Core.Bool.{Bool, true, false, cond}
@@ -10,30 +10,30 @@ use lib.ListN.{length, length-append, length-drop}
 use borrow.Author.Tests.{eqb-true, ne-eqb}
 use Rattle.encode_spec.specs.Item as item
 use Rattle.encode_spec.specs.Encode.{measuredAs}
-use Rattle.sheet_spec.specs.Translate.{Outcome, passed, refused, andThen, require, asOutcome, over}
+use Rattle.sheet_spec.specs.Translate.{Outcome, inOrder, refused, andThen, require, asOutcome, over}
 
--- ---- verdicts
-pub refused-not : {C : Type 0} {number line detail : ℕ} {value : ℤ} → refused number line detail value ≡ passed → C
+-- ---- outcomes
+pub refused-not : {C : Type 0} {number line detail : ℕ} {value : ℤ} → refused number line detail value ≡ inOrder → C
 refused-not e = let z : _≡_ {A = ℕ} 0 1 = cc in absurd (omega arith)
 
-pub both-fine : (u v : Outcome) → andThen u v ≡ passed → (u ≡ passed) × (v ≡ passed)
-both-fine passed v e = (refl, e)
+pub both-fine : (u v : Outcome) → andThen u v ≡ inOrder → (u ≡ inOrder) × (v ≡ inOrder)
+both-fine inOrder v e = (refl, e)
 both-fine (refused number line detail value) v e = refused-not e
 
-pub unless-true : (b : Bool) (k : ℕ) → require b k ≡ passed → b ≡ true
+pub unless-true : (b : Bool) (k : ℕ) → require b k ≡ inOrder → b ≡ true
 unless-true true k e = refl
 unless-true false k e = refused-not e
 
-pub as-fine : (k number detail : ℕ) (value : ℤ) → number ≡ 0 → asOutcome k number detail value ≡ passed
+pub as-fine : (k number detail : ℕ) (value : ℤ) → number ≡ 0 → asOutcome k number detail value ≡ inOrder
 as-fine k number detail value e = rw e
 
 pub as-refused : (k number detail : ℕ) (value : ℤ) → (number ≡ 0 → ⊥) → asOutcome k number detail value ≡ refused number k detail value
 as-refused k number detail value e = rw (ne-eqb number 0 e)
 
-pub fine-zero : (k number detail : ℕ) (value : ℤ) → asOutcome k number detail value ≡ passed → number ≡ 0
+pub fine-zero : (k number detail : ℕ) (value : ℤ) → asOutcome k number detail value ≡ inOrder → number ≡ 0
 fine-zero k number detail value e = go (eqb number 0) refl e
   where
-    go : (t : Bool) → eqb number 0 ≡ t → cond t passed (refused number k detail value) ≡ passed → number ≡ 0
+    go : (t : Bool) → eqb number 0 ≡ t → cond t inOrder (refused number k detail value) ≡ inOrder → number ≡ 0
     go true h e = eqb-true number 0 h
     go false h e = refused-not e
 

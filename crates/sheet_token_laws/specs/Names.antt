@@ -11,7 +11,8 @@ use Rattle.sheet_spec.specs.declared.Kind.{Kind}
 use Rattle.sheet_spec.specs.declared.Kind.the-variants as kind
 use Rattle.sheet_spec.specs.Names.{bytes, namesOf}
 use Rattle.sheet_spec.specs.Line.{Token, literal, label, invalid, equal, isNone, placeFrom, asVariant}
-use Rattle.sheet_token_laws.specs.Facts.{and-true, all, below, equal-is}
+use Rattle.sheet_token_laws.specs.Facts.{equal-is}
+use Rattle.base_facts.specs.Tests.{and-true, below, all}
 
 -- every byte is above 10, so none is a tab or a line feed
 abbrev pub solid : List ℕ → Bool
@@ -86,15 +87,15 @@ some-or [] b h e = absurd (omega arith)
 some-or (x ∷ xs) b h e = e
 
 module _ (k : Kind) (n : ℕ) (h : n < length (namesOf k)) where
-  passed : (isNone (getD (map bytes (namesOf k)) n []) || is n (asVariant k (getD (map bytes (namesOf k)) n [])) ≡ true) × (solid (getD (map bytes (namesOf k)) n []) ≡ true)
-  passed =
+  computed : (isNone (getD (map bytes (namesOf k)) n []) || is n (asVariant k (getD (map bytes (namesOf k)) n [])) ≡ true) × (solid (getD (map bytes (namesOf k)) n []) ≡ true)
+  computed =
       let f = getD (map bytes (namesOf k)) n [] in
       and-true (isNone f || is n (asVariant k f)) (solid f) (below (test k) (length (namesOf k)) (tested k) n h)
 
   pub name-back : 0 < length (getD (map bytes (namesOf k)) n []) → asVariant k (getD (map bytes (namesOf k)) n []) ≡ literal false n
   name-back g =
       let f = getD (map bytes (namesOf k)) n [] in
-      is-place n (asVariant k f) (some-or f (is n (asVariant k f)) g (passed .0))
+      is-place n (asVariant k f) (some-or f (is n (asVariant k f)) g (computed .0))
 
   pub name-solid : solid (getD (map bytes (namesOf k)) n []) ≡ true
-  name-solid = passed .1
+  name-solid = computed .1

@@ -18,8 +18,8 @@ use Rattle.numeric_laws.specs.FormLaws.{build-sound}
 use Rattle.sheet_spec.specs.Line.{Token, invalid, Parsed, says, no, lineOf}
 use Rattle.sheet_spec.specs.Spell.{numberAs, Line}
 use Rattle.sheet_spec.specs.Made.{numbersAs, madeAs, madeOf}
-use Rattle.sheet_token_laws.specs.Facts.{and-true}
 use Rattle.sheet_token_laws.specs.Lines.{line-fits}
+use Rattle.base_facts.specs.Tests.{and-true}
 
 -- an instruction's form
 abbrev pub entries : Instruction → List Entry

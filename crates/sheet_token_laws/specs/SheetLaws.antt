@@ -14,7 +14,7 @@ use Rattle.base_spec.specs.Lines.{linesOf}
 use Rattle.base_text.specs.LinesLaws.{lines-next}
 use Rattle.sheet_spec.specs.Sheet.{feeds, last, isSheet, startLine, linesIn}
 use Rattle.sheet_spec.specs.Translate.{countIn}
-use Rattle.sheet_token_laws.specs.Facts.{and-true}
+use Rattle.base_facts.specs.Tests.{and-true}
 
 -- ---- what a sheet is, place by place
 pub record Outline (text : List ℕ) : Type 0 where

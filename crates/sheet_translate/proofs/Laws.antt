@@ -15,14 +15,14 @@ use Rattle.sheet_start.specs.StartLine.{startAt}
 use Rattle.sheet_token_laws.specs.SheetLaws.{outline, count-feeds, count-most, lines-after}
 use Rattle.sheet_spec.specs.declared.Listed.{Listed}
 use Rattle.sheet_spec.specs.Sheet.{feeds, isSheet, startLine, linesIn, Start, at, notInForm, startOf, total}
-use Rattle.sheet_spec.specs.Translate.{Outcome, passed, refused, andThen, require, startOutcome, startNumber, asOutcome, sizesOutcome, startIn, countIn, needIn, addressesIn, imageIn, outcomeOf, listedAs, over}
+use Rattle.sheet_spec.specs.Translate.{Outcome, inOrder, refused, andThen, require, startOutcome, startNumber, asOutcome, sizesOutcome, startIn, countIn, needIn, addressesIn, imageIn, outcomeOf, listedAs, over}
 use Rattle.sheet_token_laws.specs.Listing.{as-fine, as-refused, over-length}
 use Rattle.sheet_size_laws.specs.Outcomes.{accepted}
 use Rattle.sheet_size_laws.specs.Counted.{image-counts}
 use Rattle.sheet_passes.specs.declared.Passed.{Passed}
 use Rattle.sheet_passes.specs.Passes.{passedOf, filledOf, linesAt, Placed, rangesAt, imageAt}
 use Rattle.sheet_passes.specs.PassLaws.{total-most, filled-addresses}
-use Rattle.sheet_translate.specs.Translated.{refusalNumber, openingOf, sizesIn, closingOf, rangesIn, SizedSheet}
+use Rattle.sheet_translate.specs.Translated.{outcomeNumber, openingOf, sizesIn, closingOf, rangesIn, SizedSheet}
 use Rattle.sheet_spec.specs.Promises.{Translated}
 use Rattle.sheet_translate.specs.OutcomeLaws.{Sound, sizes-sound, ranges-sound}
 use Rattle.sheet_translate.specs.StageLaws.{stages, opening-outside, closing-outside, Opened, opened, Closed, closed, by-verdict, turned-away}
@@ -37,11 +37,11 @@ zero-more p i g = rw (add-one, drop-cons p i 0 g, set-at (replicate i 0) (getD p
     rep (suc n) l = ap (λ (x : List ℕ). 0 ∷ x) (rep n l)
 
 -- ---- the opening
-start-no : (t : Start) (v : Outcome) → startAt t .ok ≡ false → refusalNumber (andThen (startOutcome t) v) ≡ 7
+start-no : (t : Start) (v : Outcome) → startAt t .ok ≡ false → outcomeNumber (andThen (startOutcome t) v) ≡ 7
 start-no (at n) v e = absurd (true≢false e)
 start-no notInForm v e = refl
 
-start-odd : (t : Start) (v : Outcome) → startAt t .ok ≡ true → (startAt t .address % 2 ≡ 0 → ⊥) → refusalNumber (andThen (startOutcome t) v) ≡ 9
+start-odd : (t : Start) (v : Outcome) → startAt t .ok ≡ true → (startAt t .address % 2 ≡ 0 → ⊥) → outcomeNumber (andThen (startOutcome t) v) ≡ 9
 start-odd (at n) v e h = rw (ne-eqb (n % 2) 0 h)
 start-odd notInForm v e h = absurd (false≢true e)
 
@@ -59,38 +59,38 @@ module _ (text : List ℕ) (places : ℕ) where
   by-outline : (b : Bool) → isSheet text ≡ b → openingOf text places ≡ andThen (require b 10) (andThen (startOutcome start) scratch)
   by-outline b e = ap (λ (t : Bool). andThen (require t 10) (andThen (startOutcome start) scratch)) e
 
-  pub open-10 : isSheet text ≡ false → refusalNumber (openingOf text places) ≡ 10
-  open-10 e = ap refusalNumber (by-outline false e)
+  pub open-10 : isSheet text ≡ false → outcomeNumber (openingOf text places) ≡ 10
+  open-10 e = ap outcomeNumber (by-outline false e)
 
   module _ (e : isSheet text ≡ true) (s : StartAt) (f : s ≡ startAt start) where
-    pub open-7 : s .ok ≡ false → refusalNumber (openingOf text places) ≡ 7
-    open-7 g = ap refusalNumber (by-outline true e) ∙ start-no start scratch (ap (λ (t : StartAt). t .ok) (sym f) ∙ g)
+    pub open-7 : s .ok ≡ false → outcomeNumber (openingOf text places) ≡ 7
+    open-7 g = ap outcomeNumber (by-outline true e) ∙ start-no start scratch (ap (λ (t : StartAt). t .ok) (sym f) ∙ g)
 
     module _ (g : s .ok ≡ true) where
       ok : startAt start .ok ≡ true
       ok = ap (λ (t : StartAt). t .ok) (sym f) ∙ g
 
-      pub open-9 : (s .address % 2 ≡ 0 → ⊥) → refusalNumber (openingOf text places) ≡ 9
-      open-9 h = ap refusalNumber (by-outline true e) ∙ start-odd start scratch ok (λ z. h (ap (λ (t : StartAt). t .address % 2) f ∙ z))
+      pub open-9 : (s .address % 2 ≡ 0 → ⊥) → outcomeNumber (openingOf text places) ≡ 9
+      open-9 h = ap outcomeNumber (by-outline true e) ∙ start-odd start scratch ok (λ z. h (ap (λ (t : StartAt). t .address % 2) f ∙ z))
 
       module _ (h : s .address % 2 ≡ 0) where
         rest : openingOf text places ≡ scratch
         rest = by-outline true e ∙ start-even start scratch ok (ap (λ (t : StartAt). t .address % 2) (sym f) ∙ h)
 
-        pub open-11 : places < feeds text - 1 → refusalNumber (openingOf text places) ≡ 11
-        open-11 k = ap refusalNumber rest ∙ rw (lt-leb (countIn text) places (omega (arith, count-feeds text e)))
+        pub open-11 : places < feeds text - 1 → outcomeNumber (openingOf text places) ≡ 11
+        open-11 k = ap outcomeNumber rest ∙ rw (lt-leb (countIn text) places (omega (arith, count-feeds text e)))
 
-        pub open-0 : feeds text - 1 ≤ places → refusalNumber (openingOf text places) ≡ 0
-        open-0 k = ap refusalNumber rest ∙ rw (le-leb (countIn text) places (omega (arith, count-feeds text e)))
+        pub open-0 : feeds text - 1 ≤ places → outcomeNumber (openingOf text places) ≡ 0
+        open-0 k = ap outcomeNumber rest ∙ rw (le-leb (countIn text) places (omega (arith, count-feeds text e)))
 
-module _ (text : List ℕ) (places k : ℕ) (e : k ≡ refusalNumber (openingOf text places)) where
+module _ (text : List ℕ) (places k : ℕ) (e : k ≡ outcomeNumber (openingOf text places)) where
   opening-is : openingOf text places ≡ asOutcome 0 k 0 (pos 0)
   opening-is = opening-outside text places ∙ ap (λ (x : ℕ). asOutcome 0 x 0 (pos 0)) (sym e)
 
-  pub opening-fine : k ≡ 0 → openingOf text places ≡ passed
+  pub opening-fine : k ≡ 0 → openingOf text places ≡ inOrder
   opening-fine h = opening-is ∙ as-fine 0 k 0 (pos 0) h
 
-pub refused-opening : (text v s : List ℕ) (k : ℕ) → k ≡ refusalNumber (openingOf text (length s)) → (k ≡ 0 → ⊥)
+pub refused-opening : (text v s : List ℕ) (k : ℕ) → k ≡ outcomeNumber (openingOf text (length s)) → (k ≡ 0 → ⊥)
     → (s′ : List ℕ) (r : Listed) → r ≡ listedAs (refused k 0 0 (pos 0)) 0 0 → s′ ≡ replicate (length s) 0 → Translated text v s v s′ r
 refused-opening text v s k e h s′ r f g =
     turned-away text v s k 0 0 (pos 0)
@@ -100,21 +100,21 @@ refused-opening text v s k e h s′ r f g =
 
 -- ---- the closing
 module _ (start words room : ℕ) where
-  pub close-9 : 2 ^ 32 < start + 2 * words → refusalNumber (closingOf start words room) ≡ 9
+  pub close-9 : 2 ^ 32 < start + 2 * words → outcomeNumber (closingOf start words room) ≡ 9
   close-9 h = rw (lt-leb (start + 2 * words) (2 ^ 32) h)
 
-  pub close-11 : start + 2 * words ≤ 2 ^ 32 → room < words → refusalNumber (closingOf start words room) ≡ 11
+  pub close-11 : start + 2 * words ≤ 2 ^ 32 → room < words → outcomeNumber (closingOf start words room) ≡ 11
   close-11 h g = rw (le-leb (start + 2 * words) (2 ^ 32) h, lt-leb words room g)
 
-  pub close-0 : start + 2 * words ≤ 2 ^ 32 → words ≤ room → refusalNumber (closingOf start words room) ≡ 0
+  pub close-0 : start + 2 * words ≤ 2 ^ 32 → words ≤ room → outcomeNumber (closingOf start words room) ≡ 0
   close-0 h g = rw (le-leb (start + 2 * words) (2 ^ 32) h, le-leb words room g)
 
 -- ---- what a pass says
 pub as-passed : (v : Outcome) → Sound v → (w : ℕ) (r : Passed) → r ≡ passedOf v w → v ≡ asOutcome (r .line) (r .number) (r .detail) (r .value)
-as-passed passed s w r e = rw e
+as-passed inOrder s w r e = rw e
 as-passed (refused number line detail value) s w r e = rw (e, ne-eqb number 0 s)
 
-pub passed-words : (v : Outcome) (w : ℕ) (r : Passed) → r ≡ passedOf v w → v ≡ passed → r .words ≡ w
+pub passed-words : (v : Outcome) (w : ℕ) (r : Passed) → r ≡ passedOf v w → v ≡ inOrder → r .words ≡ w
 passed-words v w r e f = rw (e, f)
 
 -- ---- the lines at their addresses
@@ -149,16 +149,16 @@ module _ {text : List ℕ} {from lines words : ℕ} {v s : List ℕ} (z : SizedS
         (z .verdict ∙ ranged ∙ as-refused (p .line) (p .number) (p .detail) (p .value) h) s′ r f g
 
     module _ (h : p .number ≡ 0) where
-      is-fine : outcomeOf text (length s) (length v) ≡ passed
+      is-fine : outcomeOf text (length s) (length v) ≡ inOrder
       is-fine = z .verdict ∙ ranged ∙ as-fine (p .line) (p .number) (p .detail) (p .value) h
 
       pub image-fits : length (imageAt (take lines s) (linesAt text from)) ≤ length v
       image-fits =
           omega (arith, ap length image-is, image-counts text (length s) (length v) is-fine, accepted text (length s) (length v) is-fine .image)
 
-      pub laid : (v′ : List ℕ) → v′ ≡ over (imageAt (take lines s) (linesAt text from)) v → Translated text v s v′ s (listedAs passed lines words)
+      pub laid : (v′ : List ℕ) → v′ ≡ over (imageAt (take lines s) (linesAt text from)) v → Translated text v s v′ s (listedAs inOrder lines words)
       laid v′ f =
-          by-verdict text v s passed is-fine v′ s (listedAs passed lines words) (rw (z .counted, z .needed))
+          by-verdict text v s inOrder is-fine v′ s (listedAs inOrder lines words) (rw (z .counted, z .needed))
           (f ∙ ap (λ (ws : List ℕ). over ws v) image-is) (sym (over-same lines (addressesIn text) s (z .addresses) (z .places)))
 
 -- ---- the lines of a sheet whose opening is in order
@@ -166,7 +166,7 @@ start-address : (t : Start) → startAt t .address ≡ startNumber t
 start-address (at n) = refl
 start-address notInForm = refl
 
-module _ (text v s : List ℕ) (o : openingOf text (length s) ≡ passed) (n : ℕ) (en : n ≡ feeds text) where
+module _ (text v s : List ℕ) (o : openingOf text (length s) ≡ inOrder) (n : ℕ) (en : n ≡ feeds text) where
   begun : Opened text (length s)
   begun = opened text (length s) o
 
@@ -193,8 +193,8 @@ module _ (text v s : List ℕ) (o : openingOf text (length s) ≡ passed) (n : �
       module _ (p : Passed) (s₁ : List ℕ)
           (ep : p ≡ passedOf (sizesOutcome (n - 1) 1 (linesAt text from)) (total (n - 1) (linesAt text from)))
           (es : s₁ ≡ over (filledOf (n - 1) (t .address) (linesAt text from)) s) where
-        passed : p ≡ passedOf (sizesIn text) (needIn text)
-        passed = ep ∙ rw (counted, begin)
+        pass-is : p ≡ passedOf (sizesIn text) (needIn text)
+        pass-is = ep ∙ rw (counted, begin)
 
         filled : s₁ ≡ over (filledOf (countIn text) (startIn text) (linesIn text)) s
         filled = es ∙ rw (counted, begin, start-is)
@@ -205,7 +205,7 @@ module _ (text v s : List ℕ) (o : openingOf text (length s) ≡ passed) (n : �
             ∙ over-length (filledOf (countIn text) (startIn text) (linesIn text)) s (omega (arith, filled-length (countIn text) (startIn text) (linesIn text), begun .scratch))
 
         measured : sizesIn text ≡ asOutcome (p .line) (p .number) (p .detail) (p .value)
-        measured = as-passed (sizesIn text) (sizes-sound (countIn text) 1 (linesIn text)) (needIn text) p passed
+        measured = as-passed (sizesIn text) (sizes-sound (countIn text) 1 (linesIn text)) (needIn text) p pass-is
 
         after : (w : Outcome) → sizesIn text ≡ w
             → outcomeOf text (length s) (length v) ≡ andThen w (andThen (closingOf (startIn text) (needIn text) (length v)) (rangesIn text))
@@ -224,26 +224,26 @@ module _ (text v s : List ℕ) (o : openingOf text (length s) ≡ passed) (n : �
             (after (refused (p .number) (p .line) (p .detail) (p .value)) (measured ∙ as-refused (p .line) (p .number) (p .detail) (p .value) h)) s′ r f (zeroed s′ g)
 
         module _ (h : p .number ≡ 0) where
-          sizes-fine : sizesIn text ≡ passed
+          sizes-fine : sizesIn text ≡ inOrder
           sizes-fine = measured ∙ as-fine (p .line) (p .number) (p .detail) (p .value) h
 
           needed : p .words ≡ needIn text
-          needed = passed-words (sizesIn text) (needIn text) p passed sizes-fine
+          needed = passed-words (sizesIn text) (needIn text) p pass-is sizes-fine
 
           pub words-most : p .words ≤ 45056
           words-most = omega (arith, needed, total-most (countIn text) (linesIn text), few, counted)
 
-          module _ (k : ℕ) (ek : k ≡ refusalNumber (closingOf (t .address) (p .words) (length v))) where
+          module _ (k : ℕ) (ek : k ≡ outcomeNumber (closingOf (t .address) (p .words) (length v))) where
             ended : closingOf (startIn text) (needIn text) (length v) ≡ asOutcome 0 k 0 (pos 0)
             ended =
-                let q : k ≡ refusalNumber (closingOf (startIn text) (needIn text) (length v)) = ek ∙ rw (start-is, needed) in
+                let q : k ≡ outcomeNumber (closingOf (startIn text) (needIn text) (length v)) = ek ∙ rw (start-is, needed) in
                 closing-outside (startIn text) (needIn text) (length v) ∙ ap (λ (x : ℕ). asOutcome 0 x 0 (pos 0)) (sym q)
 
             pub refused-end : (k ≡ 0 → ⊥) → (s′ : List ℕ) (r : Listed) → r ≡ listedAs (refused k 0 0 (pos 0)) 0 0
                 → s′ ≡ replicate (length s₁) 0 → Translated text v s v s′ r
             refused-end m s′ r f g =
                 turned-away text v s k 0 0 (pos 0)
-                (after passed sizes-fine ∙ ap (λ (x : Outcome). andThen x (rangesIn text)) (ended ∙ as-refused 0 k 0 (pos 0) m)) s′ r f (zeroed s′ g)
+                (after inOrder sizes-fine ∙ ap (λ (x : Outcome). andThen x (rangesIn text)) (ended ∙ as-refused 0 k 0 (pos 0) m)) s′ r f (zeroed s′ g)
 
             module _ (m : k ≡ 0) where
               close : Closed (startIn text) (needIn text) (length v)
@@ -263,7 +263,7 @@ module _ (text v s : List ℕ) (o : openingOf text (length s) ≡ passed) (n : �
                     needed = needed;
                     places = omega (arith, kept, counted, begun .scratch);
                     addresses = rw addressed (over-take (addressesIn text) s (n - 1) (addresses-length (countIn text) (startIn text) (linesIn text) ∙ sym counted));
-                    verdict = ap (λ (x : ℕ). outcomeOf text x (length v)) kept ∙ after passed sizes-fine
+                    verdict = ap (λ (x : ℕ). outcomeOf text x (length v)) kept ∙ after inOrder sizes-fine
                         ∙ ap (λ (x : Outcome). andThen x (rangesIn text)) (ended ∙ as-fine 0 k 0 (pos 0) m);
                   }
 

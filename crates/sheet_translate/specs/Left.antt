@@ -6,7 +6,7 @@ use native.Mathlib.Omega.{arith}
 use lib.ListN.{length, take, drop, getD, List·getD-append}
 use Rattle.sheet_spec.specs.declared.Listed.{Listed}
 use Rattle.sheet_spec.specs.Sheet.{linesIn}
-use Rattle.sheet_spec.specs.Translate.{Outcome, passed, refused, startIn, countIn, addressesIn, needIn, imageIn, over, outcomeOf, listedAs, listedOf, imageAs, imageOf, scratchAs, scratchOf}
+use Rattle.sheet_spec.specs.Translate.{Outcome, inOrder, refused, startIn, countIn, addressesIn, needIn, imageIn, over, outcomeOf, listedAs, listedOf, imageAs, imageOf, scratchAs, scratchOf}
 use Rattle.sheet_spec.specs.Follow.{addressOf}
 use Rattle.sheet_size_laws.specs.Image.{address-is}
 use Rattle.sheet_size_laws.specs.Counted.{image-counts}
@@ -15,17 +15,17 @@ use Rattle.sheet_translate.specs.OutcomeLaws.{Sound, verdict-sound}
 use Rattle.sheet_translate.specs.PlaceLaws.{over-take, addresses-length}
 
 -- ---- an answer with no number is an accepted sheet's
-listed-fine : (w : Outcome) → Sound w → (lines words : ℕ) → listedAs w lines words .number ≡ 0 → w ≡ passed
-listed-fine passed s lines words e = refl
+listed-fine : (w : Outcome) → Sound w → (lines words : ℕ) → listedAs w lines words .number ≡ 0 → w ≡ inOrder
+listed-fine inOrder s lines words e = refl
 listed-fine (refused number line detail value) s lines words e = absurd (s e)
 
-number-fine : (text : List ℕ) (places room : ℕ) (r : Listed) → r ≡ listedOf text places room → r .number ≡ 0 → outcomeOf text places room ≡ passed
+number-fine : (text : List ℕ) (places room : ℕ) (r : Listed) → r ≡ listedOf text places room → r .number ≡ 0 → outcomeOf text places room ≡ inOrder
 unfolding listedOf
 number-fine text places room r e h =
     listed-fine (outcomeOf text places room) (verdict-sound text places room) (countIn text) (needIn text) (ap (λ (x : Listed). x .number) (sym e) ∙ h)
 
 pub record Left (text v s v′ s′ : List ℕ) (r : Listed) : Type 0 where
-  pub accepts : outcomeOf text (length s) (length v) ≡ passed
+  pub accepts : outcomeOf text (length s) (length v) ≡ inOrder
   pub lines : r .lines ≡ countIn text
   pub counted : r .words ≡ needIn text
   pub image : v′ ≡ over (imageIn text) v
@@ -43,7 +43,7 @@ pub left : (text v s v′ s′ : List ℕ) (r : Listed) → Translated text v s 
 unfolding listedOf imageOf scratchOf
 left text v s v′ s′ r t h =
     let e = number-fine text (length s) (length v) r (t .listed) h in
-    let answer : r ≡ listedAs passed (countIn text) (needIn text) = t .listed ∙ ap (λ (w : Outcome). listedAs w (countIn text) (needIn text)) e in
+    let answer : r ≡ listedAs inOrder (countIn text) (needIn text) = t .listed ∙ ap (λ (w : Outcome). listedAs w (countIn text) (needIn text)) e in
     let counted : r .words ≡ needIn text = ap (λ (x : Listed). x .words) answer in
     let image : v′ ≡ over (imageIn text) v = t .image ∙ ap (λ (w : Outcome). imageAs w (imageIn text) v) e in
     let scratch : s′ ≡ over (addressesIn text) s = t .scratch ∙ ap (λ (w : Outcome). scratchAs w (addressesIn text) s) e in

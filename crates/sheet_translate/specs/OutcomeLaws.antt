@@ -1,4 +1,4 @@
--- Laws of verdicts: no refusal has the number 0, and a refusal is known by its number.
+-- Laws of outcomes: no refusal has the number 0, and a refusal is known by its number.
 use Prim.Native.Nat.{ℕ, suc, _+_, _*_, _%_, _^_}
 use mathlib.Core.Path.{_≡_, refl}
 use mathlib.Core.Bool.{Bool, true, false, cond}
@@ -8,14 +8,14 @@ use lib.Dec.{eqb, leb}
 use lib.IntN.{ℤ}
 use borrow.Author.Tests.{eqb-false}
 use Rattle.sheet_spec.specs.Sheet.{isSheet, startLine, linesIn, Start, at, notInForm, startOf, sizedOf, counted, lineEncoded}
-use Rattle.sheet_spec.specs.Translate.{Outcome, passed, refused, andThen, require, startOutcome, asOutcome, sizesOutcome, rangesOutcome, startIn, countIn, addressesIn, needIn, outcomeOf}
+use Rattle.sheet_spec.specs.Translate.{Outcome, inOrder, refused, andThen, require, startOutcome, asOutcome, sizesOutcome, rangesOutcome, startIn, countIn, addressesIn, needIn, outcomeOf}
 
 abbrev pub Sound : Outcome → Type 0
-Sound passed = Unit {0}
+Sound inOrder = Unit {0}
 Sound (refused number line detail value) = number ≡ 0 → ⊥
 
 or-sound : (u v : Outcome) → Sound u → Sound v → Sound (andThen u v)
-or-sound passed v a b = b
+or-sound inOrder v a b = b
 or-sound (refused number line detail value) v a b = a
 
 unless-sound : (b : Bool) (k : ℕ) → (k ≡ 0 → ⊥) → Sound (require b k)
@@ -29,7 +29,7 @@ opening-sound notInForm = λ e. omega arith
 line-sound : (k number detail : ℕ) (value : ℤ) → Sound (asOutcome k number detail value)
 line-sound k number detail value = go (eqb number 0) refl
   where
-    go : (t : Bool) → eqb number 0 ≡ t → Sound (cond t passed (refused number k detail value))
+    go : (t : Bool) → eqb number 0 ≡ t → Sound (cond t inOrder (refused number k detail value))
     go true e = tt
     go false e = eqb-false number 0 e
 

@@ -9,7 +9,7 @@ use lib.ListN.{length, take, drop, getD, replicate, length-replicate}
 use lib.Seq.{drop-append-seam, take-at, drop-at}
 use Rattle.sheet_spec.specs.declared.Listed.{Listed}
 use Rattle.sheet_spec.specs.Sheet.{linesIn, sizedOf, counted, addressesFrom}
-use Rattle.sheet_spec.specs.Translate.{Outcome, passed, refused, startIn, countIn, addressesIn, needIn, imageIn, over, outcomeOf, listedAs, listedOf, imageAs, imageOf, scratchAs, scratchOf}
+use Rattle.sheet_spec.specs.Translate.{Outcome, inOrder, refused, startIn, countIn, addressesIn, needIn, imageIn, over, outcomeOf, listedAs, listedOf, imageAs, imageOf, scratchAs, scratchOf}
 use Rattle.sheet_token_laws.specs.Listing.{over-length}
 use Rattle.sheet_size_laws.specs.Outcomes.{accepted}
 use Rattle.sheet_size_laws.specs.Counted.{image-counts}
@@ -56,7 +56,7 @@ unfolding scratchOf
 scratch-length text s v = go (outcomeOf text (length s) (length v)) refl
   where
     go : (w : Outcome) → outcomeOf text (length s) (length v) ≡ w → length (scratchAs w (addressesIn text) s) ≡ length s
-    go passed e =
+    go inOrder e =
         over-length (addressesIn text) s (omega (arith, addresses-length (countIn text) (startIn text) (linesIn text), accepted text (length s) (length v) e .scratch))
     go (refused number line detail value) e = length-replicate (length s) 0
 
@@ -65,7 +65,7 @@ unfolding imageOf
 image-length text s v = go (outcomeOf text (length s) (length v)) refl
   where
     go : (w : Outcome) → outcomeOf text (length s) (length v) ≡ w → length (imageAs w (imageIn text) v) ≡ length v
-    go passed e =
+    go inOrder e =
         over-length (imageIn text) v (omega (arith, image-counts text (length s) (length v) e, accepted text (length s) (length v) e .image))
     go (refused number line detail value) e = refl
 
@@ -75,7 +75,7 @@ unfolding listedOf
 words-fit text places room = go (outcomeOf text places room) refl
   where
     go : (w : Outcome) → outcomeOf text places room ≡ w → listedAs w (countIn text) (needIn text) .words ≤ room
-    go passed e = accepted text places room e .image
+    go inOrder e = accepted text places room e .image
     go (refused number line detail value) e = omega arith
 
 -- a scratch that holds the addresses already is left as the one before would be
@@ -91,5 +91,5 @@ from-over text v s v′ s′ r h t =
     }
   where
     go : (w : Outcome) → scratchAs w (addressesIn text) (over (addressesIn text) s) ≡ scratchAs w (addressesIn text) s
-    go passed = over-over (addressesIn text) s
+    go inOrder = over-over (addressesIn text) s
     go (refused number line detail value) = ap (λ (k : ℕ). replicate k 0) (over-length (addressesIn text) s h)

@@ -10,18 +10,18 @@ use lib.ListN.{length, replicate}
 use borrow.Author.Tests.{ne-eqb, leb-true}
 use Rattle.sheet_spec.specs.declared.Listed.{Listed}
 use Rattle.sheet_spec.specs.Sheet.{isSheet, startLine, Start, at, notInForm, startOf}
-use Rattle.sheet_spec.specs.Translate.{Outcome, passed, refused, andThen, require, startOutcome, asOutcome, startIn, countIn, needIn, addressesIn, imageIn, outcomeOf, listedAs, listedOf, imageAs, imageOf, scratchAs, scratchOf}
+use Rattle.sheet_spec.specs.Translate.{Outcome, inOrder, refused, andThen, require, startOutcome, asOutcome, startIn, countIn, needIn, addressesIn, imageIn, outcomeOf, listedAs, listedOf, imageAs, imageOf, scratchAs, scratchOf}
 use Rattle.sheet_token_laws.specs.Listing.{both-fine, unless-true}
-use Rattle.sheet_translate.specs.Translated.{refusalNumber, openingOf, sizesIn, closingOf, rangesIn}
+use Rattle.sheet_translate.specs.Translated.{outcomeNumber, openingOf, sizesIn, closingOf, rangesIn}
 use Rattle.sheet_spec.specs.Promises.{Translated}
 
 or-three : (a b c d : Outcome) → andThen a (andThen b (andThen c d)) ≡ andThen (andThen a (andThen b c)) d
-or-three passed passed c d = refl
-or-three passed (refused number line detail value) c d = refl
+or-three inOrder inOrder c d = refl
+or-three inOrder (refused number line detail value) c d = refl
 or-three (refused number line detail value) b c d = refl
 
 or-two : (a b c : Outcome) → andThen a (andThen b c) ≡ andThen (andThen a b) c
-or-two passed b c = refl
+or-two inOrder b c = refl
 or-two (refused number line detail value) b c = refl
 
 pub stages : (text : List ℕ) (places room : ℕ)
@@ -34,10 +34,10 @@ stages text places room =
 
 -- ---- an opening or a closing is known by its number
 abbrev pub Outside : Outcome → Type 0
-Outside v = v ≡ asOutcome 0 (refusalNumber v) 0 (pos 0)
+Outside v = v ≡ asOutcome 0 (outcomeNumber v) 0 (pos 0)
 
 or-outside : (u v : Outcome) → Outside u → Outside v → Outside (andThen u v)
-or-outside passed v a b = b
+or-outside inOrder v a b = b
 or-outside (refused number line detail value) v a b = a
 
 unless-outside : (b : Bool) (k : ℕ) → (k ≡ 0 → ⊥) → Outside (require b k)
@@ -64,7 +64,7 @@ pub record Opened (text : List ℕ) (places : ℕ) : Type 0 where
   pub sheet : isSheet text ≡ true
   pub scratch : countIn text ≤ places
 
-pub opened : (text : List ℕ) (places : ℕ) → openingOf text places ≡ passed → Opened text places
+pub opened : (text : List ℕ) (places : ℕ) → openingOf text places ≡ inOrder → Opened text places
 opened text places e =
     let a = both-fine (require (isSheet text) 10) _ e in
     let b = both-fine (startOutcome (startOf (startLine text))) _ (a .1) in
@@ -77,7 +77,7 @@ pub record Closed (start words room : ℕ) : Type 0 where
   pub ends : start + 2 * words ≤ 2 ^ 32
   pub image : words ≤ room
 
-pub closed : (start words room : ℕ) → closingOf start words room ≡ passed → Closed start words room
+pub closed : (start words room : ℕ) → closingOf start words room ≡ inOrder → Closed start words room
 closed start words room e =
     let a = both-fine (require (leb (start + 2 * words) (2 ^ 32)) 9) _ e in
     record {
@@ -85,7 +85,7 @@ closed start words room e =
       image = leb-true words room (unless-true (leb words room) 11 (a .1));
     }
 
--- ---- what is returned and left, by the verdict
+-- ---- what is returned and left, by the outcome
 module _ (text v s : List ℕ) where
   pub by-verdict : (w : Outcome) → outcomeOf text (length s) (length v) ≡ w → (v′ s′ : List ℕ) (r : Listed)
       → r ≡ listedAs w (countIn text) (needIn text) → v′ ≡ imageAs w (imageIn text) v → s′ ≡ scratchAs w (addressesIn text) s

@@ -1,4 +1,4 @@
--- What `translate` returns and leaves, and 01's table in the stages that it goes through.
+-- 01's table in the stages that `translate` goes through.
 use mathlib.Core.Path.{_≡_}
 use mathlib.Core.List.{List}
 use Prim.Native.Nat.{ℕ, _+_, _*_, _^_, _≤_}
@@ -6,12 +6,12 @@ use lib.Dec.{leb}
 use lib.ListN.{length, take, drop}
 use Rattle.base_spec.specs.Lines.{linesOf}
 use Rattle.sheet_spec.specs.Sheet.{isSheet, startLine, linesIn, startOf}
-use Rattle.sheet_spec.specs.Translate.{Outcome, passed, refused, andThen, require, startOutcome, sizesOutcome, rangesOutcome, startIn, countIn, addressesIn, needIn, outcomeOf}
+use Rattle.sheet_spec.specs.Translate.{Outcome, inOrder, refused, andThen, require, startOutcome, sizesOutcome, rangesOutcome, startIn, countIn, addressesIn, needIn, outcomeOf}
 
 -- a refusal's number; 0 for none
-abbrev pub refusalNumber : Outcome → ℕ
-refusalNumber passed = 0
-refusalNumber (refused number line detail value) = number
+abbrev pub outcomeNumber : Outcome → ℕ
+outcomeNumber inOrder = 0
+outcomeNumber (refused number line detail value) = number
 
 -- before the lines: the sheet's 10, START's 7 and 9, the scratch's 11
 abbrev pub openingOf : List ℕ → ℕ → Outcome

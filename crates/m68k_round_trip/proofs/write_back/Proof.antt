@@ -4,7 +4,8 @@ use native.Mathlib.Omega.{arith}
 use denote.Ref.{now}
 use Rattle.read_spec.specs.declared.Reading.{Reading}
 use Rattle.read_spec.specs.Read.{readOf}
-use Rattle.m68k_round_trip.specs.RoundTrip.{words-all, writtenBack, written, writes-back}
+use Rattle.m68k_round_trip.specs.RoundTrip.{words-all, written, writes-back}
+use Rattle.read_spec.specs.RoundTrip.{writtenBack}
 use Rattle.m68k_round_trip.proofs.write_back.Statement.{statement}
 use Rattle.m68k_round_trip.proofs.write_back.Tie as tie
 

@@ -2,10 +2,10 @@ use mathlib.Core.Bool.{not}
 use native.Mathlib.Omega.{arith}
 use lib.Dec.{ltb}
 use borrow.Author.Tests.{ltb-true}
-use Rattle.sheet_token_laws.specs.Facts.{and-true}
 use borrow.Author.Needs.{needs}
 use Rattle.sheet_start.proofs.start_number.Statement.{statement}
 use Rattle.sheet_start.proofs.start_number.Tie as tie
+use Rattle.base_facts.specs.Tests.{and-true}
 
 cast-t9 : tie.Need-cast-t9
 cast-t9 c =

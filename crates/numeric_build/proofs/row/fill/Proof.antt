@@ -1,10 +1,10 @@
 use Prim.Native.Nat.{_≤_}
 use lib.ListN.{List·getD-eq-default}
-use Rattle.numeric_fields.proofs.Laws.{rest-le}
 use Rattle.numeric_build.specs.Row.{fillWith}
 use borrow.Author.Needs.{needs}
 use Rattle.numeric_build.proofs.row.fill.Statement.{statement}
 use Rattle.numeric_build.proofs.row.fill.Tie as tie
+use Rattle.base_facts.specs.Numbers.{rest-le}
 
 returns : tie.Need-returns
 unfolding fillWith

@@ -1,9 +1,9 @@
 use native.Mathlib.Omega.{arith}
 use mathlib.Core.Path.{_≡_}
 use borrow.Author.Needs.{needs}
-use Rattle.numeric_operations.proofs.Laws.{rest-le}
 use Rattle.numeric_shapes.proofs.made.instruction_of.Statement.{statement}
 use Rattle.numeric_shapes.proofs.made.instruction_of.Tie as tie
+use Rattle.base_facts.specs.Numbers.{rest-le}
 
 returns : tie.Need-returns
 returns c = rw (c .register-operation .ensures, c .before .match .keys1)

@@ -1,12 +1,12 @@
 use borrow.Author.Needs.{needs}
-use Rattle.m68k.proofs.encoded.Statement.{statement}
-use Rattle.m68k.proofs.encoded.Tie as tie
+use Rattle.m68k_encode.proofs.encoded.Statement.{statement}
+use Rattle.m68k_encode.proofs.encoded.Tie as tie
 use native.Mathlib.Omega.{arith}
 use mathlib.Core.Path.{_≡_}
 use Rattle.encode_spec.specs.Encode.{encodedAs, refusalOf, wordsOf}
 use Rattle.encode_spec.specs.Instruction.{partsOf}
 use Rattle.encode_state.specs.Laws.{view}
-use Rattle.m68k.specs.Laws.{few, count-most}
+use Rattle.m68k_encode.specs.Laws.{few, count-most}
 
 returns : tie.Need-returns
 returns c =

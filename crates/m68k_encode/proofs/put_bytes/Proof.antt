@@ -1,12 +1,12 @@
-use Rattle.m68k.proofs.put_bytes.Statement.{statement}
-use Rattle.m68k.proofs.put_bytes.Tie as tie
+use Rattle.m68k_encode.proofs.put_bytes.Statement.{statement}
+use Rattle.m68k_encode.proofs.put_bytes.Tie as tie
 use Prim.Native.Nat.{_≤_, _*_, _-_, _+_}
 use mathlib.Core.Path.{_≡_, refl}
 use mathlib.Core.List.{_++_}
 use native.Mathlib.Omega.{arith}
 use lib.ListN.{take, drop, length, length-set}
 use Rattle.encode_spec.specs.Encode.{bytesIn}
-use Rattle.m68k.proofs.Laws.{turn}
+use Rattle.m68k_encode.proofs.Laws.{turn}
 
 abbrev Inv-loop : tie.InvT-loop
 Inv-loop lent₀ count words k₀ lent k = (k ≤ count) × (length lent ≡ length lent₀) × (lent ≡ bytesIn (take k words) ++ drop (2 * k) lent₀)

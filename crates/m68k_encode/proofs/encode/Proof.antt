@@ -1,6 +1,6 @@
 use borrow.Author.Needs.{needs}
-use Rattle.m68k.proofs.encode.Statement.{statement}
-use Rattle.m68k.proofs.encode.Tie as tie
+use Rattle.m68k_encode.proofs.encode.Statement.{statement}
+use Rattle.m68k_encode.proofs.encode.Tie as tie
 use Rattle.encode_spec.specs.Encode.{encodeOf}
 
 returns : tie.Need-returns

@@ -12,12 +12,7 @@ use Rattle.read_spec.specs.Read.{readOf}
 use Rattle.read_laws.specs.Kept.{read-kept}
 use Rattle.print_spec.specs.Run.{isAddress, allWords, wordsIn, keptRun, noRun, runIn, runOf}
 use Rattle.read_runs.specs.RunLaws.{kept-words}
-use Rattle.print_spec.specs.ReadAnswer.{readingText, runText, readAnswerOf}
-
--- the fields of a line: an address, then words
-abbrev pub answerTo : List (List ℕ) → List ℕ
-answerTo [] = notInForm
-answerTo (f ∷ fs) = cond (isAddress (numberOf f) && allWords fs) (readingText (readOf (wordsIn fs) (magnitudeOf (numberOf f)))) notInForm
+use Rattle.print_spec.specs.ReadAnswer.{readingText, runText, readAnswerOf, answerTo}
 
 kept-address : (a : ℕ) (ws : List ℕ) → readOf (take 16 ws) (keptRun a ws .address) ≡ readOf ws a
 unfolding keptRun

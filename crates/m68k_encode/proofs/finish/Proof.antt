@@ -1,6 +1,6 @@
 use borrow.Author.Needs.{needs}
-use Rattle.m68k.proofs.finish.Statement.{statement}
-use Rattle.m68k.proofs.finish.Tie as tie
+use Rattle.m68k_encode.proofs.finish.Statement.{statement}
+use Rattle.m68k_encode.proofs.finish.Tie as tie
 use borrow.Author.Tests.{eq-eqb, ne-eqb}
 use Rattle.encode_state.specs.Laws.{finished}
 use mir.Facts.{toZ-ofZ}

@@ -1,0 +1,1 @@
+// Laws alone: what `read` prints for a line speaks of all its words.
