@@ -1,5 +1,5 @@
 -- A test with what it tells.
-use Prim.Native.Nat.{ℕ, _<_, _≤_, zero, suc, _+_, _*_, _/_, _%_}
+use Prim.Native.Nat.{ℕ, _<_, _≤_, zero, suc}
 use mathlib.Core.Path.{_≡_, refl, sym, _∙_, subst}
 use mathlib.Core.Bool.{Bool, true, false, _&&_, true≢false, false≢true, cond}
 use lib.Dec.{ltb, T, leb, eqb}
@@ -20,9 +20,6 @@ lt? a b = go (ltb a b) refl
 pub T-true : (b : Bool) → T b → b ≡ true
 T-true true t = refl
 T-true false t = absurd t
-
-pub true-T : (b : Bool) → b ≡ true → T b
-true-T b e = subst T (sym e) tt
 
 pub true-not-false : {C : Type 0} {b : Bool} → b ≡ true → b ≡ false → C
 true-not-false e f = absurd (true≢false (sym e ∙ f))
@@ -93,16 +90,6 @@ below f (suc n) t k h = go (below f n (and-true (f n) (all f n) t .1) k) (lt? k 
     go : (k < n → f k ≡ true) → Lt k n → f k ≡ true
     go ih (less l e) = ih l
     go ih (past l e) = let q : n ≡ k = omega arith in subst (λ (m : ℕ). f m ≡ true) q (and-true (f n) (all f n) t .0)
-
--- of all words
-abbrev pub everyWord : (ℕ → Bool) → Bool
-everyWord f = all (λ h. all (λ l. f (h * 64 + l)) 64) 1024
-
-pub at-word : (f : ℕ → Bool) → everyWord f ≡ true → (w : ℕ) → w < 65536 → f w ≡ true
-at-word f t w h =
-    let e : w / 64 * 64 + w % 64 ≡ w = omega arith in
-    let row : all (λ l. f (w / 64 * 64 + l)) 64 ≡ true = below (λ h. all (λ l. f (h * 64 + l)) 64) 1024 t (w / 64) (omega arith) in
-    subst (λ (n : ℕ). f n ≡ true) e (below (λ l. f (w / 64 * 64 + l)) 64 row (w % 64) (omega arith))
 
 pub and-false : (t : Bool) → t && false ≡ false
 and-false true = refl

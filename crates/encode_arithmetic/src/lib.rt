@@ -219,7 +219,7 @@ pub fn bounds(
         3,
         isa_operands::ea_field(bounds),
     );
-    let e2 = encode_state::register(e1, encode_state::number_in(register));
+    let e2 = encode_state::register(e1, encode_state::number_of_register(register));
     let e3 = encode_state::word(e2, encode_state::general(register) * 4096 + trap * 2048);
     encode_ea::effective(e3, bounds, size, isa_operands::CONTROL, 49)
 }

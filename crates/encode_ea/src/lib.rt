@@ -78,7 +78,7 @@ pub fn brief(e: Encoder, index: IndexRegister, z: i64, field: Field) -> Encoder
     let register = index.register;
     let size = index.size;
     let e1 = encode_state::fits(e, field, z);
-    let e2 = encode_state::register(e1, encode_state::number_in(register));
+    let e2 = encode_state::register(e1, encode_state::number_of_register(register));
     let e3 = index_size(e2, size);
     let upper = encode_state::general(register) * 4096 + encode_state::long_bit(size) * 2048;
     encode_state::word(e3, upper + base_signed::low8(z))
@@ -209,7 +209,7 @@ pub fn ea(e: Encoder, operand: Operand, size: Size) -> Encoder
 {
     match operand {
         Operand::Immediate(v) => immediate(e, v, size),
-        Operand::Register(r) => encode_state::register(e, encode_state::number_in(r)),
+        Operand::Register(r) => encode_state::register(e, encode_state::number_of_register(r)),
         Operand::Indirect(n) => encode_state::register(e, n),
         Operand::PostIndirect(n) => encode_state::register(e, n),
         Operand::PreIndirect(n) => encode_state::register(e, n),

@@ -100,6 +100,3 @@ placed-placed a m n = omega arith
 
 pub placed-lt : (a n : ℕ) → placed a n < 2 ^ 32
 placed-lt a n = omega arith
-
-pub placed-zero : (a : ℕ) → a < 2 ^ 32 → placed a 0 ≡ a
-placed-zero a h = omega arith

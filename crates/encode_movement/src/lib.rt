@@ -146,8 +146,8 @@ pub fn exg(e: Encoder, first: RegisterOperand, second: RegisterOperand) -> Encod
         encode_state::general(second),
     );
     let e2 = encode_state::allow(e1, !is_address(first) | is_address(second), 43);
-    let e3 = encode_state::register(e2, encode_state::number_in(first));
-    encode_state::register(e3, encode_state::number_in(second))
+    let e3 = encode_state::register(e2, encode_state::number_of_register(first));
+    encode_state::register(e3, encode_state::number_of_register(second))
 }
 
 // LINK with a word.

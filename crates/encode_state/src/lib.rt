@@ -14,7 +14,7 @@ pub use isa_values::code::is_byte;
 pub use isa_values::code::is_word;
 pub use isa_values::code::long_bit;
 pub use isa_values::code::move_size;
-pub use isa_values::code::number_in;
+pub use isa_values::code::number_of_register;
 pub use isa_values::code::register_bits;
 pub use isa_values::code::standard_size;
 pub use isa_values::code::to_memory;

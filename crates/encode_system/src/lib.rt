@@ -97,7 +97,7 @@ pub fn movec(e: Encoder, to_control: bool, control: u16, register: RegisterOpera
     ensures { λ r. ⌜ r ≡ runParts (movecParts «to_control» control register) e ⌝ }
 {
     let e1 = encode_state::operation(e, 4, 7, 1, 58 + encode_state::bit(to_control));
-    let e2 = encode_state::register(e1, encode_state::number_in(register));
+    let e2 = encode_state::register(e1, encode_state::number_of_register(register));
     encode_state::word(e2, encode_state::general(register) * 4096 + control % 4096)
 }
 
@@ -118,7 +118,7 @@ pub fn moves(
         encode_state::standard_size(size),
         isa_operands::ea_field(target),
     );
-    let e2 = encode_state::register(e1, encode_state::number_in(register));
+    let e2 = encode_state::register(e1, encode_state::number_of_register(register));
     let e3 = encode_state::word(
         e2,
         encode_state::general(register) * 4096 + encode_state::to_memory(direction) * 2048,
@@ -147,7 +147,7 @@ pub fn cas(e: Encoder, compare: u8, update: u8, target: Operand, size: Size) -> 
 fn cas2_word(e: Encoder, compare: u8, update: u8, pointer: RegisterOperand) -> Encoder
     ensures { λ r. ⌜ r ≡ run (cas2Items compare update pointer) e ⌝ }
 {
-    let e1 = encode_state::register(e, encode_state::number_in(pointer));
+    let e1 = encode_state::register(e, encode_state::number_of_register(pointer));
     let e2 = encode_state::register(e1, update);
     let e3 = encode_state::register(e2, compare);
     encode_state::word(

@@ -405,7 +405,7 @@ pub fn register_number(operand: Operand) -> u8
 {
     match operand {
         Operand::Immediate(_) => 0,
-        Operand::Register(r) => code::number_in(r),
+        Operand::Register(r) => code::number_of_register(r),
         Operand::Indirect(n) => n,
         Operand::PostIndirect(n) => n,
         Operand::PreIndirect(n) => n,

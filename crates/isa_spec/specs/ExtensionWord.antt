@@ -1,7 +1,7 @@
 -- Extension words (the manual, section 2.1, figure 2-2 and tables 2-1 and 2-2).
 -- Bits 15 to 12 name the index register, 11 its width, 10 and 9 its scale; bit 8 marks the full format.
 use Prim.Native.Nat.{ℕ, _/_, _%_}
-use mathlib.Core.Bool.{Bool, true, false, not, _&&_, _||_, cond}
+use mathlib.Core.Bool.{Bool, not, _&&_, _||_, cond}
 use lib.Dec.{ltb, leb, eqb}
 use Rattle.isa.specs.declared.DisplacementSize.{DisplacementSize}
 use Rattle.isa.specs.declared.DisplacementSize.the-variants as displacement

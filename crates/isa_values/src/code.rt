@@ -7,7 +7,7 @@ use isa::Size;
 use isa::TargetDirection;
 
 // The number of a register.
-pub fn number_in(r: RegisterOperand) -> u8
+pub fn number_of_register(r: RegisterOperand) -> u8
     ensures { λ x. ⌜ x ≡ numberOfRegister r ⌝ }
 {
     match r {
@@ -20,7 +20,7 @@ pub fn number_in(r: RegisterOperand) -> u8
 pub fn register_bits(r: RegisterOperand) -> u16
     ensures { λ x. ⌜ (x ≡ registerBits r) × (x < 8) ⌝ }
 {
-    (number_in(r) % 8) as u16
+    (number_of_register(r) % 8) as u16
 }
 
 // D/A and the three bits.

@@ -67,7 +67,7 @@ use Rattle.numeric_fields.specs.Operand.{operandAt}
 use Rattle.numeric_spec.specs.Entry.{Span}
 use Rattle.numeric_laws.specs.FieldLaws.{Exact, thence, Made, made, made-sound, made-whole, chosen, bit-field-exact, bit-field-operation-exact, branch-size-exact, byte-exact, condition-exact, flag-exact, long-exact, operand-exact, register-choice-exact, register-exact, shift-direction-exact, sign-exact, size-exact, target-direction-exact, trap-operand-exact, word-exact}
 use Rattle.numeric_build.proofs.Below.{below}
-use Rattle.numeric_shapes.specs.Shape.{Shape, shapes, intoRegister, movem, transfer, pair, quick, moveq, immediateInto, wordIntoData, swap, exg, unsizedIntoRegister, unsizedOne, unsizedPair, ext, oneOperand, bcc, scc, dbcc, branch, link, unlk, shift, vector, status, conditionCode, moveusp, raw, plain, rtd, movec, trapcc, mull, pack, cas, cas2, bf, divl}
+use Rattle.numeric_shapes.specs.Shape.{Shape, shapes, intoRegister, movem, transfer, pair, quick, moveq, immediateInto, wordIntoData, swap, exg, unsizedIntoRegister, unsizedOne, unsizedPair, ext, oneOperand, bcc, scc, dbcc, branch, link, unlk, shift, vector, status, conditionCode, moveusp, raw, noOperand, rtd, movec, trapcc, mull, pack, cas, cas2, bf, divl}
 use Rattle.numeric_build.specs.Row.{fillWith, nothing}
 use Rattle.numeric_build.specs.Build.{InstructionAt, shapeAt, shapeAtPlace, buildOf}
 use Rattle.numeric_spec.specs.Form.{placeOf, fieldsOf, formOf, registerOperationPlace, transferOperationPlace, pairOperationPlace, quickOperationPlace, immediateOperationPlace, wordOperationPlace, unsizedRegisterOperationPlace, unsizedOneOperationPlace, unsizedPairOperationPlace, oneOperationPlace, shiftOperationPlace, packOperationPlace, branchOperationPlace, linkOperationPlace, statusOperationPlace, conditionCodeOperationPlace, vectorOperationPlace, rawOperationPlace, noOperandOperationPlace}
@@ -341,7 +341,7 @@ shapePlace (status op) = statusOperationPlace op
 shapePlace (conditionCode op) = conditionCodeOperationPlace op
 shapePlace moveusp = 60
 shapePlace (raw op) = rawOperationPlace op
-shapePlace (plain op) = noOperandOperationPlace op
+shapePlace (noOperand op) = noOperandOperationPlace op
 shapePlace rtd = 83
 shapePlace movec = 85
 shapePlace trapcc = 89
@@ -381,7 +381,7 @@ shape-sound (status op) ns k h = (made-sound (status-made op ns k) h, refl)
 shape-sound (conditionCode op) ns k h = (made-sound (condition-code-made op ns k) h, refl)
 shape-sound moveusp ns k h = (made-sound (moveusp-made ns k) h, refl)
 shape-sound (raw op) ns k h = (made-sound (raw-made op ns k) h, refl)
-shape-sound (plain op) ns k h = (refl, refl)
+shape-sound (noOperand op) ns k h = (refl, refl)
 shape-sound rtd ns k h = (made-sound (rtd-made ns k) h, refl)
 shape-sound movec ns k h = (made-sound (movec-made ns k) h, refl)
 shape-sound trapcc ns k h = (made-sound (trapcc-made ns k) h, refl)
@@ -508,7 +508,7 @@ raw-operation-entry LINEA = refl
 raw-operation-entry LINEF = refl
 raw-operation-entry IllegalWord = refl
 
-no-operand-operation-entry : (op : NoOperandOperation) → getD shapes (noOperandOperationPlace op) (intoRegister ADDA) ≡ plain op
+no-operand-operation-entry : (op : NoOperandOperation) → getD shapes (noOperandOperationPlace op) (intoRegister ADDA) ≡ noOperand op
 no-operand-operation-entry RTE = refl
 no-operand-operation-entry RESET = refl
 no-operand-operation-entry RTR = refl

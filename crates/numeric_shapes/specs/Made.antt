@@ -4,7 +4,7 @@ use Rattle.isa.specs.declared.Instruction.{Instruction}
 use Rattle.isa.specs.declared.Instruction.the-variants.{IntoRegister, MOVEM, Transfer, Pair, Quick, MOVEQ, ImmediateInto, WordIntoData, SWAP, EXG, UnsizedIntoRegister, UnsizedOne, UnsizedPair, EXT, OneOperand, Bcc, Scc, DBcc, Branch, Link, UNLK, Shift, Vector, Status, ConditionCode, MOVEUSP, Raw, NoOperand, RTD, MOVEC, TRAPcc, MULL, Pack, CAS, CAS2, BF, DIVL}
 use Rattle.numeric_shapes.specs.declared.Slots.{Slots}
 use Rattle.numeric_operations.specs.Part.{targetDirectionOf, conditionOf, branchSizeOf, shiftDirectionOf, signOf, bitFieldOperationOf}
-use Rattle.numeric_shapes.specs.Shape.{Shape, intoRegister, movem, transfer, pair, quick, moveq, immediateInto, wordIntoData, swap, exg, unsizedIntoRegister, unsizedOne, unsizedPair, ext, oneOperand, bcc, scc, dbcc, branch, link, unlk, shift, vector, status, conditionCode, moveusp, raw, plain, rtd, movec, trapcc, mull, pack, cas, cas2, bf, divl}
+use Rattle.numeric_shapes.specs.Shape.{Shape, intoRegister, movem, transfer, pair, quick, moveq, immediateInto, wordIntoData, swap, exg, unsizedIntoRegister, unsizedOne, unsizedPair, ext, oneOperand, bcc, scc, dbcc, branch, link, unlk, shift, vector, status, conditionCode, moveusp, raw, noOperand, rtd, movec, trapcc, mull, pack, cas, cas2, bf, divl}
 
 abbrev pub instructionOf : Shape → Slots → Instruction
 instructionOf (intoRegister op) f = IntoRegister op (f .operands .last) (f .registers .last) (f .sizes .last)
@@ -34,7 +34,7 @@ instructionOf (status op) f = Status op (f .word)
 instructionOf (conditionCode op) f = ConditionCode op (f .bytes .last)
 instructionOf moveusp f = MOVEUSP (eqb (f .places .last) 1) (f .registers .last)
 instructionOf (raw op) f = Raw op (f .word)
-instructionOf (plain op) f = NoOperand op
+instructionOf (noOperand op) f = NoOperand op
 instructionOf rtd f = RTD (f .long)
 instructionOf movec f = MOVEC (eqb (f .places .last) 1) (f .word) (f .registers .last)
 instructionOf trapcc f = TRAPcc (conditionOf (f .places .last)) (f .options .trap)

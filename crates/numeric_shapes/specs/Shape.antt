@@ -67,7 +67,7 @@ pub data Shape : Type 0 where
   conditionCode : ConditionCodeOperation → Shape
   moveusp : Shape
   raw : RawOperation → Shape
-  plain : NoOperandOperation → Shape
+  noOperand : NoOperandOperation → Shape
   rtd : Shape
   movec : Shape
   trapcc : Shape
@@ -88,9 +88,9 @@ shapes =
     unsizedPair SBCD ∷ unsizedOne NBCD ∷ ext ∷ oneOperand TST ∷ intoRegister CMP ∷ bcc ∷ scc ∷ dbcc ∷ branch BRA ∷ link LINK ∷
     unlk ∷ oneOperand NOT ∷ pair OR ∷ pair AND ∷ pair EOR ∷ unsizedOne JSR ∷ shift ASd ∷ shift ROd ∷ shift LSd ∷ shift ROXd ∷
     unsizedPair BTST ∷ unsizedPair BCLR ∷ unsizedPair BSET ∷ unsizedPair BCHG ∷ unsizedOne JMP ∷ branch BSR ∷ vector TRAP ∷
-    plain RTE ∷ status STOP ∷ plain RESET ∷ moveusp ∷ raw LINEA ∷ raw LINEF ∷ transfer MOVEP ∷ unsizedOne MOVEtoCCR ∷
+    noOperand RTE ∷ status STOP ∷ noOperand RESET ∷ moveusp ∷ raw LINEA ∷ raw LINEF ∷ transfer MOVEP ∷ unsizedOne MOVEtoCCR ∷
     unsizedOne MOVEfromCCR ∷ unsizedOne MOVEtoSR ∷ unsizedOne MOVEfromSR ∷ conditionCode ANDItoCCR ∷ conditionCode ORItoCCR ∷
-    conditionCode EORItoCCR ∷ status ANDItoSR ∷ status ORItoSR ∷ status EORItoSR ∷ unsizedOne TAS ∷ plain RTR ∷
-    unsizedIntoRegister CHK ∷ plain TRAPV ∷ plain ILLEGAL ∷ raw IllegalWord ∷ plain RTS ∷ plain NOP ∷ plain SIMHALT ∷ rtd ∷
+    conditionCode EORItoCCR ∷ status ANDItoSR ∷ status ORItoSR ∷ status EORItoSR ∷ unsizedOne TAS ∷ noOperand RTR ∷
+    unsizedIntoRegister CHK ∷ noOperand TRAPV ∷ noOperand ILLEGAL ∷ raw IllegalWord ∷ noOperand RTS ∷ noOperand NOP ∷ noOperand SIMHALT ∷ rtd ∷
     vector BKPT ∷ movec ∷ transfer MOVES ∷ unsizedIntoRegister CHKL ∷ link LINKL ∷ trapcc ∷ mull ∷ pack PACK ∷ pack UNPK ∷
     intoRegister CHK2 ∷ intoRegister CMP2 ∷ cas ∷ cas2 ∷ bf ∷ divl ∷ []

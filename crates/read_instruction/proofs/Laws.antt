@@ -26,12 +26,12 @@ use Rattle.read_spec.specs.declared.Group.{Group}
 use Rattle.read_spec.specs.declared.Group.the-variants as group
 use Rattle.read_places.specs.Groups.{groups, groupNumber}
 use Rattle.read_spec.specs.Operation.{sizeAt}
-use Rattle.read_spec.specs.Decoded.{movepDecoded, dynamicDecoded, cmpmTo, cmpmDecoded, compareDecoded, decoded}
+use Rattle.read_spec.specs.Decoded.{movepDecoded, dynamicBitMovepDecoded, cmpmTo, cmpmDecoded, logicCompareDecoded, decoded}
 use Rattle.read_spec.specs.Tree.{Tree, ret, fail}
 use Rattle.read_layouts.proofs.Laws.{numbered}
 use Rattle.read_opcodes_0_3.specs.Parts.{movep, dynamicInstruction}
 use Rattle.read_opcodes_8_f.specs.Parts.{compareInstruction}
-use Rattle.read_instruction.specs.Forms.{movepTakes, cmpmTakes, forms}
+use Rattle.read_instruction.specs.Takes.{movepTakes, cmpmTakes, takes}
 
 -- an Extended operand is in neither mode
 extended-mode : (base : ℕ) → (eqb (cond (eqb base 8) 10 6) 5 ≡ false) × (eqb (cond (eqb base 8) 10 6) 3 ≡ false)
@@ -131,18 +131,18 @@ taken false u i j m e = refl
 abbrev tested : Bool → Instruction → Tree Instruction
 tested t i = cond t (ret i) fail
 
-dynamic-is : (x opmode ea : ℕ) (o : Operand) → dynamicDecoded x opmode ea o ≡ tested (movepTakes ea o) (dynamicInstruction x opmode ea o)
+dynamic-is : (x opmode ea : ℕ) (o : Operand) → dynamicBitMovepDecoded x opmode ea o ≡ tested (movepTakes ea o) (dynamicInstruction x opmode ea o)
 dynamic-is x opmode ea o = taken (eqb (ea / 8) 1) (eqb (modeOf o) 5) _ _ (movepDecoded x opmode o) (movep-is x opmode o)
 
-compare-is : (x opmode ea : ℕ) (o d : Operand) → compareDecoded x opmode ea o d ≡ tested (cmpmTakes ea o d) (compareInstruction x opmode ea o d)
+compare-is : (x opmode ea : ℕ) (o d : Operand) → logicCompareDecoded x opmode ea o d ≡ tested (cmpmTakes ea o d) (compareInstruction x opmode ea o d)
 compare-is x opmode ea o d =
     taken (eqb (ea / 8) 1) (eqb (modeOf o) 3 && eqb (modeOf d) 3) _ _ (cmpmDecoded (sizeAt (opmode - 4)) o d) (cmpm-is (sizeAt (opmode - 4)) d o)
 
-pub dynamic-forms : (x opmode ea : ℕ) (o : Operand) → movepTakes ea o ≡ true → dynamicDecoded x opmode ea o ≡ ret (dynamicInstruction x opmode ea o)
-dynamic-forms x opmode ea o h = dynamic-is x opmode ea o ∙ ap (λ t. tested t (dynamicInstruction x opmode ea o)) h
+pub dynamic-takes : (x opmode ea : ℕ) (o : Operand) → movepTakes ea o ≡ true → dynamicBitMovepDecoded x opmode ea o ≡ ret (dynamicInstruction x opmode ea o)
+dynamic-takes x opmode ea o h = dynamic-is x opmode ea o ∙ ap (λ t. tested t (dynamicInstruction x opmode ea o)) h
 
-pub compare-forms : (x opmode ea : ℕ) (o d : Operand) → cmpmTakes ea o d ≡ true → compareDecoded x opmode ea o d ≡ ret (compareInstruction x opmode ea o d)
-compare-forms x opmode ea o d h = compare-is x opmode ea o d ∙ ap (λ t. tested t (compareInstruction x opmode ea o d)) h
+pub compare-takes : (x opmode ea : ℕ) (o d : Operand) → cmpmTakes ea o d ≡ true → logicCompareDecoded x opmode ea o d ≡ ret (compareInstruction x opmode ea o d)
+compare-takes x opmode ea o d h = compare-is x opmode ea o d ∙ ap (λ t. tested t (compareInstruction x opmode ea o d)) h
 
 -- ---- groups by their numbers
 same-group : (s t : Group) → groupNumber s ≡ groupNumber t → s ≡ t
@@ -154,8 +154,8 @@ others =
     1 ∷ 2 ∷ 4 ∷ 5 ∷ 6 ∷ 7 ∷ 8 ∷ 9 ∷ 10 ∷ 11 ∷ 12 ∷ 13 ∷ 14 ∷ 15 ∷ 16 ∷ 17 ∷ 18 ∷ 19 ∷ 20 ∷ 21 ∷ 22 ∷ 23 ∷ 24 ∷ 25 ∷ 26 ∷ 28 ∷ 29 ∷ 30
     ∷ 31 ∷ 32 ∷ 33 ∷ 34 ∷ []
 
-pub others-form : (s : Group) (ea : ℕ) (o d : Operand) → OneOf others (tagOf the-type s) → true ≡ forms s ea o d
-others-form s ea o d k =
+pub others-take : (s : Group) (ea : ℕ) (o d : Operand) → OneOf others (tagOf the-type s) → true ≡ takes s ea o d
+others-take s ea o d k =
     rw (ne-eqb (groupNumber s) 0 (λ e. miss others 0 tt (is 0 e)), ne-eqb (groupNumber s) 3 (λ e. miss others 3 tt (is 3 e)), ne-eqb (groupNumber s) 27 (λ e. miss others 27 tt (is 27 e)))
   where
     is : (n : ℕ) → groupNumber s ≡ n → OneOf others n
@@ -188,8 +188,8 @@ abbrev lowTags : List ℕ
 lowTags =
     0 ∷ 1 ∷ 2 ∷ 3 ∷ 4 ∷ 5 ∷ 6 ∷ 7 ∷ 8 ∷ 9 ∷ 10 ∷ 11 ∷ 12 ∷ 13 ∷ 14 ∷ 15 ∷ 16 ∷ 17 ∷ 18 ∷ 19 ∷ 20 ∷ 21 ∷ 34 ∷ []
 
-pub beyond : (s : Group) (ea : ℕ) (o d : Operand) → OneOf (0 ∷ highTags) (tagOf the-type s) → forms s ea o d ≡ true → 21 < groupNumber s
-beyond s ea o d (inl e) h = absurd (false≢true (subst (λ (t : Group). forms t ea o d ≡ true) (lives-at enum s 0 e .1) h))
+pub beyond : (s : Group) (ea : ℕ) (o d : Operand) → OneOf (0 ∷ highTags) (tagOf the-type s) → takes s ea o d ≡ true → 21 < groupNumber s
+beyond s ea o d (inl e) h = absurd (false≢true (subst (λ (t : Group). takes t ea o d ≡ true) (lives-at enum s 0 e .1) h))
 beyond s ea o d (inr k) h = subst (λ (n : ℕ). 21 < n) (numbered s .2) (ltb→lt 21 (tagOf the-type s) (each (ltb 21) highTags (tagOf the-type s) tt k))
 
 -- of lines 8 to F and none of the others but LineF
@@ -204,7 +204,7 @@ module _ (a line x opmode ea v : ℕ) (o d : Operand) where
   abbrev Fails : Group → Type 0
   Fails s = decoded a s line x opmode ea v o d ≡ fail
 
-  pub forms-not : (s : Group) → forms s ea o d ≡ false → Fails s
+  pub forms-not : (s : Group) → takes s ea o d ≡ false → Fails s
   forms-not s = go (eqb (groupNumber s) 0) refl (eqb (groupNumber s) 3) refl (eqb (groupNumber s) 27) refl
     where
       go : (p : Bool) → eqb (groupNumber s) 0 ≡ p → (q : Bool) → eqb (groupNumber s) 3 ≡ q → (r : Bool) → eqb (groupNumber s) 27 ≡ r → cond p false (cond q (movepTakes ea o) (cond r (cmpmTakes ea o d) true)) ≡ false → Fails s

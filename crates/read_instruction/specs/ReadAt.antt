@@ -66,10 +66,10 @@ module _ {A : Type 0} (f : A → Tree Instruction) (a : ℕ) where
 
 -- ---- the fields, and the instruction that they form
 module _ (a : ℕ) (s : Group) (line x opmode ea : ℕ) where
-  abbrev formedOf : Tail → Tree Instruction
-  formedOf f = decoded a s line x opmode ea (f .value) (f .source) (f .destination)
+  abbrev decodedOf : Tail → Tree Instruction
+  decodedOf f = decoded a s line x opmode ea (f .value) (f .source) (f .destination)
 
-  within-read : (o : At Tail) (r : Reading) → Within o 13 → ReadsAs a s line x opmode ea (followed o) r → After formedOf a o r
+  within-read : (o : At Tail) (r : Reading) → Within o 13 → ReadsAs a s line x opmode ea (followed o) r → After decodedOf a o r
   within-read (found f n) r h g = let e : n % 16 ≡ n = omega arith in rw e at g
   within-read ended r h g = g
   within-read refused r h g = g
@@ -94,4 +94,4 @@ read-some a (w ∷ ws) r l h =
     let s = groupAt (w / 4096) (w / 512 % 8) (w / 64 % 8) in
     let t = tailTree (layoutOf s (w / 4096) (w / 512 % 8) (w / 64 % 8) (w % 64)) in
     let d : Within (runAt t a (w ∷ ws) 1) 13 = depth-within t 12 (tail-depth (layoutOf s (w / 4096) (w / 512 % 8) (w / 64 % 8) (w % 64))) a (w ∷ ws) 1 in
-    then-read (formedOf a s (w / 4096) (w / 512 % 8) (w / 64 % 8) (w % 64)) a t (w ∷ ws) 1 r (within-read a s (w / 4096) (w / 512 % 8) (w / 64 % 8) (w % 64) (runAt t a (w ∷ ws) 1) r d (rw (group-same w) at h))
+    then-read (decodedOf a s (w / 4096) (w / 512 % 8) (w / 64 % 8) (w % 64)) a t (w ∷ ws) 1 r (within-read a s (w / 4096) (w / 512 % 8) (w / 64 % 8) (w % 64) (runAt t a (w ∷ ws) 1) r d (rw (group-same w) at h))

@@ -7,7 +7,7 @@ use read_operands::Followed;
 use read_spec::Group;
 use read_spec::Reading;
 
-pub mod forming; // the instruction of a group and its fields
+pub mod decoding; // the instruction of a group and its fields
 
 // The instruction that an operation word and what was read behind it form.
 fn decoded(
@@ -26,7 +26,7 @@ fn decoded(
         Followed::Got(fields, at) => {
             let source = fields.source;
             let destination = fields.destination;
-            return forming::form(
+            return decoding::decode(
                 group,
                 address,
                 line,

@@ -28,7 +28,7 @@ use Rattle.read_spec.specs.declared.Group.the-variants as group
 use Rattle.read_spec.specs.declared.Specifier.the-variants as specifier
 use Rattle.read_spec.specs.declared.Tail.{Tail}
 use Rattle.read_spec.specs.Layout.{one, alone}
-use Rattle.read_spec.specs.Layouts.{immediateSpecifier, dynamicLayout, layoutOf}
+use Rattle.read_spec.specs.Layouts.{immediateSpecifier, dynamicBitMovepLayout, layoutOf}
 use Rattle.read_spec.specs.Tree.{ret, Tree, fail}
 use Rattle.read_spec.specs.Decoded.{wordOf, movepDecoded}
 use Rattle.read_spec.specs.Map.{groupAt, map}
@@ -55,7 +55,7 @@ use Rattle.read_spec.specs.Accepted.{Accepted}
 use Rattle.read_laws.specs.Tests.{Known, equal, yes, no, known, says, implies, among, each, facts-below, modes-say}
 use Rattle.read_laws.specs.MapLaws.{At, at-code, at-below, at-sizes, at-line, in-group, each-size, size-code}
 use Rattle.read_laws.specs.DecodedLaws.{Kind, displaced, post, other, kind?}
-use Rattle.read_laws.specs.Forms.{Passing, passing, passed, checked, fieldsOf, behind, one-there, Form, form-is, form-as, form-reads, form-encodes, decoded-as, word-as, alone-reads, alone-encodes, either-encodes, one-words}
+use Rattle.read_laws.specs.LayingLaws.{Passing, passing, passed, checked, tailOf, behind, one-there, Laying, form-is, form-as, laying-reads, laying-encodes, decoded-as, word-as, alone-reads, alone-encodes, either-encodes, one-words}
 use Rattle.read_laws.specs.Operands.{by-kind, data-bits, address-is}
 
 -- ---- an immediate before the destination
@@ -86,7 +86,7 @@ stands-immediate v Word h = h .0
 stands-immediate v Long h = h .0
 
 immediate-form : (a : ℕ) (op : ImmediateOperation) (v : ℕ) (o : Operand) (s : Size)
-    → Form a (ImmediateInto op v o s) 0 (immediateKind op) (sizeCode s) (immediateSpecifier s) s (immediateModes op) v o (v < suc (topOf s))
+    → Laying a (ImmediateInto op v o s) 0 (immediateKind op) (sizeCode s) (immediateSpecifier s) s (immediateModes op) v o (v < suc (topOf s))
 unfolding immediateParts
 immediate-form a op v o s =
     form-as
@@ -117,7 +117,7 @@ pub immediate-into-reads : (a : ℕ) (op : ImmediateOperation) (v : ℕ) (o : Op
     → Reads a (ImmediateInto op v o s)
 immediate-into-reads a op v o s (n, e, l) =
     let (c, d, t) = immediate-code op in
-    form-reads (immediate-form a op v o s) (t s) e n (λ h m.
+    laying-reads (immediate-form a op v o s) (t s) e n (λ h m.
     let q = not-sixty (eqb (immediateKind op) 6) (eaField o) (rw d m) in
     (rw (q, size-code s, d), immediate-stands v s h, rw (q, size-code s, c)))
 
@@ -219,7 +219,7 @@ immediate-into-sound a line x opmode ea hl hx ho he e f h p i r =
     word-as a j _ _ _ (omega arith) (alone-encodes a j _ (immediateSpecifier s) f g (to-status-encodes a x opmode v hx o t (g .1))))
     (λ q g.
     word-as a k _ _ _ (omega (arith, w))
-    (form-encodes ea f (immediate-form a (immediateAt x) v (f .source) s) (stands-immediate v s (g .1)) (rw m at g) p (λ n. n) refl (λ e. rw e)))
+    (laying-encodes ea f (immediate-form a (immediateAt x) v (f .source) s) (stands-immediate v s (g .1)) (rw m at g) p (λ n. n) refl (λ e. rw e)))
 
 -- ---- BTST BCHG BCLR BSET, by their number
 parts-are : (k : ℕ) → k < 4 → (o d : Operand) → unsizedPairParts (bitAt k) o d ≡ bitParts k o d
@@ -236,7 +236,7 @@ abbrev staticItems : ℕ → List Item
 staticItems v = range field.BitNumber (pos v) ∷ word (v % 256) ∷ []
 
 static-form : (a k : ℕ) → k < 4 → (v : ℕ) (d : Operand)
-    → Form a (UnsizedPair (bitAt k) (Immediate v) d) 0 4 k specifier.Byte Byte (staticModes k) v d (v < 256)
+    → Laying a (UnsizedPair (bitAt k) (Immediate v) d) 0 4 k specifier.Byte Byte (staticModes k) v d (v < 256)
 unfolding bitParts staticParts
 static-form a k h v d =
     let back : Passing (typed (Immediate v) ∷ staticItems v) → v < 256 = λ c. ltb-is v 256 (sym (bit-number-holds v) ∙ c .1 .0) in
@@ -248,11 +248,11 @@ static-form a k h v d =
 static-reads : (a k : ℕ) → k < 4 → (v : ℕ) (d : Operand) → Accepted a (UnsizedPair (bitAt k) (Immediate v) d) → Reads a (UnsizedPair (bitAt k) (Immediate v) d)
 unfolding groupAt map
 static-reads a k h v d (n, e, l) =
-    form-reads (static-form a k h v d) (at-below group.StaticBit 0 4 4 refl k h) e (n .1) (λ c m. (refl, (omega arith, eqb-is (v / 256) 0 (omega arith)), refl))
+    laying-reads (static-form a k h v d) (at-below group.StaticBit 0 4 4 refl k h) e (n .1) (λ c m. (refl, (omega arith, eqb-is (v / 256) 0 (omega arith)), refl))
 
 -- the bit number in a data register
 dynamic-form : (a k : ℕ) → k < 4 → (r : RegisterOperand) (d : Operand) (v : ℕ)
-    → Form a (UnsizedPair (bitAt k) (Register r) d) 0 (registerBits r) (4 + k) specifier.Nothing Byte (dynamicModes k) v d
+    → Laying a (UnsizedPair (bitAt k) (Register r) d) 0 (registerBits r) (4 + k) specifier.Nothing Byte (dynamicModes k) v d
     (Passing (typed (Register r) ∷ dataRegister r ∷ []))
 unfolding bitParts dynamicParts withData
 dynamic-form a k h r d v =
@@ -272,7 +272,7 @@ dynamic-reads : (a k : ℕ) → k < 4 → (r : RegisterOperand) (d : Operand) �
     → Reads a (UnsizedPair (bitAt k) (Register r) d)
 dynamic-reads a k h r d (n, e, l) =
     let z : 4 + k - 4 ≡ k = omega arith in
-    form-reads (dynamic-form a k h r d 0) (dynamic-at (registerBits r) (4 + k) (omega arith) (omega arith) (omega arith)) e (n .1) (λ c m.
+    laying-reads (dynamic-form a k h r d 0) (dynamic-at (registerBits r) (4 + k) (omega arith) (omega arith) (omega arith)) e (n .1) (λ c m.
     let q = not-address (eqb k 0) (eaField d) m in
     (rw (q, z), refl, rw (q, z, data-bits r (c .1 .0))))
 
@@ -293,7 +293,7 @@ static-bit-sound a line x opmode ea hl hx ho he e f h p i r =
     let v = f .value in
     let z = eqb-eq (v / 256) 0 (h .1 .1) in
     decoded-as a i (UnsizedPair (bitAt opmode) (Immediate v) (f .source)) _ _ _ r (omega arith)
-    (form-encodes ea f (static-form a opmode (ltb-is opmode 4 o) v (f .source)) (omega arith) h p (λ n. (tt, n)) refl (λ e. rw e))
+    (laying-encodes ea f (static-form a opmode (ltb-is opmode 4 o) v (f .source)) (omega arith) h p (λ n. (tt, n)) refl (λ e. rw e))
 
 -- ---- MOVEP: the opmode
 abbrev movepMode : TargetDirection → Size → ℕ
@@ -333,11 +333,11 @@ movep-at a direction s r z n d h e b =
     let ea = 8 + n in
     let g : eqb (ea / 8) 1 ≡ true = eqb-is (ea / 8) 1 (omega arith) in
     let k : 40 + ea % 8 ≡ 40 + n % 8 = omega arith in
-    let y : dynamicLayout (movepMode direction s) ea ≡ one specifier.Nothing Word (eaField o) 32 = rw (g, k) in
+    let y : dynamicBitMovepLayout (movepMode direction s) ea ≡ one specifier.Nothing Word (eaField o) 32 = rw (g, k) in
     let (hl, hx, ho, q) = dynamic-at (registerBits r) (movepMode direction s) (omega arith) (omega arith) m in
     let w : permitted 32 (40 + n % 8) ≡ true = facts-below 8 (λ n. yes (permitted 32 (40 + n)) ∷ []) refl (n % 8) (omega arith) .0 in
     let c = movep-encodes a direction s r z n d h e b in
-    reads group.DynamicBitMovep 0 (registerBits r) (movepMode direction s) ea (fieldsOf 0 o) hl hx ho (omega arith) q
+    reads group.DynamicBitMovep 0 (registerBits r) (movepMode direction s) ea (tailOf 0 o) hl hx ho (omega arith) q
     (rw y (one-there a specifier.Nothing Word 32 0 o w refl (passed (eaItems o Word (behind a specifier.Nothing 0)) (lt-number n h, (e, tt)), refl, tt, refl)))
     (rw (g, t, u, data-bits r d)) (rw y (c .2))
 
@@ -397,5 +397,5 @@ dynamic-bit-sound a line x opmode ea hl hx ho he e f h p i r = go (eq? (ea / 8) 
         let (l, (u, z)) = facts in
         let n = leb-is 4 opmode u in
         rw g (decoded-as a i (UnsizedPair (bitAt (opmode - 4)) (Register (Data x)) (f .source)) _ _ _ (rw g at r) (omega arith)
-        (form-encodes ea f (dynamic-form a (opmode - 4) (omega arith) (Data x) (f .source) (f .value)) (refl, (lt-number x hx, tt))
+        (laying-encodes ea f (dynamic-form a (opmode - 4) (omega arith) (Data x) (f .source) (f .value)) (refl, (lt-number x hx, tt))
         (rw g at h) p (λ n. (tt, n)) refl (λ e. rw e)))

@@ -123,57 +123,57 @@ cmpm-live s o d p q =
     rw (y, x) tt
 
 -- ---- what every group forms: an instruction, but where the layout of MOVEP or CMPM is not followed, or there is none
-data Forming (s : Group) : Type 0 where
-  always : ((a line x opmode ea v : ℕ) (o d : Operand) → Live (decoded a s line x opmode ea v o d)) → Forming s
-  unused : s ≡ group.Unused → Forming s
-  dynamic : s ≡ group.DynamicBitMovep → Forming s
-  compare : s ≡ group.LogicCompare → Forming s
+data Decoding (s : Group) : Type 0 where
+  always : ((a line x opmode ea v : ℕ) (o d : Operand) → Live (decoded a s line x opmode ea v o d)) → Decoding s
+  unused : s ≡ group.Unused → Decoding s
+  dynamic : s ≡ group.DynamicBitMovep → Decoding s
+  compare : s ≡ group.LogicCompare → Decoding s
 
-forming : (s : Group) → Forming s
-forming group.Unused = unused refl
-forming group.ImmediateInto = always (λ a line x opmode ea v o d. tt)
-forming group.StaticBit = always (λ a line x opmode ea v o d. tt)
-forming group.DynamicBitMovep = dynamic refl
-forming group.MOVES = always (λ a line x opmode ea v o d. tt)
-forming group.Bounds = always (λ a line x opmode ea v o d. tt)
-forming group.CAS = always (λ a line x opmode ea v o d. tt)
-forming group.MOVE = always (λ a line x opmode ea v o d. tt)
-forming group.OneOperand = always (λ a line x opmode ea v o d. tt)
-forming group.UnsizedOne = always (λ a line x opmode ea v o d. tt)
-forming group.NbcdLink = always (λ a line x opmode ea v o d. tt)
-forming group.PeaSwapBkpt = always (λ a line x opmode ea v o d. tt)
-forming group.MovemExt = always (λ a line x opmode ea v o d. tt)
-forming group.MULL = always (λ a line x opmode ea v o d. tt)
-forming group.DIVL = always (λ a line x opmode ea v o d. tt)
-forming group.System = always (λ a line x opmode ea v o d. tt)
-forming group.LeaExtb = always (λ a line x opmode ea v o d. tt)
-forming group.CHK = always (λ a line x opmode ea v o d. tt)
-forming group.Quick = always (λ a line x opmode ea v o d. tt)
-forming group.Conditional = always (λ a line x opmode ea v o d. tt)
-forming group.Branch = always (λ a line x opmode ea v o d. tt)
-forming group.MOVEQ = always (λ a line x opmode ea v o d. tt)
-forming group.IntoData = always (λ a line x opmode ea v o d. tt)
-forming group.ArithmeticExtended = always (λ a line x opmode ea v o d. tt)
-forming group.LogicDecimal = always (λ a line x opmode ea v o d. tt)
-forming group.LogicPack = always (λ a line x opmode ea v o d. tt)
-forming group.LogicExchange = always (λ a line x opmode ea v o d. tt)
-forming group.LogicCompare = compare refl
-forming group.WordIntoData = always (λ a line x opmode ea v o d. tt)
-forming group.IntoAddress = always (λ a line x opmode ea v o d. tt)
-forming group.ShiftRegister = always (λ a line x opmode ea v o d. tt)
-forming group.ShiftMemory = always (λ a line x opmode ea v o d. tt)
-forming group.BitField = always (λ a line x opmode ea v o d. tt)
-forming group.LineA = always (λ a line x opmode ea v o d. tt)
-forming group.LineF = always (λ a line x opmode ea v o d. tt)
+decoding : (s : Group) → Decoding s
+decoding group.Unused = unused refl
+decoding group.ImmediateInto = always (λ a line x opmode ea v o d. tt)
+decoding group.StaticBit = always (λ a line x opmode ea v o d. tt)
+decoding group.DynamicBitMovep = dynamic refl
+decoding group.MOVES = always (λ a line x opmode ea v o d. tt)
+decoding group.Bounds = always (λ a line x opmode ea v o d. tt)
+decoding group.CAS = always (λ a line x opmode ea v o d. tt)
+decoding group.MOVE = always (λ a line x opmode ea v o d. tt)
+decoding group.OneOperand = always (λ a line x opmode ea v o d. tt)
+decoding group.UnsizedOne = always (λ a line x opmode ea v o d. tt)
+decoding group.NbcdLink = always (λ a line x opmode ea v o d. tt)
+decoding group.PeaSwapBkpt = always (λ a line x opmode ea v o d. tt)
+decoding group.MovemExt = always (λ a line x opmode ea v o d. tt)
+decoding group.MULL = always (λ a line x opmode ea v o d. tt)
+decoding group.DIVL = always (λ a line x opmode ea v o d. tt)
+decoding group.System = always (λ a line x opmode ea v o d. tt)
+decoding group.LeaExtb = always (λ a line x opmode ea v o d. tt)
+decoding group.CHK = always (λ a line x opmode ea v o d. tt)
+decoding group.Quick = always (λ a line x opmode ea v o d. tt)
+decoding group.Conditional = always (λ a line x opmode ea v o d. tt)
+decoding group.Branch = always (λ a line x opmode ea v o d. tt)
+decoding group.MOVEQ = always (λ a line x opmode ea v o d. tt)
+decoding group.IntoData = always (λ a line x opmode ea v o d. tt)
+decoding group.ArithmeticExtended = always (λ a line x opmode ea v o d. tt)
+decoding group.LogicDecimal = always (λ a line x opmode ea v o d. tt)
+decoding group.LogicPack = always (λ a line x opmode ea v o d. tt)
+decoding group.LogicExchange = always (λ a line x opmode ea v o d. tt)
+decoding group.LogicCompare = compare refl
+decoding group.WordIntoData = always (λ a line x opmode ea v o d. tt)
+decoding group.IntoAddress = always (λ a line x opmode ea v o d. tt)
+decoding group.ShiftRegister = always (λ a line x opmode ea v o d. tt)
+decoding group.ShiftMemory = always (λ a line x opmode ea v o d. tt)
+decoding group.BitField = always (λ a line x opmode ea v o d. tt)
+decoding group.LineA = always (λ a line x opmode ea v o d. tt)
+decoding group.LineF = always (λ a line x opmode ea v o d. tt)
 
 flat-pick : (b : Bool) (t u : Tree Instruction) → Flat t → Flat u → Flat (cond b t u)
 flat-pick true t u p q = p
 flat-pick false t u p q = q
 
 pub decoded-flat : (a : ℕ) (s : Group) (line x opmode ea v : ℕ) (o d : Operand) → Flat (decoded a s line x opmode ea v o d)
-decoded-flat a s line x opmode ea v o d = go (forming s)
+decoded-flat a s line x opmode ea v o d = go (decoding s)
   where
-    go : Forming s → Flat (decoded a s line x opmode ea v o d)
+    go : Decoding s → Flat (decoded a s line x opmode ea v o d)
     go (always l) = live-flat (decoded a s line x opmode ea v o d) (l a line x opmode ea v o d)
     go (unused e) = rw e tt
     go (dynamic e) = rw e (flat-pick (eqb (ea / 8) 1) (movepDecoded x opmode o) _ (movep-flat x opmode o (kind? o)) tt)
@@ -185,12 +185,12 @@ live-pick false t u p q = q refl
 
 pub decoded-live : (a : ℕ) (s : Group) (line x opmode ea : ℕ) (f : Tail) → x < 8 → TailStands a (layoutOf s line x opmode ea) f
     → Live (decoded a s line x opmode ea (f .value) (f .source) (f .destination))
-decoded-live a s line x opmode ea f hx h = go (forming s)
+decoded-live a s line x opmode ea f hx h = go (decoding s)
   where
     mode : (m n : ℕ) → all (λ n. known (equal (modeAt (m + n)) (m / 8) ∷ [])) 8 ≡ true → n < 8 → modeAt (m + n) ≡ m / 8
     mode m n t l = facts-below 8 (λ n. equal (modeAt (m + n)) (m / 8) ∷ []) t n l .0
 
-    go : Forming s → Live (decoded a s line x opmode ea (f .value) (f .source) (f .destination))
+    go : Decoding s → Live (decoded a s line x opmode ea (f .value) (f .source) (f .destination))
     go (always l) = l a line x opmode ea (f .value) (f .source) (f .destination)
     go (unused e) = absurd (false≢true (rw e at h .0))
     go (dynamic e) =

@@ -52,7 +52,7 @@ use Rattle.read_laws.specs.Statements.{Reads, reads, Encodes, Sound}
 use Rattle.read_laws.specs.Tests.{equal, yes, no, among, each, facts-below, modes-say}
 use Rattle.read_laws.specs.MapLaws.{At, at-among, in-group, each-size, upper-size}
 use Rattle.read_laws.specs.DecodedLaws.{mode-is}
-use Rattle.read_laws.specs.Forms.{Passing, passing, passed, checked, missing, one-back, Form, form-reads, form-encodes, decoded-as, word-as, alone-reads, alone-encodes, either-encodes, form-behind}
+use Rattle.read_laws.specs.LayingLaws.{Passing, passing, passed, checked, missing, one-back, Laying, laying-reads, laying-encodes, decoded-as, word-as, alone-reads, alone-encodes, either-encodes, form-behind}
 use Rattle.read_laws.specs.Operands.{by-register, simple-is, data-bits}
 use Rattle.base_facts.specs.Tests.{Lt, lt?, true-not-false, ltb-true, ltb-not, and-true, true-and, ltb-is, leb-true, eqb-eq, leb-not, eqb-is}
 
@@ -70,7 +70,7 @@ from-is =
     (λ o e c. true-not-false (unless-reason (isRegister o) 3 (c .1 .0)) e)
 
 abbrev FromForm : ℕ → ℕ → ℕ → Operand → Operand → Size → PairOperation → ℕ → Type 0
-FromForm a v modes o d s op line = Form a (Pair op o d s) line (numberFrom o) (4 + sizeCode s) specifier.Nothing s modes v d (Passing (sourceChecks o))
+FromForm a v modes o d s op line = Laying a (Pair op o d s) line (numberFrom o) (4 + sizeCode s) specifier.Nothing s modes v d (Passing (sourceChecks o))
 
 -- to memory, of the four that have another form into a register
 abbrev memoryLines : List ℕ
@@ -112,7 +112,7 @@ Slot sh op line modes s =
 from-reads : (a : ℕ) (sh : Group) (op : PairOperation) (line modes : ℕ) (o d : Operand) (s : Size)
     → Slot sh op line modes s → FromForm a 0 modes o d s op line → Accepted a (Pair op o d s) → Reads a (Pair op o d s)
 from-reads a sh op line modes o d s (t, l, p) form (n, e, y) =
-    form-reads form (t (numberFrom o) (omega arith)) e (n .1) (λ c m. (
+    laying-reads form (t (numberFrom o) (omega arith)) e (n .1) (λ c m. (
       l (numberFrom o) (eaField d) m,
       refl,
       p a (numberFrom o) (eaField d) 0 (plainOperand d) missing m ∙ ap
@@ -125,7 +125,7 @@ from-encodes : (a x ea : ℕ) (op : PairOperation) (line modes : ℕ) (s : Size)
     → Encodes a (Pair op (dataOperand x) (f .source) s) (wordOf line x (4 + sizeCode s) ea ∷ tailWords a (one specifier.Nothing s ea modes) f)
 from-encodes a x ea op line modes s f hx form h p =
     let m : x % 8 ≡ x = omega arith in
-    rw m at (form-encodes ea f form (refl, (refl, (lt-number x hx, tt))) h p (λ n. (tt, n)) refl (λ e. rw e))
+    rw m at (laying-encodes ea f form (refl, (refl, (lt-number x hx, tt))) h p (λ n. (tt, n)) refl (λ e. rw e))
 
 -- beside another form, which a test says
 beside-encodes : (a line x ea : ℕ) (s : Size) (k : Specifier) (f : Tail) (i j : Instruction) (b : Bool) → among memoryLines line ≡ true → x < 8

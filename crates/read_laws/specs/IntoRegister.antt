@@ -38,7 +38,7 @@ use Rattle.read_laws.specs.Statements.{Reads, Sound}
 use Rattle.read_laws.specs.Tests.{equal, yes, among, each}
 use Rattle.read_laws.specs.MapLaws.{At, at-registers, at-among, in-group, each-size, size-code}
 use Rattle.encode_spec.specs.Encode.{itemsOf}
-use Rattle.read_laws.specs.Forms.{formItems, Passing, Form, form-is, form-as, form-byte, form-reads, form-encodes, decoded-as, form-behind, form-bare}
+use Rattle.read_laws.specs.LayingLaws.{formItems, Passing, Laying, form-is, form-as, form-byte, laying-reads, laying-encodes, decoded-as, form-behind, form-bare}
 use Rattle.read_laws.specs.Operands.{data-bits, address-bits}
 
 -- ---- ADDA SUBA CMPA, by their line; there is no byte
@@ -50,7 +50,7 @@ addressOpmode s = 3 + 4 * longBit s
 
 abbrev AddressForm : ℕ → Operand → RegisterOperand → Size → ℕ → ℕ → Type 0
 AddressForm a o r s v line =
-    Form a (IntoRegister (addressAt line) o r s) line (registerBits r) (addressOpmode s) specifier.Nothing s everyMode v o
+    Laying a (IntoRegister (addressAt line) o r s) line (registerBits r) (addressOpmode s) specifier.Nothing s everyMode v o
     (Passing (allow (not (isByte s)) 61 ∷ addressRegister r ∷ []))
 
 address-form : (a : ℕ) (o : Operand) (r : RegisterOperand) (s : Size) (v line : ℕ) → among addressLines line ≡ true → AddressForm a o r s v line
@@ -76,7 +76,7 @@ unfolding groupAt map
 into-address-reads line t a o r s (n, e, l) =
     let form = address-form a o r s 0 line t in
     let (k, z) = address-code s (unless-reason (not (isByte s)) 61 (form .back e .0 .0)) in
-    form-reads form (at-among group.IntoAddress addressLines (3 ∷ 7 ∷ []) refl line (addressOpmode s) (registerBits r) t k (omega arith)) e n
+    laying-reads form (at-among group.IntoAddress addressLines (3 ∷ 7 ∷ []) refl line (addressOpmode s) (registerBits r) t k (omega arith)) e n
     (λ c m. (rw z, refl, rw (z, address-bits r (c .1 .0))))
 
 pub adda-reads : (a : ℕ) (o : Operand) (r : RegisterOperand) (s : Size) → Accepted a (IntoRegister ADDA o r s) → Reads a (IntoRegister ADDA o r s)
@@ -95,7 +95,7 @@ into-address-sound a line x opmode ea hl hx ho he e f h p i r =
     ∷ []) refl line x opmode e in
     let s = sizeOf opmode in
     decoded-as a i (IntoRegister (addressAt line) (f .source) (Address x) s) _ _ _ r (omega (arith, k))
-    (form-encodes ea f (address-form a (f .source) (Address x) s (f .value) line t) (true-unless (not (isByte s)) (noEncoding 61) z, (lt-number x hx, tt))
+    (laying-encodes ea f (address-form a (f .source) (Address x) s (f .value) line t) (true-unless (not (isByte s)) (noEncoding 61) z, (lt-number x hx, tt))
     h p (λ n. n) refl (λ e. rw e))
 
 -- ---- DIVS DIVU MULS MULU of a word: the line, and bits 8 to 6
@@ -107,7 +107,7 @@ abbrev signOpmode : Sign → ℕ
 signOpmode sign = 3 + 4 * signedBit sign
 
 word-form : (a : ℕ) (op : WordOperation) (o : Operand) (r : RegisterOperand) (sign : Sign) (v : ℕ)
-    → Form a (WordIntoData op o r sign) (lineOf op) (registerBits r) (signOpmode sign) specifier.Nothing Word dataModes v o (Passing (dataRegister r ∷ []))
+    → Laying a (WordIntoData op o r sign) (lineOf op) (registerBits r) (signOpmode sign) specifier.Nothing Word dataModes v o (Passing (dataRegister r ∷ []))
 unfolding wordParts withData
 word-form a DIVx o r sign v = form-bare (dataRegister r ∷ []) 29 refl refl
 word-form a MULx o r sign v = form-bare (dataRegister r ∷ []) 28 refl refl
@@ -130,7 +130,7 @@ pub word-into-data-reads : (a : ℕ) (op : WordOperation) (o : Operand) (r : Reg
     → Accepted a (WordIntoData op o r sign) → Reads a (WordIntoData op o r sign)
 word-into-data-reads a op o r sign (n, e, l) =
     let (t, u, k) = word-code op sign in
-    form-reads (word-form a op o r sign 0) (k (registerBits r) (omega arith)) e n (λ c m. (refl, refl, rw (t, u, data-bits r (c .0))))
+    laying-reads (word-form a op o r sign 0) (k (registerBits r) (omega arith)) e n (λ c m. (refl, refl, rw (t, u, data-bits r (c .0))))
 
 pub word-into-data-sound : Sound group.WordIntoData
 unfolding map
@@ -138,7 +138,7 @@ word-into-data-sound a line x opmode ea hl hx ho he e f h p i r =
     let (w, u) = in-group group.WordIntoData (λ l x o. equal (wordOf (lineOf (operationAt l)) x (signOpmode (signAt (o / 4))) 0) (wordOf l x o 0) ∷ []) refl
     line x opmode e in
     decoded-as a i (WordIntoData (operationAt line) (f .source) (Data x) (signAt (opmode / 4))) _ _ _ r (omega (arith, w))
-    (form-encodes ea f (word-form a (operationAt line) (f .source) (Data x) (signAt (opmode / 4)) (f .value)) (lt-number x hx, tt)
+    (laying-encodes ea f (word-form a (operationAt line) (f .source) (Data x) (signAt (opmode / 4)) (f .value)) (lt-number x hx, tt)
     h p (λ n. n) refl (λ e. rw e))
 
 -- ---- <ea>,Dn of OR, SUB, CMP, AND and ADD, by their line
@@ -152,7 +152,7 @@ abbrev intoModes : ℕ → Size → ℕ
 intoModes line s = cond (eqb line 8 || eqb line 12) dataModes (readableModes s)
 
 abbrev IntoForm : ℕ → Operand → RegisterOperand → Size → ℕ → ℕ → ℕ → Type 0
-IntoForm a o r s v modes line = Form a (intoOf line o r s) line (registerBits r) (sizeCode s) specifier.Nothing s modes v o (dataVerdict r ≡ fine)
+IntoForm a o r s v modes line = Laying a (intoOf line o r s) line (registerBits r) (sizeCode s) specifier.Nothing s modes v o (dataVerdict r ≡ fine)
 
 -- what holds of each line
 abbrev Into : ℕ → Operand → RegisterOperand → Size → ℕ → ℕ → Type 0
@@ -199,7 +199,7 @@ unfolding groupAt map
 into-reads line t a o r s (n, e, l) =
     let c = into a o r s 0 line t in
     let k = each-size (λ s. among (0 ∷ 1 ∷ 2 ∷ []) (sizeCode s) ≡ true) refl refl refl s in
-    form-reads (c .0) (at-among group.IntoData lines (0 ∷ 1 ∷ 2 ∷ []) refl line (sizeCode s) (registerBits r) t k (omega arith)) e (c .1 n)
+    laying-reads (c .0) (at-among group.IntoData lines (0 ∷ 1 ∷ 2 ∷ []) refl line (sizeCode s) (registerBits r) t k (omega arith)) e (c .1 n)
     (λ d m. (rw (size-code s), refl, rw (size-code s, data-bits r d, c .4)))
 
 pub cmp-reads : (a : ℕ) (o : Operand) (r : RegisterOperand) (s : Size) → Accepted a (IntoRegister CMP o r s) → Reads a (IntoRegister CMP o r s)
@@ -212,4 +212,4 @@ into-data-sound a line x opmode ea hl hx ho he e f h p i r =
     let s = sizeAt opmode in
     let c = into a (f .source) (Data x) s (f .value) line t in
     decoded-as a i (intoOf line (f .source) (Data x) s) _ _ _ r (omega (arith, k))
-    (form-encodes ea f (c .0) (lt-number x hx) h p (c .2) (c .3) (λ e. c .4 ∙ ap (λ o. intoOf line o (Data x) s) e))
+    (laying-encodes ea f (c .0) (lt-number x hx) h p (c .2) (c .3) (λ e. c .4 ∙ ap (λ o. intoOf line o (Data x) s) e))

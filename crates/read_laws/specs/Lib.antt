@@ -2,7 +2,7 @@ pub mod Statements
 pub mod Tests
 pub mod MapLaws
 pub mod Operands
-pub mod Forms
+pub mod LayingLaws
 pub mod DecodedLaws
 pub mod WordLaws
 pub mod Bits

@@ -39,7 +39,7 @@ use Rattle.read_laws.specs.Statements.{Reads, reads, Encodes, Sound}
 use Rattle.read_spec.specs.Accepted.{Accepted}
 use Rattle.read_laws.specs.Tests.{equal, no, modes-say, not-true}
 use Rattle.read_laws.specs.MapLaws.{At, at-line, in-group, each-size}
-use Rattle.read_laws.specs.Forms.{Passing, passing-apart, passing-both, passing, passed, checked, Fitting, fitting, fitted, byte-modes, Form, form-reads, form-encodes, word-as, either-encodes, form-behind}
+use Rattle.read_laws.specs.LayingLaws.{Passing, passing-apart, passing-both, passing, passed, checked, Fitting, fitting, fitted, byte-modes, Laying, laying-reads, laying-encodes, word-as, either-encodes, form-behind}
 use Rattle.read_laws.specs.Operands.{address-bits}
 
 -- ---- the two operands of MOVE
@@ -158,7 +158,7 @@ move-reads a o d s h =
 
 -- ---- MOVEA
 movea-form : (a : ℕ) (o : Operand) (r : RegisterOperand) (s : Size) (v : ℕ)
-    → Form a (IntoRegister MOVEA o r s) (moveCode s) (registerBits r) 1 specifier.Nothing s everyMode v o
+    → Laying a (IntoRegister MOVEA o r s) (moveCode s) (registerBits r) 1 specifier.Nothing s everyMode v o
     (Passing (allow (not (isByte s)) 10 ∷ addressRegister r ∷ []))
 unfolding registerParts moveaParts withAddress
 movea-form a o r s v = form-behind [] (allow (not (isByte s)) 10 ∷ []) (addressRegister r ∷ []) 11 refl refl refl
@@ -166,7 +166,7 @@ movea-form a o r s v = form-behind [] (allow (not (isByte s)) 10 ∷ []) (addres
 pub movea-reads : (a : ℕ) (o : Operand) (r : RegisterOperand) (s : Size) → Accepted a (IntoRegister MOVEA o r s) → Reads a (IntoRegister MOVEA o r s)
 movea-reads a o r s (n, e, l) =
     let z = move-size s .0 in
-    form-reads (movea-form a o r s 0) (move-at s (registerBits r) 1 (omega arith) (omega arith)) e n (λ c m.
+    laying-reads (movea-form a o r s 0) (move-at s (registerBits r) 1 (omega arith) (omega arith)) e n (λ c m.
     let b = not-true (isByte s) (unless-reason (not (isByte s)) 10 (c .0)) in
     (rw (z, b), refl, rw (z, address-bits r (c .1 .0))))
 
@@ -178,7 +178,7 @@ movea-encodes : (a x ea : ℕ) (s : Size) (f : Tail) (b : Bool) → isByte s ≡
 movea-encodes a x ea s f true n hx h p = absurd (false≢true (h .0))
 movea-encodes a x ea s f false n hx h p =
     let w : x % 8 ≡ x = omega arith in
-    rw w at (form-encodes ea f (movea-form a (f .source) (Address x) s (f .value)) (rw n, (lt-number x hx, tt)) h p (λ n. n) refl (λ e. rw e))
+    rw w at (laying-encodes ea f (movea-form a (f .source) (Address x) s (f .value)) (rw n, (lt-number x hx, tt)) h p (λ n. n) refl (λ e. rw e))
 
 move-encodes : (a x opmode ea : ℕ) (s : Size) (f : Tail) → x < 8 → TailStands a (two specifier.Nothing s ea (readableModes s) (opmode * 8 + x) dataAlterable) f
     → plainTail f ≡ f

@@ -49,7 +49,7 @@ use Rattle.read_laws.specs.Statements.{Reads, Encodes, Sound}
 use Rattle.read_spec.specs.Accepted.{Accepted}
 use Rattle.read_laws.specs.Tests.{equal, yes, among, implies, facts-below}
 use Rattle.read_laws.specs.MapLaws.{At, at-code, at-upto, at-among, in-group}
-use Rattle.read_laws.specs.Forms.{Passing, passed, checked, one-back, Form, form-as, form-reads, form-encodes, decoded-as, word-as, alone-reads, alone-encodes, form-word, form-behind}
+use Rattle.read_laws.specs.LayingLaws.{Passing, passed, checked, one-back, Laying, form-as, laying-reads, laying-encodes, decoded-as, word-as, alone-reads, alone-encodes, form-word, form-behind}
 use Rattle.read_laws.specs.Operands.{by-kind, by-register, data-bits}
 
 -- ---- the fields of a shift
@@ -194,7 +194,7 @@ one-is =
     (λ o e i h. absurd (false≢true (rw i at h)))
 
 memory-form : (a : ℕ) (op : ShiftOperation) (count o : Operand) (direction : ShiftDirection) (s : Size) (v : ℕ) → isRegister o ≡ false
-    → Form a (Shift op count o direction s) 14 (shiftKind op) (4 * leftBit direction + 3) specifier.Nothing Word memoryAlterable v o
+    → Laying a (Shift op count o direction s) 14 (shiftKind op) (4 * leftBit direction + 3) specifier.Nothing Word memoryAlterable v o
     (Passing (typed count ∷ allow (isOne count && isWord s) 64 ∷ []))
 unfolding shiftParts shiftMemoryParts single
 memory-form a op count o direction s v e =
@@ -211,7 +211,7 @@ memory-reads : (a : ℕ) (op : ShiftOperation) (count o : Operand) (direction : 
 memory-reads a op count o direction s e (n, f, l) =
     let k = kind-at op in
     let d = memory-at direction in
-    form-reads (memory-form a op count o direction s 0 e) (d .0 (shiftKind op) (k .0)) f (n .1) (λ c m.
+    laying-reads (memory-form a op count o direction s 0 e) (d .0 (shiftKind op) (k .0)) f (n .1) (λ c m.
     let t = and-true (isOne count) _ (unless-reason (isOne count && isWord s) 64 (c .1 .0)) in
     (refl, refl, rw (one-is count (t .0), word-is s (t .1), k .1, d .1)))
 
@@ -229,7 +229,7 @@ shift-memory-sound a line x opmode ea hl hx ho he e f h p i r =
     let n = memory-not (f .source) (one-back a specifier.Nothing Word ea memoryAlterable f h .0 .0) in
     let direction = directionAt (opmode / 4) in
     decoded-as a i (Shift (shiftAt x) (Immediate 1) (f .source) direction Word) _ _ _ r (omega (arith, w))
-    (form-encodes ea f (memory-form a (shiftAt x) (Immediate 1) (f .source) direction Word (f .value) n) (refl, (refl, tt)) h p (λ n. (tt, n)) refl (λ e. rw e))
+    (laying-encodes ea f (memory-form a (shiftAt x) (Immediate 1) (f .source) direction Word (f .value) n) (refl, (refl, tt)) h p (λ n. (tt, n)) refl (λ e. rw e))
 
 -- ---- the bit-field instructions: an offset or a width
 part-lt : (x : FieldValue) → valueBits x < 64
@@ -288,7 +288,7 @@ abbrev codeOpmode : BitFieldOperation → ℕ
 codeOpmode op = 4 * (bitFieldCode op % 2) + 3
 
 field-form : (a : ℕ) (op : BitFieldOperation) (o : Operand) (f : BitField) (r v : ℕ) → wordIn f r ≡ v
-    → Form a (BF op o f r) 14 (codeX op) (codeOpmode op) specifier.BitField Byte (cond (writes op) bitFieldWritten bitFieldRead) v o (Holding f r)
+    → Laying a (BF op o f r) 14 (codeX op) (codeOpmode op) specifier.BitField Byte (cond (writes op) bitFieldWritten bitFieldRead) v o (Holding f r)
 unfolding bitFieldParts
 field-form a op o f r v e =
     form-as
@@ -312,7 +312,7 @@ code-is Insert = (at-code group.BitField 14 7 7 refl, refl)
 pub bf-reads : (a : ℕ) (op : BitFieldOperation) (o : Operand) (f : BitField) (r : ℕ) → Accepted a (BF op o f r) → Reads a (BF op o f r)
 bf-reads a op o f r (n, e, l) =
     let (t, c) = code-is op in
-    form-reads (field-form a op o f r (wordIn f r) refl) t e n (λ d m.
+    laying-reads (field-form a op o f r (wordIn f r) refl) t e n (λ d m.
     let w = word-fields f r (d .2) in
     (rw c, word-stands f r (d .2), rw (c, w .1, w .2, w .3, value-bits (f .offset) (d .0), value-bits (f .width) (d .1))))
 
@@ -338,4 +338,4 @@ bit-field-sound a line x opmode ea hl hx ho he e f h p i r =
     let d = field-in (f .value) (h .1 .1) in
     let n = f .value / 4096 % 8 in
     decoded-as a i (BF op (f .source) (fieldAt (f .value)) n) _ _ _ r (omega (arith, w))
-    (form-encodes ea f (field-form a op (f .source) (fieldAt (f .value)) n (f .value) (d .1)) (d .0) h p (λ n. n) refl (λ e. rw e))
+    (laying-encodes ea f (field-form a op (f .source) (fieldAt (f .value)) n (f .value) (d .1)) (d .0) h p (λ n. n) refl (λ e. rw e))

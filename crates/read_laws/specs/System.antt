@@ -49,7 +49,7 @@ use Rattle.read_spec.specs.declared.Group.{Group}
 use Rattle.read_spec.specs.LeftOut.{leftOut}
 use Rattle.read_laws.specs.Tests.{Fact, Known, yes, no, equal, known, facts-below, each-eight}
 use Rattle.read_laws.specs.MapLaws.{At, at-code, at-line, in-group}
-use Rattle.read_laws.specs.Forms.{missing, passed, checked, decoded-as, alone-reads, alone-encodes}
+use Rattle.read_laws.specs.LayingLaws.{missing, passed, checked, decoded-as, alone-reads, alone-encodes}
 use Rattle.base_facts.specs.Tests.{Lt, lt?, all, ltb-is, ltb-true, eqb-eq, true-not-false, eqb-is}
 
 -- ---- what the low six bits name: a specifier, and an instruction by its value, which encodes so
@@ -175,16 +175,16 @@ plainCode SIMHALT = 0
 abbrev PlainNamed : ℕ → NoOperandOperation → Type 0
 PlainNamed a op = (plainCode op < 64) × Named a (plainCode op) specifier.Nothing (λ v. NoOperand op)
 
-plain-named : (a : ℕ) (op : NoOperandOperation) → isIllegal op ≡ false → leftOut (NoOperand op) a ≡ false → PlainNamed a op
+no-operand-named : (a : ℕ) (op : NoOperandOperation) → isIllegal op ≡ false → leftOut (NoOperand op) a ≡ false → PlainNamed a op
 unfolding noOperandParts
-plain-named a RTE n l = (omega arith, named refl (λ v. refl) (λ v s. ((tt, refl, refl), refl, refl)))
-plain-named a RESET n l = (omega arith, named refl (λ v. refl) (λ v s. ((tt, refl, refl), refl, refl)))
-plain-named a RTR n l = (omega arith, named refl (λ v. refl) (λ v s. ((tt, refl, refl), refl, refl)))
-plain-named a TRAPV n l = (omega arith, named refl (λ v. refl) (λ v s. ((tt, refl, refl), refl, refl)))
-plain-named a ILLEGAL n l = true-not-false refl n
-plain-named a RTS n l = (omega arith, named refl (λ v. refl) (λ v s. ((tt, refl, refl), refl, refl)))
-plain-named a NOP n l = (omega arith, named refl (λ v. refl) (λ v s. ((tt, refl, refl), refl, refl)))
-plain-named a SIMHALT n l = true-not-false refl l
+no-operand-named a RTE n l = (omega arith, named refl (λ v. refl) (λ v s. ((tt, refl, refl), refl, refl)))
+no-operand-named a RESET n l = (omega arith, named refl (λ v. refl) (λ v s. ((tt, refl, refl), refl, refl)))
+no-operand-named a RTR n l = (omega arith, named refl (λ v. refl) (λ v s. ((tt, refl, refl), refl, refl)))
+no-operand-named a TRAPV n l = (omega arith, named refl (λ v. refl) (λ v s. ((tt, refl, refl), refl, refl)))
+no-operand-named a ILLEGAL n l = true-not-false refl n
+no-operand-named a RTS n l = (omega arith, named refl (λ v. refl) (λ v s. ((tt, refl, refl), refl, refl)))
+no-operand-named a NOP n l = (omega arith, named refl (λ v. refl) (λ v s. ((tt, refl, refl), refl, refl)))
+no-operand-named a SIMHALT n l = true-not-false refl l
 
 -- ---- T1
 named-reads : {a ea : ℕ} {k : Specifier} {j : ℕ → Instruction} (i : Instruction) (v : ℕ) → ea < 64 → Named a ea k j → SpecifierStands k v → j v ≡ i → Reads a i
@@ -224,7 +224,7 @@ moveusp-reads a to r h =
 
 pub plain-reads : (a : ℕ) (op : NoOperandOperation) → isIllegal op ≡ false → Accepted a (NoOperand op) → Reads a (NoOperand op)
 plain-reads a op n h =
-    let t = plain-named a op n (h .2) in
+    let t = no-operand-named a op n (h .2) in
     named-reads (NoOperand op) 0 (t .0) (t .1) refl refl
 
 pub stop-reads : (a v : ℕ) → Accepted a (Status STOP v) → Reads a (Status STOP v)
@@ -277,7 +277,7 @@ module _ (a : ℕ) (f : Tail) where
   none-right ea e i h r = absurd (false≢true (subst (λ (m : Layout). TailStands a m f) e h .0))
 
   plain-right : (op : NoOperandOperation) → isIllegal op ≡ false → leftOut (NoOperand op) a ≡ false → Right a f (plainCode op)
-  plain-right op n l = named-right (plain-named a op n l .1)
+  plain-right op n l = named-right (no-operand-named a op n l .1)
 
   return-right : (n : ℕ) → n < 8 → Right a f (48 + n)
   return-right =

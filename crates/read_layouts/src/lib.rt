@@ -6,7 +6,7 @@ ghost use Prim.Native.Nat.{_<_};
 ghost use Rattle.isa.specs.declared.Size.the-variants.{Long, Word};
 ghost use Rattle.encode_spec.specs.Bits.{staticModes};
 ghost use Rattle.read_spec.specs.Layout.{two, one, alone, bare, noLayout};
-ghost use Rattle.read_spec.specs.Layouts.{readableModes, immediateSpecifier, immediateLayout, dynamicLayout, casLayout, moveaLayout, moveLayout, oneLayout, unsizedModes, unsizedSize, unsizedLayout, unsizedOneLayout, nbcdLayout, peaLayout, movemLayout, systemSpecifier, systemLayout, leaLayout, quickLayout, trapSpecifier, conditionalLayout, branchLayout, intoDataLayout, fromDataLayout, exchangeLayout, compareLayout, bitFieldLayout, layoutOf};
+ghost use Rattle.read_spec.specs.Layouts.{readableModes, immediateSpecifier, immediateLayout, dynamicBitMovepLayout, casLayout, moveaLayout, moveLayout, oneLayout, unsizedModes, unsizedSize, unsizedLayout, unsizedOneLayout, nbcdLinkLayout, peaSwapBkptLayout, movemExtLayout, systemSpecifier, systemLayout, leaExtbLayout, quickLayout, trapSpecifier, conditionalLayout, branchLayout, intoDataLayout, fromDataLayout, logicExchangeLayout, logicCompareLayout, bitFieldLayout, layoutOf};
 use isa::BitFieldOperation;
 use isa::Size;
 use isa::UnsizedOneOperation;
@@ -148,8 +148,8 @@ fn immediate_layout(x: u8, opmode: u8, ea: u8) -> Layout
 }
 
 // BTST, BCHG, BCLR and BSET with a data register, and MOVEP.
-fn dynamic_layout(opmode: u8, ea: u8) -> Layout
-    ensures { λ r. ⌜ r ≡ dynamicLayout opmode ea ⌝ }
+fn dynamic_bit_movep_layout(opmode: u8, ea: u8) -> Layout
+    ensures { λ r. ⌜ r ≡ dynamicBitMovepLayout opmode ea ⌝ }
 {
     let kind = less(opmode, 4);
     let modes = pick(kind == 0, DATA, DATA_ALTERABLE);
@@ -266,8 +266,8 @@ fn unsized_one_layout(x: u8, opmode: u8, ea: u8) -> Layout
 }
 
 // NBCD, and LINK with a long.
-fn nbcd_layout(ea: u8) -> Layout
-    ensures { λ r. ⌜ r ≡ nbcdLayout ea ⌝ }
+fn nbcd_link_layout(ea: u8) -> Layout
+    ensures { λ r. ⌜ r ≡ nbcdLinkLayout ea ⌝ }
 {
     if ea / 8 == 1 {
         alone(Specifier::Long)
@@ -277,8 +277,8 @@ fn nbcd_layout(ea: u8) -> Layout
 }
 
 // PEA, SWAP and BKPT.
-fn pea_layout(ea: u8) -> Layout
-    ensures { λ r. ⌜ r ≡ peaLayout ea ⌝ }
+fn pea_swap_bkpt_layout(ea: u8) -> Layout
+    ensures { λ r. ⌜ r ≡ peaSwapBkptLayout ea ⌝ }
 {
     if ea < 16 {
         bare()
@@ -288,8 +288,8 @@ fn pea_layout(ea: u8) -> Layout
 }
 
 // MOVEM, and EXT.
-fn movem_layout(x: u8, opmode: u8, ea: u8) -> Layout
-    ensures { λ r. ⌜ r ≡ movemLayout x opmode ea ⌝ }
+fn movem_ext_layout(x: u8, opmode: u8, ea: u8) -> Layout
+    ensures { λ r. ⌜ r ≡ movemExtLayout x opmode ea ⌝ }
 {
     let size = size_at(less(opmode, 1));
     let modes = movem_modes(to_memory_at(less(5, x)));
@@ -323,8 +323,8 @@ fn system_layout(ea: u8) -> Layout
 }
 
 // LEA, and EXTB.L.
-fn lea_layout(x: u8, ea: u8) -> Layout
-    ensures { λ r. ⌜ r ≡ leaLayout x ea ⌝ }
+fn lea_extb_layout(x: u8, ea: u8) -> Layout
+    ensures { λ r. ⌜ r ≡ leaExtbLayout x ea ⌝ }
 {
     if (x == 4) & (ea < 8) {
         bare()
@@ -399,8 +399,8 @@ fn from_data_layout(specifier: Specifier, size: Size, ea: u8) -> Layout
     }
 }
 
-fn exchange_layout(opmode: u8, ea: u8) -> Layout
-    ensures { λ r. ⌜ r ≡ exchangeLayout opmode ea ⌝ }
+fn logic_exchange_layout(opmode: u8, ea: u8) -> Layout
+    ensures { λ r. ⌜ r ≡ logicExchangeLayout opmode ea ⌝ }
 {
     let size = size_at(less(opmode, 4));
     if is_exchange(opmode, ea) {
@@ -411,9 +411,9 @@ fn exchange_layout(opmode: u8, ea: u8) -> Layout
 }
 
 // CMPM takes two (An)+ only; EOR.
-fn compare_layout(x: u8, opmode: u8, ea: u8) -> Layout
+fn logic_compare_layout(x: u8, opmode: u8, ea: u8) -> Layout
     requires { ⌜ x < 8 ⌝ }
-    ensures { λ r. ⌜ r ≡ compareLayout x opmode ea ⌝ }
+    ensures { λ r. ⌜ r ≡ logicCompareLayout x opmode ea ⌝ }
 {
     let size = size_at(less(opmode, 4));
     if ea / 8 == 1 {
@@ -443,20 +443,20 @@ pub fn layout(group: Group, line: u8, x: u8, opmode: u8, ea: u8) -> Layout
         Group::Unused => no_layout(),
         Group::ImmediateInto => immediate_layout(x, opmode, ea),
         Group::StaticBit => one(Specifier::Byte, Size::Byte, ea, static_modes(opmode)),
-        Group::DynamicBitMovep => dynamic_layout(opmode, ea),
+        Group::DynamicBitMovep => dynamic_bit_movep_layout(opmode, ea),
         Group::MOVES => one(Specifier::General, size_at(opmode), ea, MEMORY_ALTERABLE),
         Group::Bounds => one(Specifier::General, size_at(x), ea, CONTROL),
         Group::CAS => cas_layout(x, ea),
         Group::MOVE => move_layout(move_size(line), x, opmode, ea),
         Group::OneOperand => one_layout(size_at(opmode), x, ea),
         Group::UnsizedOne => unsized_one_layout(x, opmode, ea),
-        Group::NbcdLink => nbcd_layout(ea),
-        Group::PeaSwapBkpt => pea_layout(ea),
-        Group::MovemExt => movem_layout(x, opmode, ea),
+        Group::NbcdLink => nbcd_link_layout(ea),
+        Group::PeaSwapBkpt => pea_swap_bkpt_layout(ea),
+        Group::MovemExt => movem_ext_layout(x, opmode, ea),
         Group::MULL => one(Specifier::Multiply, Size::Long, ea, DATA),
         Group::DIVL => one(Specifier::Divide, Size::Long, ea, DATA),
         Group::System => system_layout(ea),
-        Group::LeaExtb => lea_layout(x, ea),
+        Group::LeaExtb => lea_extb_layout(x, ea),
         Group::CHK => one(Specifier::Nothing, long_if(opmode == 4), ea, DATA),
         Group::Quick => quick_layout(size_at(opmode % 4), ea),
         Group::Conditional => conditional_layout(ea),
@@ -469,8 +469,8 @@ pub fn layout(group: Group, line: u8, x: u8, opmode: u8, ea: u8) -> Layout
         ),
         Group::LogicDecimal => from_data_layout(Specifier::Nothing, Size::Byte, ea),
         Group::LogicPack => from_data_layout(Specifier::Word, size_at(less(opmode, 4)), ea),
-        Group::LogicExchange => exchange_layout(opmode, ea),
-        Group::LogicCompare => compare_layout(x, opmode, ea),
+        Group::LogicExchange => logic_exchange_layout(opmode, ea),
+        Group::LogicCompare => logic_compare_layout(x, opmode, ea),
         Group::WordIntoData => one(Specifier::Nothing, Size::Word, ea, DATA),
         Group::IntoAddress => one(Specifier::Nothing, long_if(opmode == 7), ea, ALL),
         Group::ShiftMemory => one(Specifier::Nothing, Size::Word, ea, MEMORY_ALTERABLE),

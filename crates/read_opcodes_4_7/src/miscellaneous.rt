@@ -2,7 +2,7 @@
 ghost use mathlib.Core.Path.{_≡_};
 ghost use Rattle.isa.specs.declared.Instruction.the-variants.{OneOperand, UnsizedIntoRegister};
 ghost use Rattle.isa.specs.declared.RegisterOperand.the-variants.{Data};
-ghost use Rattle.read_spec.specs.Decoded.{unsizedOneDecoded, nbcdDecoded, peaDecoded, movemDecoded, mullDecoded, divlDecoded, leaDecoded};
+ghost use Rattle.read_spec.specs.Decoded.{unsizedOneDecoded, nbcdLinkDecoded, peaSwapBkptDecoded, movemExtDecoded, mullDecoded, divlDecoded, leaExtbDecoded};
 ghost use Rattle.read_spec.specs.Operation.{oneAt, sizeAt};
 ghost use Rattle.read_values.specs.Named.{chkAt};
 use isa::Instruction;
@@ -44,8 +44,8 @@ pub fn unsized_one(x: u8, opmode: u8, ea: u8, source: Operand) -> Instruction
 }
 
 // NBCD, and LINK by a long.
-pub fn nbcd(ea: u8, value: u32, source: Operand) -> Instruction
-    ensures { λ r. ⌜ r ≡ nbcdDecoded ea value source ⌝ }
+pub fn nbcd_link(ea: u8, value: u32, source: Operand) -> Instruction
+    ensures { λ r. ⌜ r ≡ nbcdLinkDecoded ea value source ⌝ }
 {
     if ea / 8 == 1 {
         let register = RegisterOperand::Address(ea % 8);
@@ -55,8 +55,8 @@ pub fn nbcd(ea: u8, value: u32, source: Operand) -> Instruction
 }
 
 // PEA, SWAP and BKPT.
-pub fn pea(ea: u8, source: Operand) -> Instruction
-    ensures { λ r. ⌜ r ≡ peaDecoded ea source ⌝ }
+pub fn pea_swap_bkpt(ea: u8, source: Operand) -> Instruction
+    ensures { λ r. ⌜ r ≡ peaSwapBkptDecoded ea source ⌝ }
 {
     if ea < 8 {
         let register = RegisterOperand::Data(ea);
@@ -69,8 +69,8 @@ pub fn pea(ea: u8, source: Operand) -> Instruction
 }
 
 // MOVEM and EXT.
-pub fn movem(x: u8, opmode: u8, ea: u8, value: u32, source: Operand) -> Instruction
-    ensures { λ r. ⌜ r ≡ movemDecoded x opmode ea value source ⌝ }
+pub fn movem_ext(x: u8, opmode: u8, ea: u8, value: u32, source: Operand) -> Instruction
+    ensures { λ r. ⌜ r ≡ movemExtDecoded x opmode ea value source ⌝ }
 {
     let size = size_at(less(opmode, 1));
     if (x == 4) & (ea < 8) {
@@ -116,8 +116,8 @@ pub fn divl(value: u32, source: Operand) -> Instruction
 }
 
 // LEA, and EXTB.
-pub fn lea(x: u8, ea: u8, source: Operand) -> Instruction
-    ensures { λ r. ⌜ r ≡ leaDecoded x ea source ⌝ }
+pub fn lea_extb(x: u8, ea: u8, source: Operand) -> Instruction
+    ensures { λ r. ⌜ r ≡ leaExtbDecoded x ea source ⌝ }
 {
     if (x == 4) & (ea < 8) {
         let register = RegisterOperand::Data(ea);

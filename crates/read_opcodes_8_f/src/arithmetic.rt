@@ -4,7 +4,7 @@ ghost use Rattle.read_values.specs.Named.{longAt};
 ghost use Rattle.read_opcodes_8_f.specs.Parts.{compareInstruction};
 ghost use Rattle.isa.specs.declared.Instruction.the-variants.{IntoRegister, Pair};
 ghost use Rattle.isa.specs.declared.RegisterOperand.the-variants.{Address};
-ghost use Rattle.read_spec.specs.Decoded.{dataOperand, intoDataDecoded, arithmeticDecoded, decimalDecoded, packDecoded, exchanged, exchangeDecoded, wordDecoded};
+ghost use Rattle.read_spec.specs.Decoded.{dataOperand, intoDataDecoded, arithmeticDecoded, logicDecimalDecoded, logicPackDecoded, exchanged, logicExchangeDecoded, wordDecoded};
 ghost use Rattle.read_spec.specs.Operation.{addressAt};
 use isa::Instruction;
 use isa::Operand;
@@ -64,8 +64,8 @@ pub fn arithmetic(line: u8, x: u8, opmode: u8, ea: u8, source: Operand) -> Instr
 }
 
 // OR and AND of a byte in a data register, SBCD and ABCD.
-pub fn decimal(line: u8, x: u8, ea: u8, source: Operand) -> Instruction
-    ensures { λ r. ⌜ r ≡ decimalDecoded line x ea source ⌝ }
+pub fn logic_decimal(line: u8, x: u8, ea: u8, source: Operand) -> Instruction
+    ensures { λ r. ⌜ r ≡ logicDecimalDecoded line x ea source ⌝ }
 {
     if ea < 16 {
         let operation = decimal_at(line);
@@ -77,8 +77,8 @@ pub fn decimal(line: u8, x: u8, ea: u8, source: Operand) -> Instruction
 }
 
 // OR of a word or a long in a data register, PACK and UNPK.
-pub fn pack(x: u8, opmode: u8, ea: u8, value: u32, source: Operand) -> Instruction
-    ensures { λ r. ⌜ r ≡ packDecoded x opmode ea value source ⌝ }
+pub fn logic_pack(x: u8, opmode: u8, ea: u8, value: u32, source: Operand) -> Instruction
+    ensures { λ r. ⌜ r ≡ logicPackDecoded x opmode ea value source ⌝ }
 {
     if ea < 16 {
         let operation = pack_at(opmode);
@@ -104,8 +104,8 @@ pub fn exchanged_of(x: u8, opmode: u8, ea: u8) -> Instruction
 }
 
 // AND of a word or a long in a data register, and EXG.
-pub fn exchange(x: u8, opmode: u8, ea: u8, source: Operand) -> Instruction
-    ensures { λ r. ⌜ r ≡ exchangeDecoded x opmode ea source ⌝ }
+pub fn logic_exchange(x: u8, opmode: u8, ea: u8, source: Operand) -> Instruction
+    ensures { λ r. ⌜ r ≡ logicExchangeDecoded x opmode ea source ⌝ }
 {
     if is_exchange(opmode, ea) {
         return exchanged_of(x, opmode, ea);
@@ -114,7 +114,13 @@ pub fn exchange(x: u8, opmode: u8, ea: u8, source: Operand) -> Instruction
 }
 
 // EOR, and CMPM.
-pub fn compare(x: u8, opmode: u8, ea: u8, source: Operand, destination: Operand) -> Instruction
+pub fn logic_compare(
+    x: u8,
+    opmode: u8,
+    ea: u8,
+    source: Operand,
+    destination: Operand,
+) -> Instruction
     ensures { λ r. ⌜ r ≡ compareInstruction x opmode ea source destination ⌝ }
 {
     let size = size_at(less(opmode, 4));

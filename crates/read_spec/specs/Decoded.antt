@@ -70,8 +70,8 @@ movepDecoded x opmode (PcIndex t i) = fail
 movepDecoded x opmode (Extended base w z outer) = fail
 movepDecoded x opmode (Absolute a width) = fail
 
-abbrev pub dynamicDecoded : ℕ → ℕ → ℕ → Operand → Tree Instruction
-dynamicDecoded x opmode ea o = cond (eqb (ea / 8) 1) (movepDecoded x opmode o) (ret (UnsizedPair (bitAt (opmode - 4)) (dataOperand x) o))
+abbrev pub dynamicBitMovepDecoded : ℕ → ℕ → ℕ → Operand → Tree Instruction
+dynamicBitMovepDecoded x opmode ea o = cond (eqb (ea / 8) 1) (movepDecoded x opmode o) (ret (UnsizedPair (bitAt (opmode - 4)) (dataOperand x) o))
 
 abbrev pub boundsDecoded : ℕ → ℕ → Operand → Instruction
 boundsDecoded x v o = IntoRegister (cond (eqb (v / 2048 % 2) 1) CHK2 CMP2) o (generalOf (v / 4096 % 16)) (sizeAt x)
@@ -92,14 +92,14 @@ moveDecoded line x opmode o d = cond (eqb opmode 1) (IntoRegister MOVEA o (Addre
 abbrev pub unsizedOneDecoded : ℕ → ℕ → ℕ → Operand → Instruction
 unsizedOneDecoded x opmode ea o = cond (eqb x 5 && eqb ea 60) (NoOperand ILLEGAL) (UnsizedOne (unsizedAt x opmode) o)
 
-abbrev pub nbcdDecoded : ℕ → ℕ → Operand → Instruction
-nbcdDecoded ea v o = cond (eqb (ea / 8) 1) (Link LINKL (Address (ea % 8)) v) (UnsizedOne NBCD o)
+abbrev pub nbcdLinkDecoded : ℕ → ℕ → Operand → Instruction
+nbcdLinkDecoded ea v o = cond (eqb (ea / 8) 1) (Link LINKL (Address (ea % 8)) v) (UnsizedOne NBCD o)
 
-abbrev pub peaDecoded : ℕ → Operand → Instruction
-peaDecoded ea o = cond (ltb ea 8) (SWAP (Data ea)) (cond (ltb ea 16) (Vector BKPT (ea % 8)) (UnsizedOne PEA o))
+abbrev pub peaSwapBkptDecoded : ℕ → Operand → Instruction
+peaSwapBkptDecoded ea o = cond (ltb ea 8) (SWAP (Data ea)) (cond (ltb ea 16) (Vector BKPT (ea % 8)) (UnsizedOne PEA o))
 
-abbrev pub movemDecoded : ℕ → ℕ → ℕ → ℕ → Operand → Instruction
-movemDecoded x opmode ea v o =
+abbrev pub movemExtDecoded : ℕ → ℕ → ℕ → ℕ → Operand → Instruction
+movemExtDecoded x opmode ea v o =
     cond (eqb x 4 && ltb ea 8) (EXT (Data ea) (sizeAt (opmode - 2)) (sizeAt (opmode - 1)))
     (MOVEM (toMemoryAt (5 - x)) (sizeAt (opmode - 1)) (v % 65536) o)
 
@@ -138,8 +138,8 @@ systemDecoded ea v =
     ∷ [])
     (ea / 8) (movecDecoded ea v)
 
-abbrev pub leaDecoded : ℕ → ℕ → Operand → Instruction
-leaDecoded x ea o = cond (eqb x 4 && ltb ea 8) (EXT (Data ea) Byte Long) (UnsizedIntoRegister LEA o (Address x))
+abbrev pub leaExtbDecoded : ℕ → ℕ → Operand → Instruction
+leaExtbDecoded x ea o = cond (eqb x 4 && ltb ea 8) (EXT (Data ea) Byte Long) (UnsizedIntoRegister LEA o (Address x))
 
 abbrev pub quickDecoded : ℕ → ℕ → Operand → Instruction
 quickDecoded x opmode o = Quick (cond (leb 4 opmode) SUBQ ADDQ) (countAt x) o (sizeAt (opmode % 4))
@@ -169,13 +169,13 @@ arithmeticDecoded line x opmode ea o =
     cond (ltb ea 16) (Pair (extendAt line) (eitherAt ea (ea % 8)) (eitherAt ea x) (sizeAt (opmode - 4)))
     (Pair (pairAt line) (dataOperand x) o (sizeAt (opmode - 4)))
 
-abbrev pub decimalDecoded : ℕ → ℕ → ℕ → Operand → Instruction
-decimalDecoded line x ea o =
+abbrev pub logicDecimalDecoded : ℕ → ℕ → ℕ → Operand → Instruction
+logicDecimalDecoded line x ea o =
     cond (ltb ea 16) (UnsizedPair (cond (eqb line 8) SBCD ABCD) (eitherAt ea (ea % 8)) (eitherAt ea x))
     (Pair (pairAt line) (dataOperand x) o Byte)
 
-abbrev pub packDecoded : ℕ → ℕ → ℕ → ℕ → Operand → Instruction
-packDecoded x opmode ea v o =
+abbrev pub logicPackDecoded : ℕ → ℕ → ℕ → ℕ → Operand → Instruction
+logicPackDecoded x opmode ea v o =
     cond (ltb ea 16) (Pack (cond (eqb opmode 5) PACK UNPK) (eitherAt ea (ea % 8)) (eitherAt ea x) (v % 65536))
     (Pair OR (dataOperand x) o (sizeAt (opmode - 4)))
 
@@ -184,8 +184,8 @@ abbrev pub exchanged : ℕ → ℕ → ℕ → Instruction
 exchanged x opmode ea =
     cond (ltb ea 8) (EXG (Data x) (Data (ea % 8))) (EXG (cond (eqb opmode 5) (Address x) (Data x)) (Address (ea % 8)))
 
-abbrev pub exchangeDecoded : ℕ → ℕ → ℕ → Operand → Instruction
-exchangeDecoded x opmode ea o = cond (isExchange opmode ea) (exchanged x opmode ea) (Pair AND (dataOperand x) o (sizeAt (opmode - 4)))
+abbrev pub logicExchangeDecoded : ℕ → ℕ → ℕ → Operand → Instruction
+logicExchangeDecoded x opmode ea o = cond (isExchange opmode ea) (exchanged x opmode ea) (Pair AND (dataOperand x) o (sizeAt (opmode - 4)))
 
 -- CMPM takes two (An)+ only
 abbrev pub cmpmTo : Size → ℕ → Operand → Tree Instruction
@@ -214,8 +214,8 @@ cmpmDecoded s (PcIndex t i) d = fail
 cmpmDecoded s (Extended base w z outer) d = fail
 cmpmDecoded s (Absolute a width) d = fail
 
-abbrev pub compareDecoded : ℕ → ℕ → ℕ → Operand → Operand → Tree Instruction
-compareDecoded x opmode ea o d =
+abbrev pub logicCompareDecoded : ℕ → ℕ → ℕ → Operand → Operand → Tree Instruction
+logicCompareDecoded x opmode ea o d =
     cond (eqb (ea / 8) 1) (cmpmDecoded (sizeAt (opmode - 4)) o d) (ret (Pair EOR (dataOperand x) o (sizeAt (opmode - 4))))
 
 abbrev pub wordDecoded : ℕ → ℕ → ℕ → Operand → Instruction
@@ -236,20 +236,20 @@ abbrev pub decoded : ℕ → Group → ℕ → ℕ → ℕ → ℕ → ℕ → O
 decoded a group.Unused line x opmode ea v o d = fail
 decoded a group.ImmediateInto line x opmode ea v o d = ret (immediateDecoded x opmode ea v o)
 decoded a group.StaticBit line x opmode ea v o d = ret (UnsizedPair (bitAt opmode) (Immediate v) o)
-decoded a group.DynamicBitMovep line x opmode ea v o d = dynamicDecoded x opmode ea o
+decoded a group.DynamicBitMovep line x opmode ea v o d = dynamicBitMovepDecoded x opmode ea o
 decoded a group.MOVES line x opmode ea v o d = ret (movesDecoded opmode v o)
 decoded a group.Bounds line x opmode ea v o d = ret (boundsDecoded x v o)
 decoded a group.CAS line x opmode ea v o d = ret (casDecoded x ea v o)
 decoded a group.MOVE line x opmode ea v o d = ret (moveDecoded line x opmode o d)
 decoded a group.OneOperand line x opmode ea v o d = ret (OneOperand (oneAt x) o (sizeAt opmode))
 decoded a group.UnsizedOne line x opmode ea v o d = ret (unsizedOneDecoded x opmode ea o)
-decoded a group.NbcdLink line x opmode ea v o d = ret (nbcdDecoded ea v o)
-decoded a group.PeaSwapBkpt line x opmode ea v o d = ret (peaDecoded ea o)
-decoded a group.MovemExt line x opmode ea v o d = ret (movemDecoded x opmode ea v o)
+decoded a group.NbcdLink line x opmode ea v o d = ret (nbcdLinkDecoded ea v o)
+decoded a group.PeaSwapBkpt line x opmode ea v o d = ret (peaSwapBkptDecoded ea o)
+decoded a group.MovemExt line x opmode ea v o d = ret (movemExtDecoded x opmode ea v o)
 decoded a group.MULL line x opmode ea v o d = ret (mullDecoded v o)
 decoded a group.DIVL line x opmode ea v o d = ret (divlDecoded v o)
 decoded a group.System line x opmode ea v o d = ret (systemDecoded ea v)
-decoded a group.LeaExtb line x opmode ea v o d = ret (leaDecoded x ea o)
+decoded a group.LeaExtb line x opmode ea v o d = ret (leaExtbDecoded x ea o)
 decoded a group.CHK line x opmode ea v o d = ret (UnsizedIntoRegister (cond (eqb opmode 4) CHKL CHK) o (Data x))
 decoded a group.Quick line x opmode ea v o d = ret (quickDecoded x opmode o)
 decoded a group.Conditional line x opmode ea v o d = ret (conditionalDecoded a (x * 2 + opmode / 4) ea v o)
@@ -257,10 +257,10 @@ decoded a group.Branch line x opmode ea v o d = ret (branchDecoded a (x * 2 + op
 decoded a group.MOVEQ line x opmode ea v o d = ret (MOVEQ (opmode % 4 * 64 + ea) (Data x))
 decoded a group.IntoData line x opmode ea v o d = ret (intoDataDecoded line x opmode o)
 decoded a group.ArithmeticExtended line x opmode ea v o d = ret (arithmeticDecoded line x opmode ea o)
-decoded a group.LogicDecimal line x opmode ea v o d = ret (decimalDecoded line x ea o)
-decoded a group.LogicPack line x opmode ea v o d = ret (packDecoded x opmode ea v o)
-decoded a group.LogicExchange line x opmode ea v o d = ret (exchangeDecoded x opmode ea o)
-decoded a group.LogicCompare line x opmode ea v o d = compareDecoded x opmode ea o d
+decoded a group.LogicDecimal line x opmode ea v o d = ret (logicDecimalDecoded line x ea o)
+decoded a group.LogicPack line x opmode ea v o d = ret (logicPackDecoded x opmode ea v o)
+decoded a group.LogicExchange line x opmode ea v o d = ret (logicExchangeDecoded x opmode ea o)
+decoded a group.LogicCompare line x opmode ea v o d = logicCompareDecoded x opmode ea o d
 decoded a group.WordIntoData line x opmode ea v o d = ret (wordDecoded line x opmode o)
 decoded a group.IntoAddress line x opmode ea v o d = ret (IntoRegister (addressAt line) o (Address x) (cond (eqb opmode 7) Long Word))
 decoded a group.ShiftRegister line x opmode ea v o d = ret (shiftDecoded x opmode ea)

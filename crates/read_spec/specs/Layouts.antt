@@ -37,8 +37,8 @@ immediateLayout x opmode ea =
     (one (immediateSpecifier (sizeAt opmode)) (sizeAt opmode) ea (cond (eqb x 6) dataNotImmediate dataAlterable))
 
 -- BTST BCHG BCLR BSET with a data register, and MOVEP, which reaches memory through d16(An) only
-abbrev pub dynamicLayout : ℕ → ℕ → Layout
-dynamicLayout opmode ea =
+abbrev pub dynamicBitMovepLayout : ℕ → ℕ → Layout
+dynamicBitMovepLayout opmode ea =
     cond (eqb (ea / 8) 1) (one specifier.Nothing Word (40 + ea % 8) 32) (one specifier.Nothing Byte ea (dynamicModes (opmode - 4)))
 
 -- CAS and CAS2
@@ -86,16 +86,16 @@ abbrev pub unsizedOneLayout : ℕ → ℕ → ℕ → Layout
 unsizedOneLayout x opmode ea = cond (eqb x 5 && eqb ea 60) bare (unsizedLayout (unsizedAt x opmode) ea)
 
 -- NBCD, and LINK with a long
-abbrev pub nbcdLayout : ℕ → Layout
-nbcdLayout ea = cond (eqb (ea / 8) 1) (alone specifier.Long) (unsizedLayout NBCD ea)
+abbrev pub nbcdLinkLayout : ℕ → Layout
+nbcdLinkLayout ea = cond (eqb (ea / 8) 1) (alone specifier.Long) (unsizedLayout NBCD ea)
 
 -- PEA, SWAP and BKPT
-abbrev pub peaLayout : ℕ → Layout
-peaLayout ea = cond (ltb ea 16) bare (unsizedLayout PEA ea)
+abbrev pub peaSwapBkptLayout : ℕ → Layout
+peaSwapBkptLayout ea = cond (ltb ea 16) bare (unsizedLayout PEA ea)
 
 -- MOVEM, and EXT
-abbrev pub movemLayout : ℕ → ℕ → ℕ → Layout
-movemLayout x opmode ea =
+abbrev pub movemExtLayout : ℕ → ℕ → ℕ → Layout
+movemExtLayout x opmode ea =
     cond (eqb x 4 && ltb ea 8) bare (one specifier.Word (sizeAt (opmode - 1)) ea (movemModes (toMemoryAt (5 - x))))
 
 -- TRAP LINK UNLK MOVE USP RESET NOP STOP RTE RTD RTS TRAPV RTR MOVEC
@@ -106,8 +106,8 @@ abbrev pub systemLayout : ℕ → Layout
 systemLayout ea = cond (ltb ea 56 || eqb (ea / 2) 29) (alone (systemSpecifier ea)) noLayout
 
 -- LEA, and EXTB.L
-abbrev pub leaLayout : ℕ → ℕ → Layout
-leaLayout x ea = cond (eqb x 4 && ltb ea 8) bare (one specifier.Nothing Long ea control)
+abbrev pub leaExtbLayout : ℕ → ℕ → Layout
+leaExtbLayout x ea = cond (eqb x 4 && ltb ea 8) bare (one specifier.Nothing Long ea control)
 
 abbrev pub quickLayout : Size → ℕ → Layout
 quickLayout s ea = one specifier.Nothing s ea (cond (isByte s) dataAlterable alterable)
@@ -137,12 +137,12 @@ fromDataLayout k s ea = cond (ltb ea 16) (alone k) (one specifier.Nothing s ea m
 abbrev pub isExchange : ℕ → ℕ → Bool
 isExchange opmode ea = ltb ea 16 && (eqb opmode 5 || leb 8 ea)
 
-abbrev pub exchangeLayout : ℕ → ℕ → Layout
-exchangeLayout opmode ea = cond (isExchange opmode ea) bare (one specifier.Nothing (sizeAt (opmode - 4)) ea memoryAlterable)
+abbrev pub logicExchangeLayout : ℕ → ℕ → Layout
+logicExchangeLayout opmode ea = cond (isExchange opmode ea) bare (one specifier.Nothing (sizeAt (opmode - 4)) ea memoryAlterable)
 
 -- CMPM takes two (An)+ only; EOR
-abbrev pub compareLayout : ℕ → ℕ → ℕ → Layout
-compareLayout x opmode ea =
+abbrev pub logicCompareLayout : ℕ → ℕ → ℕ → Layout
+logicCompareLayout x opmode ea =
     cond (eqb (ea / 8) 1) (two specifier.Nothing Byte (24 + ea % 8) 8 (24 + x) 8)
     (one specifier.Nothing (sizeAt (opmode - 4)) ea dataAlterable)
 
@@ -153,20 +153,20 @@ abbrev pub layoutOf : Group → ℕ → ℕ → ℕ → ℕ → Layout
 layoutOf group.Unused line x opmode ea = noLayout
 layoutOf group.ImmediateInto line x opmode ea = immediateLayout x opmode ea
 layoutOf group.StaticBit line x opmode ea = one specifier.Byte Byte ea (staticModes opmode)
-layoutOf group.DynamicBitMovep line x opmode ea = dynamicLayout opmode ea
+layoutOf group.DynamicBitMovep line x opmode ea = dynamicBitMovepLayout opmode ea
 layoutOf group.MOVES line x opmode ea = one specifier.General (sizeAt opmode) ea memoryAlterable
 layoutOf group.Bounds line x opmode ea = one specifier.General (sizeAt x) ea control
 layoutOf group.CAS line x opmode ea = casLayout x ea
 layoutOf group.MOVE line x opmode ea = moveLayout (moveSize line) x opmode ea
 layoutOf group.OneOperand line x opmode ea = oneLayout (sizeAt opmode) x ea
 layoutOf group.UnsizedOne line x opmode ea = unsizedOneLayout x opmode ea
-layoutOf group.NbcdLink line x opmode ea = nbcdLayout ea
-layoutOf group.PeaSwapBkpt line x opmode ea = peaLayout ea
-layoutOf group.MovemExt line x opmode ea = movemLayout x opmode ea
+layoutOf group.NbcdLink line x opmode ea = nbcdLinkLayout ea
+layoutOf group.PeaSwapBkpt line x opmode ea = peaSwapBkptLayout ea
+layoutOf group.MovemExt line x opmode ea = movemExtLayout x opmode ea
 layoutOf group.MULL line x opmode ea = one specifier.Multiply Long ea dataModes
 layoutOf group.DIVL line x opmode ea = one specifier.Divide Long ea dataModes
 layoutOf group.System line x opmode ea = systemLayout ea
-layoutOf group.LeaExtb line x opmode ea = leaLayout x ea
+layoutOf group.LeaExtb line x opmode ea = leaExtbLayout x ea
 layoutOf group.CHK line x opmode ea = one specifier.Nothing (cond (eqb opmode 4) Long Word) ea dataModes
 layoutOf group.Quick line x opmode ea = quickLayout (sizeAt (opmode % 4)) ea
 layoutOf group.Conditional line x opmode ea = conditionalLayout ea
@@ -176,8 +176,8 @@ layoutOf group.IntoData line x opmode ea = intoDataLayout line (sizeAt opmode) e
 layoutOf group.ArithmeticExtended line x opmode ea = fromDataLayout specifier.Nothing (sizeAt (opmode - 4)) ea
 layoutOf group.LogicDecimal line x opmode ea = fromDataLayout specifier.Nothing Byte ea
 layoutOf group.LogicPack line x opmode ea = fromDataLayout specifier.Word (sizeAt (opmode - 4)) ea
-layoutOf group.LogicExchange line x opmode ea = exchangeLayout opmode ea
-layoutOf group.LogicCompare line x opmode ea = compareLayout x opmode ea
+layoutOf group.LogicExchange line x opmode ea = logicExchangeLayout opmode ea
+layoutOf group.LogicCompare line x opmode ea = logicCompareLayout x opmode ea
 layoutOf group.WordIntoData line x opmode ea = one specifier.Nothing Word ea dataModes
 layoutOf group.IntoAddress line x opmode ea = one specifier.Nothing (cond (eqb opmode 7) Long Word) ea everyMode
 layoutOf group.ShiftRegister line x opmode ea = bare

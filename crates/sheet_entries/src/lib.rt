@@ -107,7 +107,7 @@ fn address_in(addresses: &[u32], k: u64) -> u64
     0
 }
 
-fn number_in(addresses: &[u32], named: bool, k: u64) -> u64
+fn resolved_number(addresses: &[u32], named: bool, k: u64) -> u64
     ensures { λ r. ⌜ r ≡ resolvedNumber (now (addresses .entry)) named k ⌝ }
 {
     if named {
@@ -124,7 +124,7 @@ fn numbers(e: Entries, addresses: &[u32]) -> Numbers
     let mut magnitude: [u64; 24] = [0; 24];
     let mut i: usize = 0;
     while i < 24 {
-        magnitude[i] = number_in(addresses, e.named[i], e.magnitude[i]);
+        magnitude[i] = resolved_number(addresses, e.named[i], e.magnitude[i]);
         i += 1;
     }
     Numbers {

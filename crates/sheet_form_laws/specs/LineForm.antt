@@ -6,7 +6,7 @@ use Rattle.base_spec.specs.Parts.{fields}
 use Rattle.base_spec.specs.Lines.{linesOf}
 use Rattle.sheet_spec.specs.declared.Kind.{Kind}
 use Rattle.sheet_spec.specs.declared.Kind.the-variants as kind
-use Rattle.sheet_spec.specs.Grammar.{fieldsOf}
+use Rattle.sheet_spec.specs.Grammar.{kindsOf}
 use Rattle.sheet_spec.specs.Line.{Token, literal, label, invalid, says, with, after, lineFrom, lineOf}
 use Rattle.sheet_spec.specs.Spell.{spelled, Suits, nextKinds, Fits, fieldsFrom, joined, spell}
 use Rattle.sheet_token_laws.specs.Fields.{suits-some}
@@ -16,7 +16,7 @@ use Rattle.sheet_form_laws.specs.JoinForm.{Solid, joined-fields, fields-
 
 -- a field said, then the others
 said-on : (k : Kind) (ks : List Kind) (fs : List (List ℕ)) (v : Token) (vs : List Token) → Suits k v → lineFrom (nextKinds k v ++ ks) fs ≡ says vs
-    → after v (λ n. lineFrom (fieldsOf k n ++ ks) fs) (lineFrom ks fs) ≡ says (v ∷ vs)
+    → after v (λ n. lineFrom (kindsOf k n ++ ks) fs) (lineFrom ks fs) ≡ says (v ∷ vs)
 said-on k ks fs (literal s n) vs h e = ap (with (literal s n)) e
 said-on k ks fs (label n) vs h e = ap (with (label n)) e
 said-on k ks fs invalid vs h e = absurd (suits-some k h)
@@ -27,7 +27,7 @@ from-spelled [] (v ∷ vs) h = absurd h
 from-spelled (k ∷ ks) [] h = absurd h
 from-spelled (k ∷ ks) (v ∷ vs) h =
     let fs : List (List ℕ) = fieldsFrom (nextKinds k v ++ ks) vs in
-    ap (λ (x : Token). after x (λ n. lineFrom (fieldsOf k n ++ ks) fs) (lineFrom ks fs)) (said-spelled k v (h .0))
+    ap (λ (x : Token). after x (λ n. lineFrom (kindsOf k n ++ ks) fs) (lineFrom ks fs)) (said-spelled k v (h .0))
     ∙ said-on k ks fs v vs (h .0) (from-spelled (nextKinds k v ++ ks) vs (h .1))
 
 solid-from : (ks : List Kind) (vs : List Token) → Fits ks vs → Solid (fieldsFrom ks vs)

@@ -48,7 +48,7 @@ use Rattle.numeric_spec.specs.Field.{flagPlace, sizePlace, targetDirectionPlace
 use Rattle.numeric_spec.specs.Form.{placeOf}
 use Rattle.sheet_spec.specs.declared.Kind.{Kind}
 use Rattle.sheet_spec.specs.declared.Kind.the-variants as kind
-use Rattle.sheet_spec.specs.Grammar.{fieldsOf}
+use Rattle.sheet_spec.specs.Grammar.{kindsOf}
 use Rattle.sheet_spec.specs.Told.{HasLine}
 use Rattle.sheet_token_laws.specs.Numbers.{entries}
 use Rattle.sheet_form_laws.specs.Sorts.{Sort, none, _⊗_, number, integer, target, place, isNamed, Enum, variant, enum, choice}
@@ -149,7 +149,7 @@ operand =
 abbrev pub Law : {n : ℕ} {Z : Type 0} → Sort n Z → (Z → Instruction) → Z → Type 0
 Law {n} {Z} s con z =
     HasLine (con z) → (w : Z)
-    → _≡_ {A = Bool × List Kind × List Entry} (isNamed kind.Instruction (placeOf (con z)), fieldsOf kind.Instruction (placeOf (con z)), entries (con w)) (true, s .kinds, unsigned 98 (placeOf (con z)) ∷ s .form w)
+    → _≡_ {A = Bool × List Kind × List Entry} (isNamed kind.Instruction (placeOf (con z)), kindsOf kind.Instruction (placeOf (con z)), entries (con w)) (true, s .kinds, unsigned 98 (placeOf (con z)) ∷ s .form w)
 
 -- the sort of its fields, what makes it of their values, and these
 pub record Row (n : ℕ) (i : Instruction) : Type 1 where

@@ -13,7 +13,7 @@ use Rattle.numeric_spec.specs.Field.{longForm}
 use Rattle.sheet_spec.specs.declared.Kind.{Kind}
 use Rattle.sheet_spec.specs.declared.Kind.the-variants as kind
 use Rattle.sheet_spec.specs.Names.{bytes, namesOf}
-use Rattle.sheet_spec.specs.Grammar.{fieldsOf}
+use Rattle.sheet_spec.specs.Grammar.{kindsOf}
 use Rattle.sheet_spec.specs.Line.{Token, literal, label, invalid}
 use Rattle.sheet_spec.specs.Spell.{numberAs, Suits, Variant, nextKinds}
 use Rattle.sheet_spec.specs.Made.{names, namesAll}
@@ -83,7 +83,7 @@ same-number : (f : ℕ → ℕ) (b : Bool) (m : ℕ) → numberAs f (literal b m
 same-number f true m = refl
 same-number f false m = refl
 
-said-turned : {n : ℕ} {X : Type 0} {P : ((ℕ → ℕ) → X) → Type 0} (e : X → Entry) (x : X) → P (λ f. x) → (k : Kind) (b : Bool) (m : ℕ) → fieldsOf k m ≡ [] → (ks : List Kind) (vs : List Token) (es : List Entry)
+said-turned : {n : ℕ} {X : Type 0} {P : ((ℕ → ℕ) → X) → Type 0} (e : X → Entry) (x : X) → P (λ f. x) → (k : Kind) (b : Bool) (m : ℕ) → kindsOf k m ≡ [] → (ks : List Kind) (vs : List Token) (es : List Entry)
     → Input n (k ∷ ks) (literal b m ∷ vs) (e x ∷ es) → Inside (e x ∷ []) → Turned n X (λ z. e z ∷ []) P ks (literal b m ∷ vs) es
 said-turned e x p k b m c ks vs es h i =
     record {
@@ -97,7 +97,7 @@ said-turned e x p k b m c ks vs es h i =
 
 -- a kind whose fields say numbers that no fields follow
 abbrev pub Simple : Kind → Type 0
-Simple k = (m : ℕ) → (fieldsOf k m ≡ []) × (Suits k (label m) → ⊥) × (Suits k invalid → ⊥)
+Simple k = (m : ℕ) → (kindsOf k m ≡ []) × (Suits k (label m) → ⊥) × (Suits k invalid → ⊥)
 
 pub plain-turned : {n : ℕ} {X : Type 0} (k : Kind) → Simple k → (e : X → Entry) (x : X) → Turn n (λ z. e z ∷ []) (k ∷ []) (λ z. z) (λ y. Unit {0}) x
 plain-turned k s e x ks [] es h i = absurd (h .fits)
@@ -138,7 +138,7 @@ integer = record {
 abbrev pub Aimed : ℕ → ((ℕ → ℕ) → ℕ) → Type 0
 Aimed n y = (m : ℕ) × (1 ≤ m) × (m ≤ n) × ((f : ℕ → ℕ) → y f ≡ f m)
 
-pub aim-turned : {n : ℕ} {A : ((ℕ → ℕ) → ℕ) → Type 0} (k : Kind) → ((m : ℕ) → fieldsOf k m ≡ []) → (Suits k invalid → ⊥)
+pub aim-turned : {n : ℕ} {A : ((ℕ → ℕ) → ℕ) → Type 0} (k : Kind) → ((m : ℕ) → kindsOf k m ≡ []) → (Suits k invalid → ⊥)
     → (x : ℕ) → ((b : Bool) (m : ℕ) → Suits k (literal b m) → A (λ f. x)) → ((m : ℕ) → Aimed n (λ f. f m) → A (λ f. f m)) → Turn n longForm (k ∷ []) (λ x. 0) A x
 aim-turned k s t x p q ks [] es h i = absurd (h .fits)
 aim-turned k s t x p q ks (literal b m ∷ vs) es h i = said-turned (λ z. unsigned (2 ^ 32 - 1) z) x (λ f. refl, p b m (h .fits .0)) k b m (s m) ks vs es h i
@@ -193,7 +193,7 @@ Naming k = (n : ℕ) → (Variant k (literal false n) → Suits k (literal false
 
 -- ---- a variant and its fields
 pub chosen : {n : ℕ} {X Z : Type 0} {form : X → List Entry} {P : ((ℕ → ℕ) → X) → Type 0} (k : Kind) → ((v : Token) → Suits k v → Variant k v) → (top p : ℕ) (s : Sort n Z) (con : Z → X) (z : Z)
-    → (Variant k (literal false p) → (fieldsOf k p ≡ s .kinds) × ((w : Z) → form (con w) ≡ unsigned top p ∷ s .form w)
+    → (Variant k (literal false p) → (kindsOf k p ≡ s .kinds) × ((w : Z) → form (con w) ≡ unsigned top p ∷ s .form w)
     × ((y : (ℕ → ℕ) → Z) → ((f : ℕ → ℕ) → s .bare (y f) ≡ s .bare z) → s .Aims y → P (λ f. con (y f))))
     → (ks : List Kind) (vs : List Token) (es : List Entry) → Input n (k ∷ ks) vs (unsigned top p ∷ (s .form z ++ es)) → Inside (unsigned top p ∷ s .form z) → Turned n X form P ks vs es
 chosen k v top p s con z l ks [] es h i = absurd (h .fits)
@@ -224,13 +224,13 @@ pub record Enum (X : Type 0) : Type 0 where
   pub bare : X → X
 
 pub variant-fitting : {n : ℕ} {X Z : Type 0} (e : Enum X) (p : ℕ) → (leb p (e .top) ≡ true → isNamed (e .kind) p ≡ true) → (s : Sort n Z) (con : Z → X)
-    → ((w : Z) → _≡_ {A = List Kind × List Entry} (fieldsOf (e .kind) p, e .form (con w)) (s .kinds, unsigned (e .top) p ∷ s .form w))
+    → ((w : Z) → _≡_ {A = List Kind × List Entry} (kindsOf (e .kind) p, e .form (con w)) (s .kinds, unsigned (e .top) p ∷ s .form w))
     → (z : Z) (m : ℕ → Mark) (ks : List Kind) → Fitting (e .form) (e .kind ∷ []) (con z) m ks
 variant-fitting {n} {X} {Z} e p t s con law z m ks =
     let a = s .fitting z (λ n. m (suc n)) ks in
     let n = e .names p .1 (m 0) (e .top) in
     let l : (w : Z) → e .form (con w) ≡ unsigned (e .top) p ∷ s .form w = λ w. ap (λ t. t .1) (law w) in
-    let q : fieldsOf (e .kind) p ≡ s .kinds = ap (λ t. t .0) (law z) in
+    let q : kindsOf (e .kind) p ≡ s .kinds = ap (λ t. t .0) (law z) in
     record {
       bare = con (a .bare);
       next = a .next;
@@ -242,7 +242,7 @@ abbrev pub Variants : (n : ℕ) {X : Type 0} → Enum X → X → Type 0
 Variants n e x = Turn n (e .form) (e .kind ∷ []) (e .bare) (λ y. Unit {0}) x × ((m : ℕ → Mark) (ks : List Kind) → Fitting (e .form) (e .kind ∷ []) x m ks)
 
 pub variant : {n : ℕ} {X Z : Type 0} (e : Enum X) (p : ℕ) → (leb p (e .top) ≡ true → isNamed (e .kind) p ≡ true) → (s : Sort n Z) (con : Z → X) (z : Z)
-    → ((w : Z) → _≡_ {A = List Kind × List Entry × X} (fieldsOf (e .kind) p, e .form (con w), e .bare (con w)) (s .kinds, unsigned (e .top) p ∷ s .form w, con (s .bare w)))
+    → ((w : Z) → _≡_ {A = List Kind × List Entry × X} (kindsOf (e .kind) p, e .form (con w), e .bare (con w)) (s .kinds, unsigned (e .top) p ∷ s .form w, con (s .bare w)))
     → Variants n e (con z)
 variant {n} {X} {Z} e p t s con z law =
     let form : (w : Z) → e .form (con w) ≡ unsigned (e .top) p ∷ s .form w = λ w. ap (λ t. t .1) (law w) in
@@ -256,7 +256,7 @@ abbrev pub enum : {n : ℕ} {X : Type 0} (e : Enum X) → ((x : X) → Variants 
 enum e t = record { form = e .form; kinds = e .kind ∷ []; bare = e .bare; Aims = λ y. Unit {0}; turn = λ x. t x .0; fitting = λ x. t x .1 }
 
 -- an enum without fields
-abbrev pub choice : {n : ℕ} {X : Type 0} (k : Kind) → ((m : ℕ) → fieldsOf k m ≡ []) → ((v : Token) → Suits k v → Variant k v) → (top : ℕ) (p : X → ℕ) → all (isNamed k) (suc top) ≡ true → Naming k → Sort n X
+abbrev pub choice : {n : ℕ} {X : Type 0} (k : Kind) → ((m : ℕ) → kindsOf k m ≡ []) → ((v : Token) → Suits k v → Variant k v) → (top : ℕ) (p : X → ℕ) → all (isNamed k) (suc top) ≡ true → Naming k → Sort n X
 choice {n} {X} k s u top p t c = record {
   form = λ x. unsigned top (p x) ∷ [];
   kinds = k ∷ [];

@@ -3,7 +3,7 @@ use Prim.Native.Nat.{ℕ, _+_, _*_, _/_, _%_, _^_, _<_}
 use mathlib.Core.Path.{_≡_}
 use mathlib.Core.List.{List, [], _∷_}
 use Rattle.sheet_spec.specs.declared.Kind.{Kind}
-use Rattle.sheet_spec.specs.Grammar.{fieldsOf}
+use Rattle.sheet_spec.specs.Grammar.{kindsOf}
 use Rattle.sheet_kinds.specs.Packed.{codeOf, packed, kindAt}
 
 -- the codes of ks below a number
@@ -12,7 +12,7 @@ below [] n = n
 below (k ∷ ks) n = codeOf k + 32 * below ks n
 
 abbrev pub kindsAfter : ℕ → ℕ → ℕ
-kindsAfter kinds place = below (fieldsOf (kindAt (kinds % 32)) place) (kinds / 32)
+kindsAfter kinds place = below (kindsOf (kindAt (kinds % 32)) place) (kinds / 32)
 
 -- 64 bits hold the kinds of `fields` and n above them
 pub record Holds (fields n : ℕ) : Type 0 where

@@ -9,7 +9,7 @@ use lib.ListN.{length}
 use borrow.Author.Tests.{ltb-true}
 use Rattle.sheet_spec.specs.declared.Kind.{Kind}
 use Rattle.sheet_spec.specs.declared.Kind.the-variants as kind
-use Rattle.sheet_spec.specs.Grammar.{fieldsOf}
+use Rattle.sheet_spec.specs.Grammar.{kindsOf}
 use Rattle.sheet_kinds.specs.Packed.{codeOf, packed, kindAt}
 use Rattle.sheet_kinds.specs.Next.{below, kindsAfter, Holds, Joined}
 use Rattle.base_facts.specs.Tests.{and-true}
@@ -54,8 +54,8 @@ pub below-packed : (ks ls : List Kind) → below ks (packed ls) ≡ packed (ks +
 below-packed [] ls = refl
 below-packed (k ∷ ks) ls = ap (λ (n : ℕ). codeOf k + 32 * n) (below-packed ks ls)
 
-pub next-packed : (k : Kind) (ks : List Kind) (n : ℕ) → kindsAfter (packed (k ∷ ks)) n ≡ packed (fieldsOf k n ++ ks)
-next-packed k ks n = rw (packed-first k ks, packed-rest k ks) (below-packed (fieldsOf k n) ks)
+pub next-packed : (k : Kind) (ks : List Kind) (n : ℕ) → kindsAfter (packed (k ∷ ks)) n ≡ packed (kindsOf k n ++ ks)
+next-packed k ks n = rw (packed-first k ks, packed-rest k ks) (below-packed (kindsOf k n) ks)
 
 pub packed-small : (n : ℕ) (ks : List Kind) → length ks ≤ n → packed ks < 32 ^ n
 packed-small zero [] h = omega arith

@@ -9,7 +9,7 @@ use lib.ListN.{length, getD}
 use borrow.Author.Tests.{leb-true, ltb-true}
 use Rattle.sheet_spec.specs.declared.Kind.{Kind}
 use Rattle.sheet_spec.specs.declared.Kind.the-variants as kind
-use Rattle.sheet_spec.specs.Grammar.{operandFields, instructionFields, fieldsOf}
+use Rattle.sheet_spec.specs.Grammar.{operandKinds, instructionKinds, kindsOf}
 use Rattle.base_facts.specs.Tests.{and-true}
 
 -- the kinds that may stand for a kind at once
@@ -83,7 +83,7 @@ each-row k [] e n = within-true k [] e
 each-row k (row ∷ rows) e zero = within-true k row (and-true (within k row) (each k rows) e .0)
 each-row k (row ∷ rows) e (suc n) = each-row k rows (and-true (within k row) (each k rows) e .1) n
 
-fields-within : (k : Kind) (n : ℕ) → Within k (fieldsOf k n)
+fields-within : (k : Kind) (n : ℕ) → Within k (kindsOf k n)
 fields-within kind.Number n = within-true kind.Number [] refl
 fields-within kind.Target n = within-true kind.Target [] refl
 fields-within kind.Place n = within-true kind.Place [] refl
@@ -99,14 +99,14 @@ fields-within kind.BitFieldOperation n = within-true kind.BitFieldOperation [] r
 fields-within kind.FieldValue n = within-true kind.FieldValue (kind.Number ∷ []) refl
 fields-within kind.TrapOperand n = each-row kind.TrapOperand ([] ∷ (kind.Number ∷ []) ∷ (kind.Number ∷ []) ∷ []) refl n
 fields-within kind.RegisterChoice n = each-row kind.RegisterChoice ([] ∷ (kind.Number ∷ []) ∷ []) refl n
-fields-within kind.Operand n = each-row kind.Operand operandFields refl n
-fields-within kind.Instruction n = each-row kind.Instruction instructionFields refl n
+fields-within kind.Operand n = each-row kind.Operand operandKinds refl n
+fields-within kind.Instruction n = each-row kind.Instruction instructionKinds refl n
 
 -- the first kind's fields put in its place
-pub room-next : (k : Kind) (ks : List Kind) (n : ℕ) → total room (fieldsOf k n ++ ks) ≤ total room (k ∷ ks)
+pub room-next : (k : Kind) (ks : List Kind) (n : ℕ) → total room (kindsOf k n ++ ks) ≤ total room (k ∷ ks)
 room-next k ks n = rw total-append (omega (arith, fields-within k n .1))
 
-pub most-next : (k : Kind) (ks : List Kind) (n : ℕ) → total most (fieldsOf k n ++ ks) < total most (k ∷ ks)
+pub most-next : (k : Kind) (ks : List Kind) (n : ℕ) → total most (kindsOf k n ++ ks) < total most (k ∷ ks)
 most-next k ks n = rw total-append (omega (arith, fields-within k n .2))
 
 pub most-rest : (k : Kind) (ks : List Kind) → total most ks < total most (k ∷ ks)

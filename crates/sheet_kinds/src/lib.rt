@@ -2,7 +2,7 @@
 ghost use mathlib.Core.Path.{_≡_};
 ghost use Prim.Native.Nat.{_%_, _^_, _<_};
 ghost use lib.ListN.{getD};
-ghost use Rattle.sheet_spec.specs.Grammar.{fieldsOf};
+ghost use Rattle.sheet_spec.specs.Grammar.{kindsOf};
 ghost use Rattle.sheet_kinds.specs.Packed.{packed, kindAt};
 ghost use Rattle.sheet_kinds.specs.Next.{kindsAfter, Holds, Joined};
 use sheet_spec::Kind;
@@ -211,7 +211,7 @@ fn row(rows: &[u64], place: u64) -> u64
 
 // The fields of a kind's variant, in one number.
 fn fields_of(kind: Kind, place: u64) -> u64
-    ensures { λ r. ⌜ r ≡ packed (fieldsOf kind place) ⌝ }
+    ensures { λ r. ⌜ r ≡ packed (kindsOf kind place) ⌝ }
 {
     match kind {
         Kind::RegisterOperand => NUMBER,

@@ -80,7 +80,7 @@ module _ (text : List ℕ) (places room : ℕ) (ok : AcceptedSheet text places r
     line-accepted : reads.Accepted a i
     line-accepted = (
       inside-typed i (l .inside A (addresses-bounded text (measured text places room ok))),
-      counted.is-fine text places room ok n h g l,
+      counted.is-in-order text places room ok n h g l,
       l .follows .read A a (address-even n) (goes (l .follows .goes) .2),
     )
 

@@ -13,7 +13,7 @@ use Rattle.sheet_spec.specs.declared.Kind.{Kind}
 use Rattle.sheet_spec.specs.declared.Kind.the-variants as kind
 use Rattle.sheet_tokens.specs.declared.Value.{Value}
 use Rattle.sheet_tokens.specs.declared.Entries.{Entries}
-use Rattle.sheet_spec.specs.Grammar.{fieldsOf}
+use Rattle.sheet_spec.specs.Grammar.{kindsOf}
 use Rattle.sheet_spec.specs.Line.{Token, literal, label, invalid, token, Parsed, says, no, with, after, lineFrom, lineOf}
 use Rattle.sheet_spec.specs.Spell.{Suits}
 use Rattle.sheet_token_laws.specs.Fields.{Sorted, of-number, of-target, of-place, of-variant, sorted, said-suits, suits-some}
@@ -72,17 +72,17 @@ not-said (label n) h = absurd (false≢true (sym h))
 not-said invalid h = refl
 
 -- a line's name has no fields
-name-last : (k : Kind) (n m : ℕ) → Suits k (label n) → fieldsOf k m ≡ []
+name-last : (k : Kind) (n m : ℕ) → Suits k (label n) → kindsOf k m ≡ []
 name-last k n m = go (sorted k)
   where
-    go : {k : Kind} → Sorted k → Suits k (label n) → fieldsOf k m ≡ []
+    go : {k : Kind} → Sorted k → Suits k (label n) → kindsOf k m ≡ []
     go of-number h = absurd h
     go of-target h = refl
     go of-place h = refl
     go (of-variant x) h = absurd (x .suits (label n) h)
 
 said-on : (k : Kind) (ks : List Kind) (fs : List (List ℕ)) (v : Token) → Suits k v
-    → after v (λ n. lineFrom (fieldsOf k n ++ ks) fs) (lineFrom ks fs) ≡ with v (lineFrom (fieldsOf k (variantPlace (valueOf v)) ++ ks) fs)
+    → after v (λ n. lineFrom (kindsOf k n ++ ks) fs) (lineFrom ks fs) ≡ with v (lineFrom (kindsOf k (variantPlace (valueOf v)) ++ ks) fs)
 said-on k ks fs (literal s n) h = refl
 said-on k ks fs (label n) h = ap (λ (ls : List Kind). with (label n) (lineFrom (ls ++ ks) fs)) (sym (name-last k n 0 h))
 said-on k ks fs invalid h = absurd (suits-some k h)
@@ -90,9 +90,9 @@ said-on k ks fs invalid h = absurd (suits-some k h)
 -- one field more
 module _ (k : Kind) (ks : List Kind) (f : List ℕ) (fs : List (List ℕ)) where
   from-none : isSaid (valueOf (token k f)) ≡ false → lineFrom (k ∷ ks) (f ∷ fs) ≡ no
-  from-none t = ap (λ (v : Token). after v (λ n. lineFrom (fieldsOf k n ++ ks) fs) (lineFrom ks fs)) (not-said (token k f) t)
+  from-none t = ap (λ (v : Token). after v (λ n. lineFrom (kindsOf k n ++ ks) fs) (lineFrom ks fs)) (not-said (token k f) t)
 
-  from-on : isSaid (valueOf (token k f)) ≡ true → lineFrom (k ∷ ks) (f ∷ fs) ≡ with (token k f) (lineFrom (fieldsOf k (variantPlace (valueOf (token k f))) ++ ks) fs)
+  from-on : isSaid (valueOf (token k f)) ≡ true → lineFrom (k ∷ ks) (f ∷ fs) ≡ with (token k f) (lineFrom (kindsOf k (variantPlace (valueOf (token k f))) ++ ks) fs)
   from-on t = said-on k ks fs (token k f) (said-suits k f (token k f) refl (is-said (token k f) t))
 
 module _ (line : List ℕ) (e : Entries) (kinds from : ℕ) (r : Reading line e kinds from) where
@@ -132,7 +132,7 @@ module _ (line : List ℕ) (e : Entries) (kinds from : ℕ) (r : Reading line e 
         split (λ ks a.
         let k : Kind = kindAt (kinds % 32) in
         let fits : total room (k ∷ ks) ≤ 10 = rw a at (r .fits) in
-        let next : List Kind = fieldsOf k n ++ ks in
+        let next : List Kind = kindsOf k n ++ ks in
         let p : packed next < 32 ^ 10 = packed-small 10 next (omega (arith, length-room next, room-next k ks n)) in
         let z : kindsAfter kinds n ≡ packed next = ap (λ (x : ℕ). kindsAfter x n) (r .packs ∙ ap packed a) ∙ next-packed k ks n in
         omega arith)
@@ -164,10 +164,10 @@ module _ (line : List ℕ) (e : Entries) (kinds from : ℕ) (r : Reading line e 
           rw i
           (record {
             done = r .done ++ (v ∷ []);
-            ahead = fieldsOf k n ++ ks;
+            ahead = kindsOf k n ++ ks;
             entries = ap (λ (x : Entries). withValue x (valueOf v)) (r .entries) ∙ with-more (r .done) v (omega (arith, most-next k ks n)) (is-said v some-said);
             packs = ap (λ (x : ℕ). kindsAfter x n) (r .packs ∙ ap packed b) ∙ next-packed k ks n;
             fits = omega (arith, room-next k ks n);
             few = rw length-append (omega (arith, most-next k ks n));
-            whole = r .whole ∙ rw (b, parts-on) (ap (saidFirst (r .done)) (from-on k ks f rest some-said)) ∙ first-more (r .done) v (lineFrom (fieldsOf k n ++ ks) rest);
+            whole = r .whole ∙ rw (b, parts-on) (ap (saidFirst (r .done)) (from-on k ks f rest some-said)) ∙ first-more (r .done) v (lineFrom (kindsOf k n ++ ks) rest);
           }))

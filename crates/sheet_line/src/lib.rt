@@ -20,7 +20,7 @@ fn says(v: Value) -> bool
 }
 
 // The place that a variant's name says; 0 of a line's name, whose kind has no fields.
-fn number_in(v: Value) -> u64
+fn variant_place(v: Value) -> u64
     ensures { λ r. ⌜ r ≡ variantPlace v ⌝ }
 {
     match v {
@@ -49,7 +49,7 @@ pub fn read_line(line: &[u8]) -> Entries
             return sheet_entries::no_entries();
         }
         e = sheet_entries::with_value(e, v);
-        kinds = sheet_kinds::next(kinds, number_in(v));
+        kinds = sheet_kinds::next(kinds, variant_place(v));
         from = end + 1;
     }
     if kinds == 0 {

@@ -14,7 +14,7 @@ use Rattle.numeric_build.specs.declared.Built.the-variants as built
 use Rattle.sheet_spec.specs.Line.{lineOf}
 use Rattle.sheet_spec.specs.Made.{addressIn, namesIn, madeOf}
 use Rattle.encode_facts.specs.Items.{words-count}
-use Rattle.sheet_token_laws.specs.Listing.{both-fine, fine-zero, measured-size}
+use Rattle.sheet_token_laws.specs.Listing.{both-in-order, in-order-zero, measured-size}
 use Rattle.m68k_encode.specs.Lays.{instruction-lays}
 use Rattle.m68k_encode.specs.Laws.{places-law, encode-most}
 use Rattle.sheet_spec.specs.Sheet.{sizedAs, sizedOf, counted, total, addressesFrom, encodedLine, lineEncoded}
@@ -88,8 +88,8 @@ pub filled-addresses : (n k a : ℕ) (ls : List (List ℕ)) → sizesOutcome n k
     → filledOf n a ls ≡ addressesFrom n a ls
 filled-addresses n k a [] e h = refl
 filled-addresses n k a (l ∷ ls) e h =
-    let f = both-fine (asOutcome k (sizedOf n l .number) (sizedOf n l .detail) (sizedOf n l .value)) (sizesOutcome n (suc k) ls) e in
-    let z = fine-zero k (sizedOf n l .number) (sizedOf n l .detail) (sizedOf n l .value) (f .0) in
+    let f = both-in-order (asOutcome k (sizedOf n l .number) (sizedOf n l .detail) (sizedOf n l .value)) (sizesOutcome n (suc k) ls) e in
+    let z = in-order-zero k (sizedOf n l .number) (sizedOf n l .detail) (sizedOf n l .value) (f .0) in
     let low : a % 2 ^ 32 ≡ a = omega (arith, counted-least n l z) in
     let rest = filled-addresses n (suc k) (a + 2 * counted n l) ls (f .1) (omega arith) in
     rw (eq-eqb (sizedOf n l .number) 0 z, low, rest)

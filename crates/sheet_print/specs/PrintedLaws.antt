@@ -20,7 +20,7 @@ use Rattle.sheet_size_laws.specs.Counted.{counts, image-counts}
 use Rattle.sheet_token_laws.specs.SheetLaws.{count-most}
 use Rattle.sheet_passes.specs.PassLaws.{line-most, words-length}
 use Rattle.sheet_spec.specs.Promises.{Translated}
-use Rattle.sheet_translate.specs.OutcomeLaws.{Sound, verdict-sound}
+use Rattle.sheet_translate.specs.OutcomeLaws.{Sound, outcome-sound}
 use Rattle.sheet_translate.specs.PlaceLaws.{addresses-length}
 use Rattle.print_spec.specs.Printed.{listingOf, refusalText, printedOf}
 use Rattle.sheet_print.specs.Listing.{linesText, Laid}
@@ -67,7 +67,7 @@ accepted-listable text v s e =
 module _ {text v s v′ s′ : List ℕ} {r : Listed} (t : Translated text v s v′ s′ r) where
   pub listable : r .number ≡ 0 → Listable s′ v′ (r .lines) (r .words) (printedOf text (length s) (length v))
   unfolding listedOf imageOf scratchOf
-  listable h = go (outcomeOf text (length s) (length v)) refl (verdict-sound text (length s) (length v))
+  listable h = go (outcomeOf text (length s) (length v)) refl (outcome-sound text (length s) (length v))
     where
       go : (w : Outcome) → outcomeOf text (length s) (length v) ≡ w → Sound w
           → Listable s′ v′ (r .lines) (r .words) (printedOf text (length s) (length v))

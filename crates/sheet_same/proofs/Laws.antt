@@ -12,10 +12,10 @@ use Rattle.sheet_spec.specs.declared.Listed.{Listed}
 use Rattle.sheet_spec.specs.Translate.{Outcome, inOrder, refused, startIn, countIn, needIn, imageIn, outcomeOf, listedAs, listedOf, imageAs, imageOf, scratchOf, isInOrder, same}
 use Rattle.sheet_size_laws.specs.Outcomes.{accepted}
 use Rattle.sheet_spec.specs.Promises.{Translated, enough, Compared}
-use Rattle.sheet_translate.specs.OutcomeLaws.{Sound, verdict-sound}
+use Rattle.sheet_translate.specs.OutcomeLaws.{Sound, outcome-sound}
 use Rattle.sheet_translate.specs.PlaceLaws.{scratch-length, image-length, words-fit}
 use Rattle.sheet_translate.specs.Left.{left}
-use Rattle.sheet_same.specs.Room.{verdict-more}
+use Rattle.sheet_same.specs.Room.{outcome-more}
 use Rattle.base_facts.specs.Tests.{and-true}
 
 -- an answer's number is 0 exactly where nothing is refused
@@ -44,8 +44,8 @@ module _ (text v s v′ s′ : List ℕ) (r : Listed) (t : Translated text v s v
   unfolding listedOf
   judged h g =
       ap (λ (x : Listed). eqb (x .number) 0) (t .listed)
-      ∙ fine-number (outcomeOf text (length s) (length v)) (verdict-sound text (length s) (length v)) (countIn text) (needIn text)
-      ∙ ap isInOrder (verdict-more text (length s) (length v) h g)
+      ∙ fine-number (outcomeOf text (length s) (length v)) (outcome-sound text (length s) (length v)) (countIn text) (needIn text)
+      ∙ ap isInOrder (outcome-more text (length s) (length v) h g)
 
 both : (x y a b c d : Bool) → (x ≡ true → y ≡ true → (a ≡ c) × (b ≡ d)) → x && y && a && b ≡ x && y && c && d
 both true true a b c d f = let e = f refl refl in rw (e .0, e .1)

@@ -39,6 +39,6 @@ module _ (text : List ℕ) where
   with-room false e places room h g =
       by-tests places room ∙ ap (λ (t : Bool). by t (leb (countIn text) places) (leb (needIn text) room)) e
 
-  pub verdict-more : (places room : ℕ) → 4096 ≤ places → 45056 ≤ room → outcomeOf text places room ≡ outcomeOf text 4096 45056
-  verdict-more places room h g =
+  pub outcome-more : (places room : ℕ) → 4096 ≤ places → 45056 ≤ room → outcomeOf text places room ≡ outcomeOf text 4096 45056
+  outcome-more places room h g =
       with-room (isSheet text) refl places room h g ∙ sym (with-room (isSheet text) refl 4096 45056 (omega arith) (omega arith))

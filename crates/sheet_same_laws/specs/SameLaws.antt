@@ -12,9 +12,9 @@ use Rattle.sheet_spec.specs.Promises.{Same}
 use Rattle.base_facts.specs.Tests.{and-true}
 
 -- ---- exactly where
-is-fine : (w : Outcome) → isInOrder w ≡ true → w ≡ inOrder
-is-fine inOrder e = refl
-is-fine (refused number line detail value) e = absurd (false≢true e)
+is-in-order : (w : Outcome) → isInOrder w ≡ true → w ≡ inOrder
+is-in-order inOrder e = refl
+is-in-order (refused number line detail value) e = absurd (false≢true e)
 
 pub same-is : (s t : List ℕ) → same s t ≡ true → Same s t
 unfolding same
@@ -26,8 +26,8 @@ same-is s t e =
     let q = and-true (a && b) c (p .0) in
     let r = and-true a b (q .0) in
     record {
-      first = is-fine (outcomeOf s 4096 45056) (r .0);
-      second = is-fine (outcomeOf t 4096 45056) (r .1);
+      first = is-in-order (outcomeOf s 4096 45056) (r .0);
+      second = is-in-order (outcomeOf t 4096 45056) (r .1);
       starts = eqb-true (startIn s) (startIn t) (q .1);
       images = equal-is (imageIn s) (imageIn t) (p .1);
     }

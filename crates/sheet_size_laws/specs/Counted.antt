@@ -50,15 +50,15 @@ module _ (text : List ℕ) (places room : ℕ) (ok : AcceptedSheet text places r
     unfolding lineEncoded
     number-zero = subst (λ (b : Built). encodedLine b (addressOf text n) .number ≡ 0) made (ok .encoded n h g)
 
-    pub is-fine : refusalOf true i (addressOf text n) ≡ item.fine
+    pub is-in-order : refusalOf true i (addressOf text n) ≡ item.fine
     unfolding encodeOf
-    is-fine = encoded-fine (refusalOf true i (addressOf text n)) (wordsOf i (addressOf text n)) number-zero
+    is-in-order = encoded-fine (refusalOf true i (addressOf text n)) (wordsOf i (addressOf text n)) number-zero
 
     pub words-are : wordsAt text n ≡ wordsOf i (addressOf text n)
     unfolding lineEncoded encodeOf
     words-are =
         ap (λ (b : Built). take (encodedLine b (addressOf text n) .count) (encodedLine b (addressOf text n) .words)) made
-        ∙ taken (refusalOf true i (addressOf text n)) (wordsOf i (addressOf text n)) is-fine
+        ∙ taken (refusalOf true i (addressOf text n)) (wordsOf i (addressOf text n)) is-in-order
 
     pub counts-are : length (wordsOf i (addressOf text n)) ≡ countOf text n
     counts-are =

@@ -19,7 +19,7 @@ use Rattle.sheet_spec.specs.Sheet as sheet
 use Rattle.sheet_spec.specs.Translate.{Outcome, inOrder, andThen, require, startOutcome, startNumber, asOutcome, sizesOutcome, rangesOutcome, startIn, countIn, addressesIn, needIn, outcomeOf}
 use Rattle.sheet_spec.specs.Promises.{AcceptedSheet}
 use Rattle.sheet_token_laws.specs.SheetLaws.{outline, count-feeds}
-use Rattle.sheet_token_laws.specs.Listing.{refused-not, both-fine, unless-true, as-fine, fine-zero}
+use Rattle.sheet_token_laws.specs.Listing.{refused-not, both-in-order, require-true, as-in-order, in-order-zero}
 use Rattle.sheet_size_laws.specs.Image.{further}
 use Rattle.base_facts.specs.Tests.{and-true}
 
@@ -47,48 +47,48 @@ pub start-low : (text : List ℕ) → startIn text < 2 ^ 32
 start-low text = fields-low (fields (startLine text))
 
 start-even : (s : Start) → startOutcome s ≡ inOrder → (s ≡ at (startNumber s)) × (startNumber s % 2 ≡ 0)
-start-even (at n) e = (refl, eqb-true (n % 2) 0 (unless-true (eqb (n % 2) 0) 9 e))
+start-even (at n) e = (refl, eqb-true (n % 2) 0 (require-true (eqb (n % 2) 0) 9 e))
 start-even notInForm e = refused-not e
 
 -- ---- each line
-sizes-fine : (n k : ℕ) (ls : List (List ℕ)) → sizesOutcome n k ls ≡ inOrder → (j : ℕ) → j < length ls → sizedOf n (getD ls j []) .number ≡ 0
-sizes-fine n k [] e j h = absurd (omega arith)
-sizes-fine n k (l ∷ ls) e zero h = fine-zero k _ (sizedOf n l .detail) (sizedOf n l .value) (both-fine _ (sizesOutcome n (suc k) ls) e .0)
-sizes-fine n k (l ∷ ls) e (suc j) h = sizes-fine n (suc k) ls (both-fine (asOutcome k (sizedOf n l .number) (sizedOf n l .detail) (sizedOf n l .value)) _ e .1) j (omega arith)
+sizes-in-order : (n k : ℕ) (ls : List (List ℕ)) → sizesOutcome n k ls ≡ inOrder → (j : ℕ) → j < length ls → sizedOf n (getD ls j []) .number ≡ 0
+sizes-in-order n k [] e j h = absurd (omega arith)
+sizes-in-order n k (l ∷ ls) e zero h = in-order-zero k _ (sizedOf n l .detail) (sizedOf n l .value) (both-in-order _ (sizesOutcome n (suc k) ls) e .0)
+sizes-in-order n k (l ∷ ls) e (suc j) h = sizes-in-order n (suc k) ls (both-in-order (asOutcome k (sizedOf n l .number) (sizedOf n l .detail) (sizedOf n l .value)) _ e .1) j (omega arith)
 
-ranges-fine : (A : List ℕ) (n k a : ℕ) (ls : List (List ℕ)) → rangesOutcome A n k a ls ≡ inOrder
+ranges-in-order : (A : List ℕ) (n k a : ℕ) (ls : List (List ℕ)) → rangesOutcome A n k a ls ≡ inOrder
     → (j : ℕ) → j < length ls → lineEncoded A (getD ls j []) (a + 2 * total n (take j ls)) .number ≡ 0
-ranges-fine A n k a [] e j h = absurd (omega arith)
-ranges-fine A n k a (l ∷ ls) e zero h =
+ranges-in-order A n k a [] e j h = absurd (omega arith)
+ranges-in-order A n k a (l ∷ ls) e zero h =
     ap (λ (x : ℕ). lineEncoded A l x .number) (add-zero a)
-    ∙ fine-zero k _ (lineEncoded A l a .detail) (lineEncoded A l a .value) (both-fine _ (rangesOutcome A n (suc k) (a + 2 * counted n l) ls) e .0)
-ranges-fine A n k a (l ∷ ls) e (suc j) h =
+    ∙ in-order-zero k _ (lineEncoded A l a .detail) (lineEncoded A l a .value) (both-in-order _ (rangesOutcome A n (suc k) (a + 2 * counted n l) ls) e .0)
+ranges-in-order A n k a (l ∷ ls) e (suc j) h =
     ap (λ (x : ℕ). lineEncoded A (getD ls j []) x .number) (sym (further a (counted n l) (total n (take j ls))))
-    ∙ ranges-fine A n (suc k) (a + 2 * counted n l) ls (both-fine (asOutcome k (lineEncoded A l a .number) (lineEncoded A l a .detail) (lineEncoded A l a .value)) _ e .1) j (omega arith)
+    ∙ ranges-in-order A n (suc k) (a + 2 * counted n l) ls (both-in-order (asOutcome k (lineEncoded A l a .number) (lineEncoded A l a .detail) (lineEncoded A l a .value)) _ e .1) j (omega arith)
 
 -- ---- an accepted sheet
 
 pub accepted : (text : List ℕ) (places room : ℕ) → outcomeOf text places room ≡ inOrder → AcceptedSheet text places room
 unfolding outcomeOf
 accepted text places room e =
-    let a = both-fine (require (isSheet text) 10) _ e in
-    let b = both-fine (startOutcome (startOf (startLine text))) _ (a .1) in
-    let c = both-fine (require (leb (countIn text) places) 11) _ (b .1) in
-    let d = both-fine (sizesOutcome (countIn text) 1 (linesIn text)) _ (c .1) in
-    let f = both-fine (require (leb (startIn text + 2 * needIn text) (2 ^ 32)) 9) _ (d .1) in
-    let g = both-fine (require (leb (needIn text) room) 11) _ (f .1) in
-    let s = unless-true (isSheet text) 10 (a .0) in
+    let a = both-in-order (require (isSheet text) 10) _ e in
+    let b = both-in-order (startOutcome (startOf (startLine text))) _ (a .1) in
+    let c = both-in-order (require (leb (countIn text) places) 11) _ (b .1) in
+    let d = both-in-order (sizesOutcome (countIn text) 1 (linesIn text)) _ (c .1) in
+    let f = both-in-order (require (leb (startIn text + 2 * needIn text) (2 ^ 32)) 9) _ (d .1) in
+    let g = both-in-order (require (leb (needIn text) room) 11) _ (f .1) in
+    let s = require-true (isSheet text) 10 (a .0) in
     let t = start-even (startOf (startLine text)) (b .0) in
     record {
       sheet = s;
       lines-some = omega (arith, count-feeds text s, outline text s .least);
       start = t .0;
       even = t .1;
-      scratch = leb-true (countIn text) places (unless-true _ 11 (c .0));
-      sized = λ n h k. sizes-fine (countIn text) 1 (linesIn text) (d .0) (pred n) (omega arith);
-      ends = leb-true (startIn text + 2 * needIn text) (2 ^ 32) (unless-true _ 9 (f .0));
-      image = leb-true (needIn text) room (unless-true _ 11 (g .0));
-      encoded = λ n h k. ranges-fine (addressesIn text) (countIn text) 1 (startIn text) (linesIn text) (g .1) (pred n) (omega arith);
+      scratch = leb-true (countIn text) places (require-true _ 11 (c .0));
+      sized = λ n h k. sizes-in-order (countIn text) 1 (linesIn text) (d .0) (pred n) (omega arith);
+      ends = leb-true (startIn text + 2 * needIn text) (2 ^ 32) (require-true _ 9 (f .0));
+      image = leb-true (needIn text) room (require-true _ 11 (g .0));
+      encoded = λ n h k. ranges-in-order (addressesIn text) (countIn text) 1 (startIn text) (linesIn text) (g .1) (pred n) (omega arith);
     }
 
 -- ---- no refusal comes otherwise
@@ -99,7 +99,7 @@ unless-is false k e = absurd (false≢true e)
 sizes-all : (n k : ℕ) (ls : List (List ℕ)) → ((j : ℕ) → j < length ls → sizedOf n (getD ls j []) .number ≡ 0) → sizesOutcome n k ls ≡ inOrder
 sizes-all n k [] h = refl
 sizes-all n k (l ∷ ls) h =
-    ap (λ v. andThen v (sizesOutcome n (suc k) ls)) (as-fine k (sizedOf n l .number) (sizedOf n l .detail) (sizedOf n l .value) (h 0 (omega arith)))
+    ap (λ v. andThen v (sizesOutcome n (suc k) ls)) (as-in-order k (sizedOf n l .number) (sizedOf n l .detail) (sizedOf n l .value) (h 0 (omega arith)))
     ∙ sizes-all n (suc k) ls (λ j q. h (suc j) (omega arith))
 
 ranges-all : (A : List ℕ) (n k a : ℕ) (ls : List (List ℕ))
@@ -107,7 +107,7 @@ ranges-all : (A : List ℕ) (n k a : ℕ) (ls : List (List ℕ))
 ranges-all A n k a [] h = refl
 ranges-all A n k a (l ∷ ls) h =
     let first = ap (λ (x : ℕ). lineEncoded A l x .number) (sym (add-zero a)) ∙ h 0 (omega arith) in
-    ap (λ v. andThen v (rangesOutcome A n (suc k) (a + 2 * counted n l) ls)) (as-fine k (lineEncoded A l a .number) (lineEncoded A l a .detail) (lineEncoded A l a .value) first)
+    ap (λ v. andThen v (rangesOutcome A n (suc k) (a + 2 * counted n l) ls)) (as-in-order k (lineEncoded A l a .number) (lineEncoded A l a .detail) (lineEncoded A l a .value) first)
     ∙ ranges-all A n (suc k) (a + 2 * counted n l) ls
     (λ j q. ap (λ (x : ℕ). lineEncoded A (getD ls j []) x .number) (further a (counted n l) (total n (take j ls))) ∙ h (suc j) (omega arith))
 

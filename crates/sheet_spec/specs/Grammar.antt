@@ -5,8 +5,8 @@ use lib.ListN.{getD}
 use Rattle.sheet_spec.specs.declared.Kind.{Kind}
 use Rattle.sheet_spec.specs.declared.Kind.the-variants as kind
 
-abbrev pub operandFields : List (List Kind)
-operandFields =
+abbrev pub operandKinds : List (List Kind)
+operandKinds =
     (kind.Number ∷ [])  -- Immediate
     ∷ (kind.RegisterOperand ∷ [])  -- Register
     ∷ (kind.Number ∷ [])  -- Indirect
@@ -20,8 +20,8 @@ operandFields =
     ∷ (kind.Number ∷ kind.AddressWidth ∷ [])  -- Absolute
     ∷ []
 
-abbrev pub instructionFields : List (List Kind)
-instructionFields =
+abbrev pub instructionKinds : List (List Kind)
+instructionKinds =
     (kind.Operand ∷ kind.RegisterOperand ∷ kind.Size ∷ [])  -- ADDA
     ∷ (kind.Operand ∷ kind.RegisterOperand ∷ kind.Size ∷ [])  -- SUBA
     ∷ (kind.Operand ∷ kind.RegisterOperand ∷ kind.Size ∷ [])  -- CMPA
@@ -123,21 +123,21 @@ instructionFields =
     ∷ (kind.Operand ∷ kind.Number ∷ kind.Number ∷ kind.Number ∷ kind.Sign ∷ [])  -- DIVL
     ∷ []
 
-abbrev pub fieldsOf : Kind → ℕ → List Kind
-fieldsOf kind.Number k = []
-fieldsOf kind.Target k = []
-fieldsOf kind.Place k = []
-fieldsOf kind.Size k = []
-fieldsOf kind.TargetDirection k = []
-fieldsOf kind.RegisterOperand k = kind.Number ∷ []
-fieldsOf kind.AddressWidth k = []
-fieldsOf kind.Condition k = []
-fieldsOf kind.BranchSize k = []
-fieldsOf kind.ShiftDirection k = []
-fieldsOf kind.Sign k = []
-fieldsOf kind.BitFieldOperation k = []
-fieldsOf kind.FieldValue k = kind.Number ∷ []
-fieldsOf kind.TrapOperand k = getD ([] ∷ (kind.Number ∷ []) ∷ (kind.Number ∷ []) ∷ []) k []
-fieldsOf kind.RegisterChoice k = getD ([] ∷ (kind.Number ∷ []) ∷ []) k []
-fieldsOf kind.Operand k = getD operandFields k []
-fieldsOf kind.Instruction k = getD instructionFields k []
+abbrev pub kindsOf : Kind → ℕ → List Kind
+kindsOf kind.Number k = []
+kindsOf kind.Target k = []
+kindsOf kind.Place k = []
+kindsOf kind.Size k = []
+kindsOf kind.TargetDirection k = []
+kindsOf kind.RegisterOperand k = kind.Number ∷ []
+kindsOf kind.AddressWidth k = []
+kindsOf kind.Condition k = []
+kindsOf kind.BranchSize k = []
+kindsOf kind.ShiftDirection k = []
+kindsOf kind.Sign k = []
+kindsOf kind.BitFieldOperation k = []
+kindsOf kind.FieldValue k = kind.Number ∷ []
+kindsOf kind.TrapOperand k = getD ([] ∷ (kind.Number ∷ []) ∷ (kind.Number ∷ []) ∷ []) k []
+kindsOf kind.RegisterChoice k = getD ([] ∷ (kind.Number ∷ []) ∷ []) k []
+kindsOf kind.Operand k = getD operandKinds k []
+kindsOf kind.Instruction k = getD instructionKinds k []

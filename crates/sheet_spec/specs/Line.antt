@@ -10,7 +10,7 @@ use Rattle.base_spec.specs.Number.{numberOf, isDecimal, value}
 use Rattle.sheet_spec.specs.declared.Kind.{Kind}
 use Rattle.sheet_spec.specs.declared.Kind.the-variants as kind
 use Rattle.sheet_spec.specs.Names.{bytes, namesOf}
-use Rattle.sheet_spec.specs.Grammar.{fieldsOf}
+use Rattle.sheet_spec.specs.Grammar.{kindsOf}
 
 -- what one field says: a number, a line's name, or nothing in the form; a variant's name says its place
 pub data Token : Type 0 where
@@ -86,7 +86,7 @@ abbrev pub lineFrom : List Kind → List (List ℕ) → Parsed
 lineFrom [] [] = says []
 lineFrom [] (f ∷ fs) = no
 lineFrom (k ∷ ks) [] = no
-lineFrom (k ∷ ks) (f ∷ fs) = after (token k f) (λ n. lineFrom (fieldsOf k n ++ ks) fs) (lineFrom ks fs)
+lineFrom (k ∷ ks) (f ∷ fs) = after (token k f) (λ n. lineFrom (kindsOf k n ++ ks) fs) (lineFrom ks fs)
 
 unfoldable pub lineOf : List ℕ → Parsed
 lineOf text = lineFrom (kind.Instruction ∷ []) (fields text)

@@ -13,7 +13,7 @@ use Rattle.base_spec.specs.Written.{decimalOf}
 use Rattle.sheet_spec.specs.declared.Kind.{Kind}
 use Rattle.sheet_spec.specs.declared.Kind.the-variants as kind
 use Rattle.sheet_spec.specs.Names.{bytes, namesOf}
-use Rattle.sheet_spec.specs.Grammar.{fieldsOf}
+use Rattle.sheet_spec.specs.Grammar.{kindsOf}
 use Rattle.sheet_spec.specs.Line.{Token, literal, label, invalid}
 
 abbrev pub signText : Bool → List ℕ
@@ -95,7 +95,7 @@ Suits kind.Instruction v = Variant kind.Instruction v
 
 -- the fields that come next
 abbrev pub nextKinds : Kind → Token → List Kind
-nextKinds k (literal negative n) = fieldsOf k n
+nextKinds k (literal negative n) = kindsOf k n
 nextKinds k (label n) = []
 nextKinds k invalid = []
 

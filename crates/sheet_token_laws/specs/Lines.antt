@@ -7,7 +7,7 @@ use native.Mathlib.Omega.{arith}
 use Rattle.base_spec.specs.Parts.{fields}
 use Rattle.sheet_spec.specs.declared.Kind.{Kind}
 use Rattle.sheet_spec.specs.declared.Kind.the-variants as kind
-use Rattle.sheet_spec.specs.Grammar.{fieldsOf}
+use Rattle.sheet_spec.specs.Grammar.{kindsOf}
 use Rattle.sheet_spec.specs.Line.{Token, literal, label, invalid, token, Parsed, says, no, with, after, lineFrom, lineOf}
 use Rattle.sheet_spec.specs.Spell.{nextKinds, Fits}
 use Rattle.sheet_token_laws.specs.Fields.{said-suits}
@@ -36,9 +36,9 @@ module _ (P : List Kind → List (List ℕ) → List Token → Type 0) (none : P
   by-fields (k ∷ ks) [] vs e = absurd (no-says e)
   by-fields (k ∷ ks) (f ∷ fs) vs e = go (token k f) refl e (λ ls ws q. by-fields ls fs ws q)
     where
-      go : (v : Token) → token k f ≡ v → after v (λ n. lineFrom (fieldsOf k n ++ ks) fs) (lineFrom ks fs) ≡ says vs
+      go : (v : Token) → token k f ≡ v → after v (λ n. lineFrom (kindsOf k n ++ ks) fs) (lineFrom ks fs) ≡ says vs
           → ((ls : List Kind) (ws : List Token) → lineFrom ls fs ≡ says ws → P ls fs ws) → P (k ∷ ks) (f ∷ fs) vs
-      go (literal s n) t q next = first k ks f fs (literal s n) vs t literal-some (lineFrom (fieldsOf k n ++ ks) fs) q (next (fieldsOf k n ++ ks))
+      go (literal s n) t q next = first k ks f fs (literal s n) vs t literal-some (lineFrom (kindsOf k n ++ ks) fs) q (next (kindsOf k n ++ ks))
       go (label n) t q next = first k ks f fs (label n) vs t naming-some (lineFrom ks fs) q (next ks)
       go invalid t q next = absurd (no-says q)
 

@@ -16,22 +16,22 @@ use Rattle.sheet_spec.specs.Translate.{Outcome, inOrder, refused, andThen, requ
 pub refused-not : {C : Type 0} {number line detail : ℕ} {value : ℤ} → refused number line detail value ≡ inOrder → C
 refused-not e = let z : _≡_ {A = ℕ} 0 1 = cc in absurd (omega arith)
 
-pub both-fine : (u v : Outcome) → andThen u v ≡ inOrder → (u ≡ inOrder) × (v ≡ inOrder)
-both-fine inOrder v e = (refl, e)
-both-fine (refused number line detail value) v e = refused-not e
+pub both-in-order : (u v : Outcome) → andThen u v ≡ inOrder → (u ≡ inOrder) × (v ≡ inOrder)
+both-in-order inOrder v e = (refl, e)
+both-in-order (refused number line detail value) v e = refused-not e
 
-pub unless-true : (b : Bool) (k : ℕ) → require b k ≡ inOrder → b ≡ true
-unless-true true k e = refl
-unless-true false k e = refused-not e
+pub require-true : (b : Bool) (k : ℕ) → require b k ≡ inOrder → b ≡ true
+require-true true k e = refl
+require-true false k e = refused-not e
 
-pub as-fine : (k number detail : ℕ) (value : ℤ) → number ≡ 0 → asOutcome k number detail value ≡ inOrder
-as-fine k number detail value e = rw e
+pub as-in-order : (k number detail : ℕ) (value : ℤ) → number ≡ 0 → asOutcome k number detail value ≡ inOrder
+as-in-order k number detail value e = rw e
 
 pub as-refused : (k number detail : ℕ) (value : ℤ) → (number ≡ 0 → ⊥) → asOutcome k number detail value ≡ refused number k detail value
 as-refused k number detail value e = rw (ne-eqb number 0 e)
 
-pub fine-zero : (k number detail : ℕ) (value : ℤ) → asOutcome k number detail value ≡ inOrder → number ≡ 0
-fine-zero k number detail value e = go (eqb number 0) refl e
+pub in-order-zero : (k number detail : ℕ) (value : ℤ) → asOutcome k number detail value ≡ inOrder → number ≡ 0
+in-order-zero k number detail value e = go (eqb number 0) refl e
   where
     go : (t : Bool) → eqb number 0 ≡ t → cond t inOrder (refused number k detail value) ≡ inOrder → number ≡ 0
     go true h e = eqb-true number 0 h

@@ -16,7 +16,7 @@ use Rattle.sheet_token_laws.specs.SheetLaws.{outline, count-feeds, count-most, 
 use Rattle.sheet_spec.specs.declared.Listed.{Listed}
 use Rattle.sheet_spec.specs.Sheet.{feeds, isSheet, startLine, linesIn, Start, at, notInForm, startOf, total}
 use Rattle.sheet_spec.specs.Translate.{Outcome, inOrder, refused, andThen, require, startOutcome, startNumber, asOutcome, sizesOutcome, startIn, countIn, needIn, addressesIn, imageIn, outcomeOf, listedAs, over}
-use Rattle.sheet_token_laws.specs.Listing.{as-fine, as-refused, over-length}
+use Rattle.sheet_token_laws.specs.Listing.{as-in-order, as-refused, over-length}
 use Rattle.sheet_size_laws.specs.Outcomes.{accepted}
 use Rattle.sheet_size_laws.specs.Counted.{image-counts}
 use Rattle.sheet_passes.specs.declared.Passed.{Passed}
@@ -25,7 +25,7 @@ use Rattle.sheet_passes.specs.PassLaws.{total-most, filled-addresses}
 use Rattle.sheet_translate.specs.Translated.{outcomeNumber, openingOf, sizesIn, closingOf, rangesIn, SizedSheet}
 use Rattle.sheet_spec.specs.Promises.{Translated}
 use Rattle.sheet_translate.specs.OutcomeLaws.{Sound, sizes-sound, ranges-sound}
-use Rattle.sheet_translate.specs.StageLaws.{stages, opening-outside, closing-outside, Opened, opened, Closed, closed, by-verdict, turned-away}
+use Rattle.sheet_translate.specs.StageLaws.{stages, opening-outside, closing-outside, Opened, opened, Closed, closed, by-outcome, turned-away}
 use Rattle.sheet_translate.specs.PlaceLaws.{over-take, over-same, addresses-length, addresses-first, filled-length, from-over}
 
 -- ---- one more zero in the front
@@ -88,7 +88,7 @@ module _ (text : List ℕ) (places k : ℕ) (e : k ≡ outcomeNumber (openingOf 
   opening-is = opening-outside text places ∙ ap (λ (x : ℕ). asOutcome 0 x 0 (pos 0)) (sym e)
 
   pub opening-fine : k ≡ 0 → openingOf text places ≡ inOrder
-  opening-fine h = opening-is ∙ as-fine 0 k 0 (pos 0) h
+  opening-fine h = opening-is ∙ as-in-order 0 k 0 (pos 0) h
 
 pub refused-opening : (text v s : List ℕ) (k : ℕ) → k ≡ outcomeNumber (openingOf text (length s)) → (k ≡ 0 → ⊥)
     → (s′ : List ℕ) (r : Listed) → r ≡ listedAs (refused k 0 0 (pos 0)) 0 0 → s′ ≡ replicate (length s) 0 → Translated text v s v s′ r
@@ -149,16 +149,16 @@ module _ {text : List ℕ} {from lines words : ℕ} {v s : List ℕ} (z : SizedS
         (z .verdict ∙ ranged ∙ as-refused (p .line) (p .number) (p .detail) (p .value) h) s′ r f g
 
     module _ (h : p .number ≡ 0) where
-      is-fine : outcomeOf text (length s) (length v) ≡ inOrder
-      is-fine = z .verdict ∙ ranged ∙ as-fine (p .line) (p .number) (p .detail) (p .value) h
+      is-in-order : outcomeOf text (length s) (length v) ≡ inOrder
+      is-in-order = z .verdict ∙ ranged ∙ as-in-order (p .line) (p .number) (p .detail) (p .value) h
 
       pub image-fits : length (imageAt (take lines s) (linesAt text from)) ≤ length v
       image-fits =
-          omega (arith, ap length image-is, image-counts text (length s) (length v) is-fine, accepted text (length s) (length v) is-fine .image)
+          omega (arith, ap length image-is, image-counts text (length s) (length v) is-in-order, accepted text (length s) (length v) is-in-order .image)
 
       pub laid : (v′ : List ℕ) → v′ ≡ over (imageAt (take lines s) (linesAt text from)) v → Translated text v s v′ s (listedAs inOrder lines words)
       laid v′ f =
-          by-verdict text v s inOrder is-fine v′ s (listedAs inOrder lines words) (rw (z .counted, z .needed))
+          by-outcome text v s inOrder is-in-order v′ s (listedAs inOrder lines words) (rw (z .counted, z .needed))
           (f ∙ ap (λ (ws : List ℕ). over ws v) image-is) (sym (over-same lines (addressesIn text) s (z .addresses) (z .places)))
 
 -- ---- the lines of a sheet whose opening is in order
@@ -224,11 +224,11 @@ module _ (text v s : List ℕ) (o : openingOf text (length s) ≡ inOrder) (n : 
             (after (refused (p .number) (p .line) (p .detail) (p .value)) (measured ∙ as-refused (p .line) (p .number) (p .detail) (p .value) h)) s′ r f (zeroed s′ g)
 
         module _ (h : p .number ≡ 0) where
-          sizes-fine : sizesIn text ≡ inOrder
-          sizes-fine = measured ∙ as-fine (p .line) (p .number) (p .detail) (p .value) h
+          sizes-in-order : sizesIn text ≡ inOrder
+          sizes-in-order = measured ∙ as-in-order (p .line) (p .number) (p .detail) (p .value) h
 
           needed : p .words ≡ needIn text
-          needed = passed-words (sizesIn text) (needIn text) p pass-is sizes-fine
+          needed = passed-words (sizesIn text) (needIn text) p pass-is sizes-in-order
 
           pub words-most : p .words ≤ 45056
           words-most = omega (arith, needed, total-most (countIn text) (linesIn text), few, counted)
@@ -243,15 +243,15 @@ module _ (text v s : List ℕ) (o : openingOf text (length s) ≡ inOrder) (n : 
                 → s′ ≡ replicate (length s₁) 0 → Translated text v s v s′ r
             refused-end m s′ r f g =
                 turned-away text v s k 0 0 (pos 0)
-                (after inOrder sizes-fine ∙ ap (λ (x : Outcome). andThen x (rangesIn text)) (ended ∙ as-refused 0 k 0 (pos 0) m)) s′ r f (zeroed s′ g)
+                (after inOrder sizes-in-order ∙ ap (λ (x : Outcome). andThen x (rangesIn text)) (ended ∙ as-refused 0 k 0 (pos 0) m)) s′ r f (zeroed s′ g)
 
             module _ (m : k ≡ 0) where
               close : Closed (startIn text) (needIn text) (length v)
-              close = closed (startIn text) (needIn text) (length v) (ended ∙ as-fine 0 k 0 (pos 0) m)
+              close = closed (startIn text) (needIn text) (length v) (ended ∙ as-in-order 0 k 0 (pos 0) m)
 
               addressed : s₁ ≡ over (addressesIn text) s
               addressed =
-                  filled ∙ ap (λ (x : List ℕ). over x s) (filled-addresses (countIn text) 1 (startIn text) (linesIn text) sizes-fine (close .ends))
+                  filled ∙ ap (λ (x : List ℕ). over x s) (filled-addresses (countIn text) 1 (startIn text) (linesIn text) sizes-in-order (close .ends))
 
               pub ready : SizedSheet text from (n - 1) (p .words) v s₁
               ready =
@@ -263,8 +263,8 @@ module _ (text v s : List ℕ) (o : openingOf text (length s) ≡ inOrder) (n : 
                     needed = needed;
                     places = omega (arith, kept, counted, begun .scratch);
                     addresses = rw addressed (over-take (addressesIn text) s (n - 1) (addresses-length (countIn text) (startIn text) (linesIn text) ∙ sym counted));
-                    verdict = ap (λ (x : ℕ). outcomeOf text x (length v)) kept ∙ after inOrder sizes-fine
-                        ∙ ap (λ (x : Outcome). andThen x (rangesIn text)) (ended ∙ as-fine 0 k 0 (pos 0) m);
+                    verdict = ap (λ (x : ℕ). outcomeOf text x (length v)) kept ∙ after inOrder sizes-in-order
+                        ∙ ap (λ (x : Outcome). andThen x (rangesIn text)) (ended ∙ as-in-order 0 k 0 (pos 0) m);
                   }
 
               pub done : (v′ s′ : List ℕ) (r : Listed) → Translated text v s₁ v′ s′ r → Translated text v s v′ s′ r

@@ -11,7 +11,7 @@ use Rattle.sheet_spec.specs.Follow.{addressOf}
 use Rattle.sheet_size_laws.specs.Image.{address-is}
 use Rattle.sheet_size_laws.specs.Counted.{image-counts}
 use Rattle.sheet_spec.specs.Promises.{Translated}
-use Rattle.sheet_translate.specs.OutcomeLaws.{Sound, verdict-sound}
+use Rattle.sheet_translate.specs.OutcomeLaws.{Sound, outcome-sound}
 use Rattle.sheet_translate.specs.PlaceLaws.{over-take, addresses-length}
 
 -- ---- an answer with no number is an accepted sheet's
@@ -22,7 +22,7 @@ listed-fine (refused number line detail value) s lines words e = absurd (s e)
 number-fine : (text : List ℕ) (places room : ℕ) (r : Listed) → r ≡ listedOf text places room → r .number ≡ 0 → outcomeOf text places room ≡ inOrder
 unfolding listedOf
 number-fine text places room r e h =
-    listed-fine (outcomeOf text places room) (verdict-sound text places room) (countIn text) (needIn text) (ap (λ (x : Listed). x .number) (sym e) ∙ h)
+    listed-fine (outcomeOf text places room) (outcome-sound text places room) (countIn text) (needIn text) (ap (λ (x : Listed). x .number) (sym e) ∙ h)
 
 pub record Left (text v s v′ s′ : List ℕ) (r : Listed) : Type 0 where
   pub accepts : outcomeOf text (length s) (length v) ≡ inOrder

@@ -46,9 +46,9 @@ ranges-sound A n k a (l ∷ ls) =
     or-sound (asOutcome k (e .number) (e .detail) (e .value)) (rangesOutcome A n (suc k) (a + 2 * counted n l) ls)
     (line-sound k (e .number) (e .detail) (e .value)) (ranges-sound A n (suc k) (a + 2 * counted n l) ls)
 
-pub verdict-sound : (text : List ℕ) (places room : ℕ) → Sound (outcomeOf text places room)
+pub outcome-sound : (text : List ℕ) (places room : ℕ) → Sound (outcomeOf text places room)
 unfolding outcomeOf
-verdict-sound text places room =
+outcome-sound text places room =
     or-sound (require (isSheet text) 10) _ (unless-sound (isSheet text) 10 (λ e. omega arith))
     (or-sound (startOutcome (startOf (startLine text))) _ (opening-sound (startOf (startLine text)))
     (or-sound (require (leb (countIn text) places) 11) _ (unless-sound (leb (countIn text) places) 11 (λ e. omega arith))

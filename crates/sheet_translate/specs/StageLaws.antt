@@ -11,7 +11,7 @@ use borrow.Author.Tests.{ne-eqb, leb-true}
 use Rattle.sheet_spec.specs.declared.Listed.{Listed}
 use Rattle.sheet_spec.specs.Sheet.{isSheet, startLine, Start, at, notInForm, startOf}
 use Rattle.sheet_spec.specs.Translate.{Outcome, inOrder, refused, andThen, require, startOutcome, asOutcome, startIn, countIn, needIn, addressesIn, imageIn, outcomeOf, listedAs, listedOf, imageAs, imageOf, scratchAs, scratchOf}
-use Rattle.sheet_token_laws.specs.Listing.{both-fine, unless-true}
+use Rattle.sheet_token_laws.specs.Listing.{both-in-order, require-true}
 use Rattle.sheet_translate.specs.Translated.{outcomeNumber, openingOf, sizesIn, closingOf, rangesIn}
 use Rattle.sheet_spec.specs.Promises.{Translated}
 
@@ -66,11 +66,11 @@ pub record Opened (text : List ℕ) (places : ℕ) : Type 0 where
 
 pub opened : (text : List ℕ) (places : ℕ) → openingOf text places ≡ inOrder → Opened text places
 opened text places e =
-    let a = both-fine (require (isSheet text) 10) _ e in
-    let b = both-fine (startOutcome (startOf (startLine text))) _ (a .1) in
+    let a = both-in-order (require (isSheet text) 10) _ e in
+    let b = both-in-order (startOutcome (startOf (startLine text))) _ (a .1) in
     record {
-      sheet = unless-true (isSheet text) 10 (a .0);
-      scratch = leb-true (countIn text) places (unless-true (leb (countIn text) places) 11 (b .1));
+      sheet = require-true (isSheet text) 10 (a .0);
+      scratch = leb-true (countIn text) places (require-true (leb (countIn text) places) 11 (b .1));
     }
 
 pub record Closed (start words room : ℕ) : Type 0 where
@@ -79,19 +79,19 @@ pub record Closed (start words room : ℕ) : Type 0 where
 
 pub closed : (start words room : ℕ) → closingOf start words room ≡ inOrder → Closed start words room
 closed start words room e =
-    let a = both-fine (require (leb (start + 2 * words) (2 ^ 32)) 9) _ e in
+    let a = both-in-order (require (leb (start + 2 * words) (2 ^ 32)) 9) _ e in
     record {
-      ends = leb-true (start + 2 * words) (2 ^ 32) (unless-true (leb (start + 2 * words) (2 ^ 32)) 9 (a .0));
-      image = leb-true words room (unless-true (leb words room) 11 (a .1));
+      ends = leb-true (start + 2 * words) (2 ^ 32) (require-true (leb (start + 2 * words) (2 ^ 32)) 9 (a .0));
+      image = leb-true words room (require-true (leb words room) 11 (a .1));
     }
 
 -- ---- what is returned and left, by the outcome
 module _ (text v s : List ℕ) where
-  pub by-verdict : (w : Outcome) → outcomeOf text (length s) (length v) ≡ w → (v′ s′ : List ℕ) (r : Listed)
+  pub by-outcome : (w : Outcome) → outcomeOf text (length s) (length v) ≡ w → (v′ s′ : List ℕ) (r : Listed)
       → r ≡ listedAs w (countIn text) (needIn text) → v′ ≡ imageAs w (imageIn text) v → s′ ≡ scratchAs w (addressesIn text) s
       → Translated text v s v′ s′ r
   unfolding listedOf imageOf scratchOf
-  by-verdict w e v′ s′ r a b c =
+  by-outcome w e v′ s′ r a b c =
       record {
         listed = a ∙ ap (λ (x : Outcome). listedAs x (countIn text) (needIn text)) (sym e);
         image = b ∙ ap (λ (x : Outcome). imageAs x (imageIn text) v) (sym e);
@@ -102,4 +102,4 @@ module _ (text v s : List ℕ) where
   pub turned-away : (number line detail : ℕ) (value : ℤ) → outcomeOf text (length s) (length v) ≡ refused number line detail value
       → (s′ : List ℕ) (r : Listed) → r ≡ listedAs (refused number line detail value) 0 0 → s′ ≡ replicate (length s) 0
       → Translated text v s v s′ r
-  turned-away number line detail value e s′ r a c = by-verdict (refused number line detail value) e v s′ r a refl c
+  turned-away number line detail value e s′ r a c = by-outcome (refused number line detail value) e v s′ r a refl c

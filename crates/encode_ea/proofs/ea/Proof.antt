@@ -8,7 +8,7 @@ returns : tie.Need-returns
 returns c = rw (c .before .before .operand .given .1) (c .immediate .ensures)
 
 returns-2 : tie.Need-returns-2
-returns-2 c = rw (c .before .before .before .operand2 .given .1) (rw (c .before .number-in .ensures) at (c .register .ensures))
+returns-2 c = rw (c .before .before .before .operand2 .given .1) (rw (c .before .number-of-register .ensures) at (c .register .ensures))
 
 returns-3 : tie.Need-returns-3
 returns-3 c = rw (c .before .before .operand3 .given .1) (c .register2 .ensures)

@@ -5,7 +5,7 @@ use Rattle.encode_spec.specs.System.{movecParts}
 
 returns : tie.Need-returns
 unfolding movecParts
-returns c = rw (c .word .ensures, c .before .general .ensures .0, c .before .before .register .ensures, c .before .before .before .number-in .ensures, c .before .before .before .before .operation .ensures, c .before .before .before .before .before .bit .ensures .0)
+returns c = rw (c .word .ensures, c .before .general .ensures .0, c .before .before .register .ensures, c .before .before .before .number-of-register .ensures, c .before .before .before .before .operation .ensures, c .before .before .before .before .before .bit .ensures .0)
 
 pub movec-spec : {M : Type 1} → statement M
 movec-spec =

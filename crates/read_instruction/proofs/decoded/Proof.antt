@@ -3,7 +3,7 @@ use Rattle.read_instruction.proofs.decoded.Statement.{statement}
 use Rattle.read_instruction.proofs.decoded.Tie as tie
 
 returns : tie.Need-returns
-returns c = rw (c .before .before .read .given .1) (c .form .ensures)
+returns c = rw (c .before .before .read .given .1) (c .decode .ensures)
 
 returns-2 : tie.Need-returns-2
 returns-2 c = rw (c .enum-told .given .1)

@@ -13,7 +13,7 @@ returns-3 : tie.Need-returns-3
 returns-3 c = rw (c .one .ensures, c .before .static-modes .ensures, c .before .before .enum-told3 .given .1)
 
 returns-4 : tie.Need-returns-4
-returns-4 c = rw (c .dynamic-layout .ensures, c .before .enum-told4 .given .1)
+returns-4 c = rw (c .dynamic-bit-movep-layout .ensures, c .before .enum-told4 .given .1)
 
 returns-5 : tie.Need-returns-5
 returns-5 c = rw (c .one2 .ensures, c .before .size-at .ensures, c .before .before .enum-told5 .given .1)
@@ -34,13 +34,13 @@ returns-10 : tie.Need-returns-10
 returns-10 c = rw (c .unsized-one-layout .ensures, c .before .enum-told10 .given .1)
 
 returns-11 : tie.Need-returns-11
-returns-11 c = rw (c .nbcd-layout .ensures, c .before .enum-told11 .given .1)
+returns-11 c = rw (c .nbcd-link-layout .ensures, c .before .enum-told11 .given .1)
 
 returns-12 : tie.Need-returns-12
-returns-12 c = rw (c .pea-layout .ensures, c .before .enum-told12 .given .1)
+returns-12 c = rw (c .pea-swap-bkpt-layout .ensures, c .before .enum-told12 .given .1)
 
 returns-13 : tie.Need-returns-13
-returns-13 c = rw (c .movem-layout .ensures, c .before .enum-told13 .given .1)
+returns-13 c = rw (c .movem-ext-layout .ensures, c .before .enum-told13 .given .1)
 
 returns-14 : tie.Need-returns-14
 returns-14 c = rw (c .one4 .ensures, c .before .enum-told14 .given .1)
@@ -52,7 +52,7 @@ returns-16 : tie.Need-returns-16
 returns-16 c = rw (c .system-layout .ensures, c .before .enum-told16 .given .1)
 
 returns-17 : tie.Need-returns-17
-returns-17 c = rw (c .lea-layout .ensures, c .before .enum-told17 .given .1)
+returns-17 c = rw (c .lea-extb-layout .ensures, c .before .enum-told17 .given .1)
 
 returns-18 : tie.Need-returns-18
 returns-18 c = rw (c .one6 .ensures, c .before .long-if .ensures, c .before .before .enum-told18 .given .1)
@@ -79,10 +79,10 @@ returns-25 : tie.Need-returns-25
 returns-25 c = rw (c .from-data-layout3 .ensures, c .before .size-at7 .ensures, c .before .before .less2 .ensures, c .before .before .before .enum-told25 .given .1)
 
 returns-26 : tie.Need-returns-26
-returns-26 c = rw (c .exchange-layout .ensures, c .before .enum-told26 .given .1)
+returns-26 c = rw (c .logic-exchange-layout .ensures, c .before .enum-told26 .given .1)
 
 returns-27 : tie.Need-returns-27
-returns-27 c = rw (c .compare-layout .ensures, c .before .enum-told27 .given .1)
+returns-27 c = rw (c .logic-compare-layout .ensures, c .before .enum-told27 .given .1)
 
 returns-28 : tie.Need-returns-28
 returns-28 c = rw (c .one7 .ensures, c .before .enum-told28 .given .1)

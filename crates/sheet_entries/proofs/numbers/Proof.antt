@@ -24,7 +24,7 @@ loop-again c =
     let i = b .loop .i in (
       omega arith,
       b .loop .inv .1,
-      (λ j. set (b .loop .inv .2 j) i (c .number-in .ensures j)) ∙ numbers-next a (s .args .t1) _ (s .good .0) i (omega arith),
+      (λ j. set (b .loop .inv .2 j) i (c .resolved-number .ensures j)) ∙ numbers-next a (s .args .t1) _ (s .good .0) i (omega arith),
     )
 
 returns : tie.Need-returns Inv-loop μ-loop

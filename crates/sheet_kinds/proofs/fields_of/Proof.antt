@@ -8,7 +8,7 @@ use denote.Enum.Declared.{tagOf}
 use Rattle.sheet_spec.proofs.Kind.{the-type}
 use Rattle.sheet_spec.specs.declared.Kind.{Kind}
 use Rattle.sheet_spec.specs.declared.Kind.the-variants as kind
-use Rattle.sheet_spec.specs.Grammar.{operandFields, instructionFields, fieldsOf}
+use Rattle.sheet_spec.specs.Grammar.{operandKinds, instructionKinds, kindsOf}
 use Rattle.sheet_kinds.specs.Packed.{packed}
 use Rattle.sheet_kinds.proofs.fields_of.Statement.{statement}
 use Rattle.sheet_kinds.proofs.fields_of.Tie as tie
@@ -23,7 +23,7 @@ row-of (r ∷ rs) (suc n) = row-of rs n
 abbrev tags : List ℕ
 tags = 0 ∷ 1 ∷ 2 ∷ 3 ∷ 4 ∷ 6 ∷ 7 ∷ 8 ∷ 9 ∷ 10 ∷ 11 ∷ []
 
-no-fields : (k : Kind) (n : ℕ) → OneOf tags (tagOf the-type k) → packed (fieldsOf k n) ≡ 0
+no-fields : (k : Kind) (n : ℕ) → OneOf tags (tagOf the-type k) → packed (kindsOf k n) ≡ 0
 no-fields kind.Number n t = refl
 no-fields kind.Target n t = refl
 no-fields kind.Place n t = refl
@@ -55,10 +55,10 @@ returns-4 : tie.Need-returns-4
 returns-4 c = rw (c .before .before .enum-told4 .given .1) (c .row2 .ensures ∙ row-of ([] ∷ (kind.Number ∷ []) ∷ []) (c .before .before .before .before .args .place))
 
 returns-5 : tie.Need-returns-5
-returns-5 c = rw (c .before .before .enum-told5 .given .1) (c .row3 .ensures ∙ row-of operandFields (c .before .before .before .before .args .place))
+returns-5 c = rw (c .before .before .enum-told5 .given .1) (c .row3 .ensures ∙ row-of operandKinds (c .before .before .before .before .args .place))
 
 returns-6 : tie.Need-returns-6
-returns-6 c = rw (c .before .before .enum-told6 .given .1) (c .row4 .ensures ∙ row-of instructionFields (c .before .before .before .before .args .place))
+returns-6 c = rw (c .before .before .enum-told6 .given .1) (c .row4 .ensures ∙ row-of instructionKinds (c .before .before .before .before .args .place))
 
 returns-7 : tie.Need-returns-7
 returns-7 c = sym (no-fields (c .before .args .kind) (c .before .args .place) (c .match .keys7))

@@ -46,7 +46,7 @@ returns-2 c =
 next-requires : tie.Need-next-requires Inv-loop μ-loop
 next-requires c κs =
     let l = c .before .before .before .before .before .before .before .before .before .before in
-    next-fits (l .before .before .before .args .line .now) (l .loop .e) (l .loop .kinds) (l .loop .from) (l .loop .inv .1) (c .before .before .before .before .before .before .before .before .if1 .left) (c .number-in .result)
+    next-fits (l .before .before .before .args .line .now) (l .loop .e) (l .loop .kinds) (l .loop .from) (l .loop .inv .1) (c .before .before .before .before .before .before .before .before .if1 .left) (c .variant-place .result)
 
 loop-again : tie.Need-loop-again Inv-loop μ-loop
 loop-again c =
@@ -55,7 +55,7 @@ loop-again c =
     let l = k .before .before .before .before in
     let t = c .before .before .before in (
       omega arith,
-      rw (c .next .ensures, c .before .number-in .ensures, c .before .before .with-value .ensures)
+      rw (c .next .ensures, c .before .variant-place .ensures, c .before .before .with-value .ensures)
           (reading-on
           (l .before .before .before .args .line .now)
           (l .loop .e)

@@ -1,10 +1,9 @@
 use mathlib.Core.Path.{_≡_, refl, _∙_}
-use mathlib.Core.List.{_++_}
+use mathlib.Core.List.{_++_, append-nil}
 use Prim.Native.Nat.{_+_, _≤_, _-_}
 use native.Mathlib.Omega.{arith}
 use lib.ListN.{length, drop, replicate, length-set}
 use lib.Seq.{drop-length}
-use mathlib.Core.List.{append-nil}
 use Rattle.sheet_translate.proofs.Laws.{zero-more}
 use Rattle.sheet_translate.proofs.zero.Statement.{statement}
 use Rattle.sheet_translate.proofs.zero.Tie as tie

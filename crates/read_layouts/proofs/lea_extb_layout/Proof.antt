@@ -1,0 +1,12 @@
+use borrow.Author.Needs.{needs}
+use Rattle.read_layouts.proofs.lea_extb_layout.Statement.{statement}
+use Rattle.read_layouts.proofs.lea_extb_layout.Tie as tie
+
+returns : tie.Need-returns
+returns c = rw (c .bare .ensures, c .before .if1 .taken)
+
+returns-2 : tie.Need-returns-2
+returns-2 c = rw (c .one .ensures, c .before .if1 .left)
+
+pub lea-extb-layout-spec : {M : Type 1} → statement M
+lea-extb-layout-spec = tie.close (tie.spec (λ c κs. search needs) (λ c κs. search needs) returns returns-2)

@@ -1,0 +1,21 @@
+use borrow.Author.Needs.{needs}
+use Rattle.read_layouts.proofs.logic_exchange_layout.Statement.{statement}
+use Rattle.read_layouts.proofs.logic_exchange_layout.Tie as tie
+
+returns : tie.Need-returns
+returns c = rw (c .bare .ensures, ← c .before .before .is-exchange .ensures, c .before .if1 .taken)
+
+returns-2 : tie.Need-returns-2
+returns-2 c = rw (c .one .ensures, c .before .before .before .size-at .ensures, c .before .before .before .before .less .ensures, ← c .before .before .is-exchange .ensures, c .before .if1 .left)
+
+pub logic-exchange-layout-spec : {M : Type 1} → statement M
+logic-exchange-layout-spec =
+    tie.close
+    (tie.spec
+    (λ c κs. search needs)
+    (λ c κs. search needs)
+    (λ c κs. search needs)
+    (λ c κs. search needs)
+    (λ c κs. search needs)
+    returns
+    returns-2)
