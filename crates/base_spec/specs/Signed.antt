@@ -1,5 +1,5 @@
 -- Two's complement numbers (the manual, section 1.4, "Integer Data Formats").
-use Prim.Native.Nat.{ℕ, _+_, _-_, _%_, _^_}
+use Prim.Native.Nat.{ℕ, zero, suc, _+_, _-_, _%_, _^_}
 use mathlib.Core.Bool.{cond}
 use lib.Dec.{ltb}
 use lib.IntN.{ℤ, pos, negsuc}
@@ -20,3 +20,8 @@ bitsOf (negsuc n) = 2 ^ 64 - 1 - n
 -- a - b modulo 2^32
 abbrev pub difference : ℕ → ℕ → ℕ
 difference a b = (a + (2 ^ 32 - b)) % 2 ^ 32
+
+-- -n
+abbrev pub minus : ℕ → ℤ
+minus zero = pos zero
+minus (suc n) = negsuc n

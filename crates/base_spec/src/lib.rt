@@ -5,14 +5,6 @@ pub enum Number {
     No,
 }
 
-// The numbers of a line, where all its fields are numbers and at most 24.
-pub struct Numbers {
-    pub ok: bool,
-    pub count: usize,
-    pub negative: [bool; 24],
-    pub magnitude: [u64; 24],
-}
-
 // The next place in the text, and how many bytes were written.
 pub struct Step {
     pub next: usize,

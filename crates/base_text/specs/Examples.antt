@@ -9,7 +9,7 @@ use Rattle.base_spec.specs.declared.Number.the-variants.{Is, No}
 use Rattle.base_text.specs.Parts.{partEnd}
 use Rattle.base_spec.specs.Parts.{fields}
 use Rattle.base_spec.specs.Number.{numberOf}
-use Rattle.base_spec.specs.Numbers.{noNumbers, gathered, numbersOf}
+use Rattle.base_text.specs.Numbers.{noNumbers, gathered, lineNumbers}
 use Rattle.base_spec.specs.Written.{hex4Of, hex8Of, decimalOf, signedOf}
 
 -- 1⇥⇥-2
@@ -36,12 +36,12 @@ unfolding decimalOf
 most = (refl, refl)
 
 -- an empty field is no number
-refused : numbersOf line ≡ noNumbers
+refused : lineNumbers line ≡ noNumbers
 unfolding line gathered
 refused = refl
 
 -- 1⇥-2
-accepted : numbersOf (49 ∷ 9 ∷ 45 ∷ 50 ∷ [])
+accepted : lineNumbers (49 ∷ 9 ∷ 45 ∷ 50 ∷ [])
     ≡ record { ok = true; count = 2; negative = false ∷ true ∷ replicate 22 false; magnitude = 1 ∷ 2 ∷ replicate 22 0 }
 unfolding gathered
 accepted = refl

@@ -11,14 +11,15 @@ use lib.Dec.{leb, ltb}
 use borrow.Author.Tests.{le-leb, lt-leb, lt-ltb, le-ltb, leb-true, ltb-true}
 use Rattle.base_spec.specs.declared.Number.{Number}
 use Rattle.base_spec.specs.declared.Number.the-variants.{Is, No}
-use Rattle.base_spec.specs.declared.Numbers.{Numbers}
+use Rattle.base_text.specs.declared.LineNumbers.{LineNumbers}
 use Rattle.base_text.specs.Parts.{partEnd}
 use Rattle.base_spec.specs.Parts.{fields}
 use Rattle.base_text.specs.PartLaws.{partsFrom, parts-at, parts-start, parts-past, part-is}
 use Rattle.base_spec.specs.Number.{numberOf}
-use Rattle.base_text.specs.Numbers.{placedNumber, withNumber}
-use Rattle.base_spec.specs.Numbers.{isNumber, negativeOf, magnitudeOf, allNumbers, places, noNumbers, gathered, numbersOf}
+use Rattle.base_text.specs.Numbers.{placedNumber, withNumber, negativeOf, places, noNumbers, gathered, lineNumbers}
+use Rattle.base_spec.specs.Numbers.{isNumber, magnitudeOf, allNumbers}
 use Rattle.base_facts.specs.Tests.{and-false}
+use Rattle.base_facts.specs.Lists.{map-more}
 
 all-more : (ns : List Number) (n : Number) → allNumbers (ns ++ (n ∷ [])) ≡ allNumbers ns && isNumber n
 all-more [] (Is s m) = refl
@@ -29,11 +30,6 @@ all-more (k ∷ ns) n = go (isNumber k) (all-more ns n)
     go true e = e
     go false e = refl
 
-module _ {A : Type 0} {B : Type 0} where
-  map-more : (f : A → B) (l : List A) (a : A) → map f (l ++ (a ∷ [])) ≡ map f l ++ (f a ∷ [])
-  map-more f [] a = refl
-  map-more f (x ∷ xs) a = ap (λ (t : List B). f x ∷ t) (map-more f xs a)
-
 module _ {A : Type 0} where
   places-more : (z : A) (l : List A) (k : ℕ) (a : A) → length l ≡ k → k < 24 → set (places z l) k a ≡ places z (l ++ (a ∷ []))
   places-more z l k a e h =
@@ -42,7 +38,7 @@ module _ {A : Type 0} where
       rw (q, p, set-at l z (replicate (24 - (k + 1)) z) a k e, append-snoc l a (replicate (24 - (k + 1)) z))
 
 -- what a test leaves
-abbrev numbersIf : Bool → List Number → Numbers
+abbrev numbersIf : Bool → List Number → LineNumbers
 numbersIf t ns =
     cond t (record { ok = true; count = length ns; negative = places false (map negativeOf ns); magnitude = places 0 (map magnitudeOf ns) })
     noNumbers
@@ -100,51 +96,51 @@ gathered-more ns (Is s n) = more-is ns s n (allNumbers ns) refl
 gathered-more ns No = sym (refused (ns ++ (No ∷ [])) (rw (all-more ns No, and-false (allNumbers ns))))
 
 -- r and the numbers ns more
-abbrev pub gatheredOn : Numbers → List Number → Numbers
+abbrev pub gatheredOn : LineNumbers → List Number → LineNumbers
 gatheredOn r [] = r
 gatheredOn r (n ∷ ns) = gatheredOn (withNumber r n) ns
 
 pub gathered-on : (ps ns : List Number) → gatheredOn (gathered ps) ns ≡ gathered (ps ++ ns)
 gathered-on ps [] = ap gathered (sym (append-nil ps))
 gathered-on ps (n ∷ ns) =
-    ap (λ (r : Numbers). gatheredOn r ns) (gathered-more ps n) ∙ gathered-on (ps ++ (n ∷ [])) ns ∙ ap gathered (append-snoc ps n ns)
+    ap (λ (r : LineNumbers). gatheredOn r ns) (gathered-more ps n) ∙ gathered-on (ps ++ (n ∷ [])) ns ∙ ap gathered (append-snoc ps n ns)
 
 -- the numbers of the fields from `from` on
 abbrev pub numbersFrom : List ℕ → ℕ → List Number
 numbersFrom line from = map numberOf (partsFrom 9 line from)
 
 -- before any number
-abbrev pub start : Numbers
+abbrev pub start : LineNumbers
 start = record { ok = true; count = 0; negative = replicate 24 false; magnitude = replicate 24 0 }
 
-pub numbers-start : (line : List ℕ) → numbersOf line ≡ gatheredOn start (numbersFrom line 0)
+pub numbers-start : (line : List ℕ) → lineNumbers line ≡ gatheredOn start (numbersFrom line 0)
 unfolding gathered
 numbers-start line = rw (parts-start 9 line) (sym (gathered-on [] (map numberOf (fields line))))
 
-pub numbers-on : (line : List ℕ) (from e : ℕ) (r : Numbers) → from ≤ length line → e ≡ partEnd 9 line from
+pub numbers-on : (line : List ℕ) (from e : ℕ) (r : LineNumbers) → from ≤ length line → e ≡ partEnd 9 line from
     → gatheredOn r (numbersFrom line from) ≡ gatheredOn (withNumber r (numberOf (take (e - from) (drop from line)))) (numbersFrom line (e + 1))
 numbers-on line from e r h g = rw (parts-at 9 line from h, part-is 9 line from e g, g)
 
-pub numbers-end : (line : List ℕ) (from : ℕ) (r : Numbers) → length line < from → gatheredOn r (numbersFrom line from) ≡ r
+pub numbers-end : (line : List ℕ) (from : ℕ) (r : LineNumbers) → length line < from → gatheredOn r (numbersFrom line from) ≡ r
 numbers-end line from r h = rw (parts-past 9 line from h)
 
 -- by the test whether there is room
-cond-true : (t : Bool) (a b : Numbers) → t ≡ true → cond t a b ≡ a
+cond-true : (t : Bool) (a b : LineNumbers) → t ≡ true → cond t a b ≡ a
 cond-true t a b e = rw e
 
-cond-false : (t : Bool) (a b : Numbers) → t ≡ false → cond t a b ≡ b
+cond-false : (t : Bool) (a b : LineNumbers) → t ≡ false → cond t a b ≡ b
 cond-false t a b e = rw e
 
 pub room : (t : Bool) (k : ℕ) → t && ltb k 24 ≡ true → k < 24
 room true k e = ltb-true k 24 e
 room false k e = let z : _≡_ {A = ℕ} 0 1 = cc in absurd (omega arith)
 
-pub placed-number : (r : Numbers) (s : Bool) (n : ℕ) → r .ok && ltb (r .count) 24 ≡ true
+pub placed-number : (r : LineNumbers) (s : Bool) (n : ℕ) → r .ok && ltb (r .count) 24 ≡ true
     → record { ok = r .ok; count = r .count + 1; negative = set (r .negative) (r .count) s; magnitude = set (r .magnitude) (r .count) n } ≡ placedNumber r s n
 unfolding placedNumber
 placed-number r s n e = sym (cond-true (r .ok && ltb (r .count) 24) _ _ e)
 
-pub no-room : (r : Numbers) (s : Bool) (n : ℕ) → r .ok && ltb (r .count) 24 ≡ false → placedNumber r s n ≡ noNumbers
+pub no-room : (r : LineNumbers) (s : Bool) (n : ℕ) → r .ok && ltb (r .count) 24 ≡ false → placedNumber r s n ≡ noNumbers
 unfolding placedNumber
 no-room r s n e = cond-false (r .ok && ltb (r .count) 24) _ _ e
 

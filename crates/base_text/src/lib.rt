@@ -6,13 +6,11 @@ ghost use lib.ListN.{length};
 ghost use Rattle.base_text.specs.Parts.{partEnd};
 ghost use Rattle.base_text.specs.Number.{digitsFrom};
 ghost use Rattle.base_spec.specs.Number.{unsignedOf, negated, numberOf};
-ghost use Rattle.base_text.specs.Numbers.{placedNumber, withNumber};
-ghost use Rattle.base_spec.specs.Numbers.{noNumbers, numbersOf};
+ghost use Rattle.base_text.specs.Numbers.{noNumbers, lineNumbers, placedNumber, withNumber};
 ghost use Rattle.base_spec.specs.Written.{placed, hexDigit, hex4Of, hex8Of, decimalOf, signedOf};
 ghost use Rattle.base_text.specs.Wrote.{Wrote};
 ghost use Rattle.base_spec.specs.Refused.{fieldText, refusedText, notInForm};
 use base_spec::Number;
-use base_spec::Numbers;
 
 // Where the part that begins at `from` ends: the next `stop`, or the end.
 pub fn part_end(s: &[u8], from: usize, stop: u8) -> usize
@@ -132,10 +130,18 @@ pub fn read_number(f: &[u8]) -> Number
     unsigned(f)
 }
 
-fn no_numbers() -> Numbers
+// The numbers of a line, where all its fields are numbers and at most 24.
+pub struct LineNumbers {
+    pub ok: bool,
+    pub count: usize,
+    pub negative: [bool; 24],
+    pub magnitude: [u64; 24],
+}
+
+fn no_numbers() -> LineNumbers
     ensures { λ r. ⌜ r ≡ noNumbers ⌝ }
 {
-    Numbers {
+    LineNumbers {
         ok: false,
         count: 0,
         negative: [false; 24],
@@ -144,7 +150,7 @@ fn no_numbers() -> Numbers
 }
 
 // One number more.
-fn place_number(r: Numbers, negative: bool, magnitude: u64) -> Numbers
+fn place_number(r: LineNumbers, negative: bool, magnitude: u64) -> LineNumbers
     ensures { λ s. ⌜ s ≡ placedNumber r negative magnitude ⌝ }
 {
     let count = r.count;
@@ -158,7 +164,7 @@ fn place_number(r: Numbers, negative: bool, magnitude: u64) -> Numbers
     no_numbers()
 }
 
-fn with_number(r: Numbers, n: Number) -> Numbers
+fn with_number(r: LineNumbers, n: Number) -> LineNumbers
     ensures { λ s. ⌜ s ≡ withNumber r n ⌝ }
 {
     match n {
@@ -171,10 +177,10 @@ fn with_number(r: Numbers, n: Number) -> Numbers
 }
 
 // What the fields of a line say.
-pub fn read_numbers(line: &[u8]) -> Numbers
-    ensures { λ r. ⌜ r ≡ numbersOf (now (line .entry)) ⌝ }
+pub fn read_numbers(line: &[u8]) -> LineNumbers
+    ensures { λ r. ⌜ r ≡ lineNumbers (now (line .entry)) ⌝ }
 {
-    let mut r = Numbers {
+    let mut r = LineNumbers {
         ok: true,
         count: 0,
         negative: [false; 24],

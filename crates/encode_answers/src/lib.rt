@@ -5,11 +5,12 @@ ghost use lib.ListN.{length, take};
 ghost use Rattle.base_spec.specs.Written.{placed};
 ghost use Rattle.base_text.specs.Wrote.{Wrote};
 ghost use Rattle.base_spec.specs.Lines.{Answered};
-ghost use Rattle.print_spec.specs.EncodeAnswer.{wordsText, encodedText, measuredText, resultText, builtText, numbersText, numbersIn, answerOf};
+ghost use Rattle.print_spec.specs.EncodeAnswer.{wordsText, encodedText, measuredText, resultText, builtText, answerOf};
+ghost use Rattle.encode_answers.specs.Places.{numbersIn, placesText};
 use base_spec::Step;
 use isa::Encoded;
 use isa::Measured;
-use numeric_build::Built;
+use numeric_spec::Built;
 use numeric_spec::Numbers;
 
 // Each word, and a tab.
@@ -80,7 +81,7 @@ fn put_built(out: &mut [u8], at: usize, built: Built, address: u32) -> usize
 // The address, then the numbers of the instruction.
 fn put_numbers(out: &mut [u8], at: usize, numbers: Numbers) -> usize
     requires { ⌜ at + 95 ≤ length (now out) ⌝ }
-    ensures { λ r. ⌜ Wrote (now (out .entry)) at (numbersText numbers) (now (out .exit)) r × (r ≤ at + 95) ⌝ }
+    ensures { λ r. ⌜ Wrote (now (out .entry)) at (placesText numbers) (now (out .exit)) r × (r ≤ at + 95) ⌝ }
 {
     let address = numeric_fields::number::long_in(numbers, 0);
     if address.ok {
@@ -90,7 +91,7 @@ fn put_numbers(out: &mut [u8], at: usize, numbers: Numbers) -> usize
     }
 }
 
-fn numbers_in(n: base_spec::Numbers) -> Numbers
+fn numbers_in(n: base_text::LineNumbers) -> Numbers
     ensures { λ r. ⌜ r ≡ numbersIn n ⌝ }
 {
     let negative = n.negative;

@@ -1,3 +1,3 @@
 mod Walk
-pub mod Below
 mod Lines
+pub mod Places

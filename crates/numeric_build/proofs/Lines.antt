@@ -12,19 +12,19 @@ use Rattle.isa.specs.declared.Instruction as M
 use Rattle.numeric_spec.specs.declared.Numbers.{Numbers}
 use Rattle.numeric_fields.specs.declared.UnsignedAt.{UnsignedAt}
 use Rattle.numeric_fields.specs.Number.{unsignedAt}
-use Rattle.numeric_fields.proofs.Laws.{unsigned-le}
+use Rattle.numeric_fields.specs.NumberLaws.{unsigned-le}
 use Rattle.numeric_operations.specs.Operation.{registerOperation}
-use Rattle.numeric_shapes.specs.Shape.{Shape, shapes, intoRegister}
+use Rattle.numeric_spec.specs.Shape.{Shape, shapes, intoRegister}
 use Rattle.numeric_shapes.specs.Table.{byNumber, shapeOf}
 use Rattle.numeric_shapes.specs.Row.{rowOf}
 use Rattle.numeric_shapes.specs.Made.{instructionOf}
 use Rattle.numeric_build.specs.declared.row.Filled.{Filled}
 use Rattle.numeric_build.specs.declared.Line.{Line}
-use Rattle.numeric_build.specs.declared.Built.{Built}
-use Rattle.numeric_build.specs.declared.Built.the-variants.{Instruction, NotInForm}
+use Rattle.numeric_spec.specs.declared.Built.{Built}
+use Rattle.numeric_spec.specs.declared.Built.the-variants.{Instruction, NotInForm}
 use Rattle.numeric_build.specs.Row.{walk, nothing, rows, unpacked}
 use Rattle.numeric_build.specs.Build.{buildOf, entries, lineOf, shapeAtPlace, shapeAt}
-use Rattle.numeric_build.proofs.Below.{below}
+use Rattle.base_facts.specs.Tests.{below}
 
 getD-any : {A : Type 0} (xs : List A) (n : ℕ) (d e : A) → n < length xs → getD xs n d ≡ getD xs n e
 getD-any [] n d e h = absurd (omega arith)
@@ -50,13 +50,13 @@ row-is n o h =
     ∙ List·getD-map unpacked rows n 0
 
 shape-below : (v : ℕ) → v < 99 → getD entries v 0 % 64 < 37
-shape-below v h = ltb-true (getD entries v 0 % 64) 37 (below 99 (λ q. ltb (getD entries q 0 % 64) 37) refl v h)
+shape-below v h = ltb-true (getD entries v 0 % 64) 37 (below (λ q. ltb (getD entries q 0 % 64) 37) 99 refl v h)
 
 pub place-shape : (ns : Numbers) (k : ℕ) (p : UnsignedAt) (entry : ℕ) → p ≡ unsignedAt 98 ns k → entry ≡ getD entries (p .value) 0 → entry % 64 < 37
 place-shape ns k p entry h e = rw (e, h) (shape-below (unsignedAt 98 ns k .value) (omega (arith, unsigned-le 98 ns k)))
 
 operation-below : (v : ℕ) → v < 99 → getD entries v 0 / 64 < 256
-operation-below v h = ltb-true (getD entries v 0 / 64) 256 (below 99 (λ q. ltb (getD entries q 0 / 64) 256) refl v h)
+operation-below v h = ltb-true (getD entries v 0 / 64) 256 (below (λ q. ltb (getD entries q 0 / 64) 256) 99 refl v h)
 
 pub place-operation : (ns : Numbers) (k : ℕ) (p : UnsignedAt) (entry : ℕ) → p ≡ unsignedAt 98 ns k → entry ≡ getD entries (p .value) 0 → entry / 64 < 256
 place-operation ns k p entry h e = rw (e, h) (operation-below (unsignedAt 98 ns k .value) (omega (arith, unsigned-le 98 ns k)))

@@ -11,7 +11,7 @@ use Rattle.numeric_fields.specs.declared.OperandAt.{OperandAt}
 use Rattle.numeric_fields.specs.Operand.{operandAt}
 use Rattle.numeric_shapes.specs.declared.Operands.{Operands}
 use Rattle.numeric_build.specs.Row.{further, withOperands, fillWith, walk, kindsIn, rows}
-use Rattle.numeric_build.proofs.Below.{below}
+use Rattle.base_facts.specs.Tests.{below}
 
 -- no kind is left after n
 abbrev pub ends : ℕ → ℕ → Bool
@@ -19,7 +19,7 @@ ends zero row = eqb row 0
 ends (suc n) row = ends n (row / 16)
 
 pub rows-end : (n : ℕ) → n < 37 → ends 8 (getD rows n 0) ≡ true
-rows-end n h = below 37 (λ q. ends 8 (getD rows q 0)) refl n h
+rows-end n h = below (λ q. ends 8 (getD rows q 0)) 37 refl n h
 
 pub walk-step : (n row : ℕ) (ns : Numbers) (f g : Filled) → ends n row ≡ true → (row ≡ 0 → ⊥) → g ≡ fillWith (row % 16) ns f
     → (m : ℕ) × (ends m (row / 16) ≡ true) × (walk (kindsIn m (row / 16)) ns g ≡ walk (kindsIn n row) ns f)

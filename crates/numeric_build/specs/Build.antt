@@ -8,11 +8,11 @@ use Rattle.isa.specs.declared.Instruction as Isa
 use Rattle.isa.specs.declared.RegisterOperation.the-variants.{ADDA}
 use Rattle.numeric_spec.specs.declared.Numbers.{Numbers}
 use Rattle.numeric_fields.specs.Number.{unsignedAt}
-use Rattle.numeric_shapes.specs.Shape.{Shape, shapes, intoRegister}
+use Rattle.numeric_spec.specs.Shape.{Shape, shapes, intoRegister}
 use Rattle.numeric_shapes.specs.Row.{rowOf}
 use Rattle.numeric_shapes.specs.Made.{instructionOf}
-use Rattle.numeric_build.specs.declared.Built.{Built}
-use Rattle.numeric_build.specs.declared.Built.the-variants.{Instruction, NotInForm}
+use Rattle.numeric_spec.specs.declared.Built.{Built}
+use Rattle.numeric_spec.specs.declared.Built.the-variants.{Instruction, NotInForm}
 use Rattle.numeric_build.specs.declared.Line.{Line}
 use Rattle.numeric_build.specs.Row.{walk, nothing, rows, unpacked}
 

@@ -3,20 +3,16 @@ ghost use mathlib.Core.Path.{_≡_};
 ghost use Prim.Native.Nat.{_<_};
 ghost use Rattle.numeric_fields.specs.Number.{numbersIn};
 ghost use lib.ListN.{getD};
-ghost use Rattle.numeric_build.specs.Build.{entries, buildOf, lineOf};
+ghost use Rattle.numeric_spec.specs.Build.{builtFrom};
+ghost use Rattle.numeric_build.specs.Build.{entries, lineOf};
 use crate::row::walked;
-use isa::Instruction;
 use numeric_fields::number::unsigned_at;
 use numeric_shapes::Slots;
 use numeric_shapes::made::instruction_of;
+pub use numeric_spec::Built;
 pub use numeric_spec::Numbers;
 
 pub mod row; // the fields of a line
-
-pub enum Built {
-    Instruction(Instruction),
-    NotInForm,
-}
 
 // A line: whether it is in the form to its end, its shape and its operation by number, and its fields.
 pub struct Line {
@@ -153,7 +149,7 @@ fn line_at(count: usize, negative: &[bool; 24], magnitude: &[u64; 24], from: usi
 
 // The instruction whose numbers are all those from a place on.
 pub fn build(numbers: Numbers, from: usize) -> Built
-    ensures { λ r. ⌜ r ≡ buildOf numbers from ⌝ }
+    ensures { λ r. ⌜ r ≡ builtFrom numbers from ⌝ }
 {
     let negative = numbers.negative;
     let magnitude = numbers.magnitude;

@@ -8,9 +8,9 @@ use lib.ListN.{getD}
 use lib.IntN.{ℤ, pos, negsuc, natAbs}
 use borrow.Author.Tests.{ltb-true, leb-true, lt-ltb, le-ltb, ne-eqb}
 use Rattle.numeric_spec.specs.declared.Numbers.{Numbers}
-use Rattle.numeric_fields.specs.declared.UnsignedAt.{UnsignedAt}
-use Rattle.numeric_spec.specs.Number.{minus, numberAt, present, isI32}
-use Rattle.numeric_fields.specs.Number.{upTo, unsignedAt, signedAt}
+use Rattle.base_spec.specs.Signed.{minus}
+use Rattle.numeric_fields.specs.Number.{numberAt, present, upTo, unsignedAt, signedAt}
+use Rattle.numeric_spec.specs.Entry.{isI32}
 use Rattle.base_facts.specs.Tests as facts
 use Rattle.base_facts.specs.Tests.{never}
 
@@ -53,19 +53,6 @@ module _ (top : ℕ) (ns : Numbers) (k : ℕ) (h : k < 24) where
 pub unsigned-out : (top : ℕ) (ns : Numbers) (k : ℕ) → 24 ≤ k → record { ok = false; value = 0; next = k } ≡ unsignedAt top ns k
 unfolding unsignedAt
 unsigned-out top ns k h = rw (le-ltb k 24 h)
-
-up-to-le : (top : ℕ) (z : ℤ) → upTo top z ≡ true → natAbs z ≤ top
-up-to-le top (pos n) h = leb-true n top h
-up-to-le top (negsuc n) h = let z : _≡_ {A = ℕ} 0 1 = cc in omega arith
-
-pub unsigned-le : (top : ℕ) (ns : Numbers) (k : ℕ) → unsignedAt top ns k .value ≤ top
-unfolding unsignedAt
-unsigned-le top ns k = go (present ns k) (upTo top (numberAt ns k)) refl
-  where
-    go : (p t : Bool) → upTo top (numberAt ns k) ≡ t → cond {A = UnsignedAt} (p && t) (record { ok = true; value = natAbs (numberAt ns k); next = k + 1 }) (record { ok = false; value = 0; next = k }) .value ≤ top
-    go true true e = up-to-le top (numberAt ns k) e
-    go true false e = omega arith
-    go false t e = omega arith
 
 pub negsuc-minus : (m : ℕ) → 0 < m → negsuc (m - 1) ≡ minus m
 negsuc-minus zero h = absurd (omega arith)

@@ -1,3 +1,5 @@
 pub mod Number
+pub mod NumberLaws
 pub mod Part
 pub mod Operand
+pub mod Taken

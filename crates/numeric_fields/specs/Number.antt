@@ -3,7 +3,8 @@
 use Prim.Native.Nat.{ℕ, _+_, _-_, _^_}
 use mathlib.Core.Bool.{Bool, true, false, _&&_, cond}
 use mathlib.Core.List.{List}
-use lib.Dec.{leb}
+use lib.Dec.{leb, ltb}
+use lib.ListN.{getD}
 use lib.IntN.{ℤ, pos, negsuc, natAbs}
 use Rattle.numeric_spec.specs.declared.Numbers.{Numbers}
 use Rattle.numeric_fields.specs.declared.UnsignedAt.{UnsignedAt}
@@ -11,7 +12,15 @@ use Rattle.numeric_fields.specs.declared.SignedAt.{SignedAt}
 use Rattle.numeric_fields.specs.declared.ByteAt.{ByteAt}
 use Rattle.numeric_fields.specs.declared.WordAt.{WordAt}
 use Rattle.numeric_fields.specs.declared.LongAt.{LongAt}
-use Rattle.numeric_spec.specs.Number.{numberAt, present, isI32}
+use Rattle.base_spec.specs.Signed.{minus}
+use Rattle.numeric_spec.specs.Entry.{isI32}
+
+-- number k, which stands where k is below the count and 24
+abbrev pub numberAt : Numbers → ℕ → ℤ
+numberAt ns k = cond (getD (ns .negative) k false) (minus (getD (ns .magnitude) k 0)) (pos (getD (ns .magnitude) k 0))
+
+abbrev pub present : Numbers → ℕ → Bool
+present ns k = ltb k 24 && ltb k (ns .count)
 
 -- the numbers that the code lends
 abbrev pub numbersIn : ℕ → List Bool → List ℕ → Numbers

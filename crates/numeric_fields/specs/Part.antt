@@ -3,14 +3,6 @@ use Prim.Native.Nat.{ℕ}
 use mathlib.Core.List.{[], _∷_}
 use mathlib.Core.Bool.{true, _&&_}
 use lib.ListN.{getD}
-use Rattle.isa.specs.declared.Size.{Size}
-use Rattle.isa.specs.declared.Size.the-variants as size
-use Rattle.isa.specs.declared.AddressWidth.{AddressWidth}
-use Rattle.isa.specs.declared.AddressWidth.the-variants as width
-use Rattle.isa.specs.declared.RegisterOperand.{RegisterOperand}
-use Rattle.isa.specs.declared.RegisterOperand.the-variants.{Address, Data}
-use Rattle.isa.specs.declared.FieldValue.{FieldValue}
-use Rattle.isa.specs.declared.FieldValue.the-variants as value
 use Rattle.isa.specs.declared.TrapOperand.the-variants as trap
 use Rattle.isa.specs.declared.RegisterChoice.the-variants as choice
 use Rattle.numeric_spec.specs.declared.Numbers.{Numbers}
@@ -22,41 +14,30 @@ use Rattle.numeric_fields.specs.declared.FieldValueAt.{FieldValueAt}
 use Rattle.numeric_fields.specs.declared.BitFieldAt.{BitFieldAt}
 use Rattle.numeric_fields.specs.declared.TrapOperandAt.{TrapOperandAt}
 use Rattle.numeric_fields.specs.declared.RegisterChoiceAt.{RegisterChoiceAt}
+use Rattle.numeric_spec.specs.Value.{sizeByPlace, addressWidthByPlace, registerByPlace, fieldValueByPlace}
 use Rattle.numeric_fields.specs.Number.{unsignedAt, byteAt, wordAt, longAt}
-
-abbrev pub sizeOf : ℕ → Size
-sizeOf place = getD (size.Byte ∷ size.Word ∷ size.Long ∷ []) place size.Byte
 
 unfoldable pub sizeAt : Numbers → ℕ → SizeAt
 sizeAt ns k =
     let n = unsignedAt 2 ns k in
-    record { ok = n .ok; size = sizeOf (n .value); next = n .next }
-
-abbrev pub addressWidthOf : ℕ → AddressWidth
-addressWidthOf place = getD (width.Word ∷ width.Long ∷ []) place width.Word
+    record { ok = n .ok; size = sizeByPlace (n .value); next = n .next }
 
 unfoldable pub addressWidthAt : Numbers → ℕ → AddressWidthAt
 addressWidthAt ns k =
     let n = unsignedAt 1 ns k in
-    record { ok = n .ok; width = addressWidthOf (n .value); next = n .next }
-
-unfoldable pub registerOf : ℕ → ℕ → RegisterOperand
-registerOf place number = getD (Address number ∷ Data number ∷ []) place (Address number)
+    record { ok = n .ok; width = addressWidthByPlace (n .value); next = n .next }
 
 unfoldable pub registerAt : Numbers → ℕ → RegisterAt
 registerAt ns k =
     let place = unsignedAt 1 ns k in
     let number = byteAt ns (place .next) in
-    record { ok = place .ok && number .ok; register = registerOf (place .value) (number .value); next = number .next }
-
-unfoldable pub fieldValueOf : ℕ → ℕ → FieldValue
-fieldValueOf place number = getD (value.Immediate number ∷ value.Register number ∷ []) place (value.Immediate number)
+    record { ok = place .ok && number .ok; register = registerByPlace (place .value) (number .value); next = number .next }
 
 unfoldable pub fieldValueAt : Numbers → ℕ → FieldValueAt
 fieldValueAt ns k =
     let place = unsignedAt 1 ns k in
     let number = byteAt ns (place .next) in
-    record { ok = place .ok && number .ok; value = fieldValueOf (place .value) (number .value); next = number .next }
+    record { ok = place .ok && number .ok; value = fieldValueByPlace (place .value) (number .value); next = number .next }
 
 unfoldable pub indexAt : Numbers → ℕ → IndexAt
 indexAt ns k =

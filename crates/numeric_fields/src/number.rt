@@ -1,7 +1,7 @@
 // Numbers inside their declared types.
 ghost use mathlib.Core.Path.{_≡_};
 ghost use Prim.Native.Nat.{_≤_, _<_};
-ghost use Rattle.numeric_spec.specs.Number.{minus};
+ghost use Rattle.base_spec.specs.Signed.{minus};
 ghost use Rattle.numeric_fields.specs.Number.{numbersIn, unsignedAt, signedAt, byteAt, wordAt, longAt};
 use crate::ByteAt;
 use crate::LongAt;

@@ -1,7 +1,8 @@
 // Enums and registers: a variant's place, then its fields.
 ghost use mathlib.Core.Path.{_≡_};
 ghost use Rattle.numeric_fields.specs.Number.{numbersIn};
-ghost use Rattle.numeric_fields.specs.Part.{sizeOf, sizeAt, addressWidthOf, addressWidthAt, registerOf, registerAt, indexAt, fieldValueOf, fieldValueAt, bitFieldAt, trapOperandOf, trapOperandAt, registerChoiceOf, registerChoiceAt};
+ghost use Rattle.numeric_spec.specs.Value.{sizeByPlace, addressWidthByPlace, registerByPlace, fieldValueByPlace};
+ghost use Rattle.numeric_fields.specs.Part.{sizeAt, addressWidthAt, registerAt, indexAt, fieldValueAt, bitFieldAt, trapOperandOf, trapOperandAt, registerChoiceOf, registerChoiceAt};
 use crate::AddressWidthAt;
 use crate::BitFieldAt;
 use crate::FieldValueAt;
@@ -24,7 +25,7 @@ use isa::Size;
 use isa::TrapOperand;
 
 fn size_of(place: u64) -> Size
-    ensures { λ r. ⌜ r ≡ sizeOf place ⌝ }
+    ensures { λ r. ⌜ r ≡ sizeByPlace place ⌝ }
 {
     match place {
         0 => Size::Byte,
@@ -47,7 +48,7 @@ pub fn size_at(count: usize, negative: &[bool; 24], magnitude: &[u64; 24], k: us
 }
 
 fn address_width_of(place: u64) -> AddressWidth
-    ensures { λ r. ⌜ r ≡ addressWidthOf place ⌝ }
+    ensures { λ r. ⌜ r ≡ addressWidthByPlace place ⌝ }
 {
     match place {
         0 => AddressWidth::Word,
@@ -74,7 +75,7 @@ pub fn address_width_at(
 }
 
 fn register_of(place: u64, number: u8) -> RegisterOperand
-    ensures { λ r. ⌜ r ≡ registerOf place number ⌝ }
+    ensures { λ r. ⌜ r ≡ registerByPlace place number ⌝ }
 {
     match place {
         0 => RegisterOperand::Address(number),
@@ -102,7 +103,7 @@ pub fn register_at(
 }
 
 fn field_value_of(place: u64, number: u8) -> FieldValue
-    ensures { λ r. ⌜ r ≡ fieldValueOf place number ⌝ }
+    ensures { λ r. ⌜ r ≡ fieldValueByPlace place number ⌝ }
 {
     match place {
         0 => FieldValue::Immediate(number),

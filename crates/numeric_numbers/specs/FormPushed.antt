@@ -5,13 +5,13 @@ use native.Mathlib.Omega.{arith}
 use lib.ListN.{length}
 use Rattle.isa.specs.declared.Instruction.{Instruction}
 use Rattle.numeric_spec.specs.declared.Numbers.{Numbers}
-use Rattle.numeric_spec.specs.Entry.{numbersFrom}
+use Rattle.numeric_push.specs.Places.{numbersFrom}
 use Rattle.numeric_spec.specs.Form.{formOf}
-use Rattle.numeric_laws.specs.RoundTrip.{form-length}
+use Rattle.numeric_facts.specs.Length.{form-length}
 use Rattle.numeric_push.specs.Pushed.{pushedAll, none}
 use Rattle.numeric_push.specs.PushedLaws.{pushed-numbers}
 
--- they are the form's numbers, at most 17; numeric's build-numbers gives the instruction back
+-- they are the form's numbers, at most 17
 pub form-numbers : (x : Instruction) {r : Numbers} → r ≡ pushedAll none (formOf x) → (r ≡ numbersFrom (formOf x)) × (r .count ≤ 17)
 unfolding numbersFrom
 form-numbers x {r} p =

@@ -1,7 +1,7 @@
 // From an instruction to its numbers, the other way of `build`.
 ghost use Prim.Native.Nat.{_≤_};
 ghost use mathlib.Core.Path.{_≡_};
-ghost use Rattle.numeric_spec.specs.Entry.{numbersFrom};
+ghost use Rattle.numeric_push.specs.Places.{numbersFrom};
 ghost use Rattle.numeric_spec.specs.Form.{formOf};
 ghost use Rattle.numeric_push.specs.Pushed.{pushedAll, none};
 use isa::Instruction;

@@ -1,2 +1,1 @@
 pub mod Operation
-pub mod Part

@@ -1,6 +1,6 @@
 // Enums without fields, by their variants' places.
 ghost use mathlib.Core.Path.{_≡_};
-ghost use Rattle.numeric_operations.specs.Part.{targetDirectionOf, conditionOf, branchSizeOf, shiftDirectionOf, signOf, bitFieldOperationOf};
+ghost use Rattle.numeric_spec.specs.Value.{targetDirectionByPlace, conditionByPlace, branchSizeByPlace, shiftDirectionByPlace, signByPlace, bitFieldOperationByPlace};
 use isa::BitFieldOperation;
 use isa::BranchSize;
 use isa::Condition;
@@ -9,7 +9,7 @@ use isa::Sign;
 use isa::TargetDirection;
 
 pub fn target_direction_of(place: u64) -> TargetDirection
-    ensures { λ r. ⌜ r ≡ targetDirectionOf place ⌝ }
+    ensures { λ r. ⌜ r ≡ targetDirectionByPlace place ⌝ }
 {
     match place {
         0 => TargetDirection::ToMemory,
@@ -19,7 +19,7 @@ pub fn target_direction_of(place: u64) -> TargetDirection
 }
 
 pub fn condition_of(place: u64) -> Condition
-    ensures { λ r. ⌜ r ≡ conditionOf place ⌝ }
+    ensures { λ r. ⌜ r ≡ conditionByPlace place ⌝ }
 {
     match place {
         0 => Condition::True,
@@ -43,7 +43,7 @@ pub fn condition_of(place: u64) -> Condition
 }
 
 pub fn branch_size_of(place: u64) -> BranchSize
-    ensures { λ r. ⌜ r ≡ branchSizeOf place ⌝ }
+    ensures { λ r. ⌜ r ≡ branchSizeByPlace place ⌝ }
 {
     match place {
         0 => BranchSize::Short,
@@ -54,7 +54,7 @@ pub fn branch_size_of(place: u64) -> BranchSize
 }
 
 pub fn shift_direction_of(place: u64) -> ShiftDirection
-    ensures { λ r. ⌜ r ≡ shiftDirectionOf place ⌝ }
+    ensures { λ r. ⌜ r ≡ shiftDirectionByPlace place ⌝ }
 {
     match place {
         0 => ShiftDirection::Right,
@@ -64,7 +64,7 @@ pub fn shift_direction_of(place: u64) -> ShiftDirection
 }
 
 pub fn sign_of(place: u64) -> Sign
-    ensures { λ r. ⌜ r ≡ signOf place ⌝ }
+    ensures { λ r. ⌜ r ≡ signByPlace place ⌝ }
 {
     match place {
         0 => Sign::Signed,
@@ -74,7 +74,7 @@ pub fn sign_of(place: u64) -> Sign
 }
 
 pub fn bit_field_operation_of(place: u64) -> BitFieldOperation
-    ensures { λ r. ⌜ r ≡ bitFieldOperationOf place ⌝ }
+    ensures { λ r. ⌜ r ≡ bitFieldOperationByPlace place ⌝ }
 {
     match place {
         0 => BitFieldOperation::Test,

@@ -6,7 +6,9 @@ use lib.Dec.{ltb}
 use lib.ListN.{set}
 use lib.IntN.{ℤ, natAbs}
 use Rattle.numeric_spec.specs.declared.Numbers.{Numbers}
-use Rattle.numeric_spec.specs.Entry.{Entry, numberOf, isNegative, pad}
+use Rattle.numeric_spec.specs.Entry.{Entry, entryNumber}
+use Rattle.numeric_push.specs.Places.{isNegative}
+use Rattle.base_facts.specs.Lists.{pad}
 
 -- n with one number more, where it has room
 unfoldable pub stored : Numbers → Bool → ℕ → Numbers
@@ -20,7 +22,7 @@ pushed n z = stored n (isNegative z) (natAbs z)
 
 unfoldable pub pushedAll : Numbers → List Entry → Numbers
 pushedAll n [] = n
-pushedAll n (e ∷ es) = pushedAll (pushed n (numberOf e)) es
+pushedAll n (e ∷ es) = pushedAll (pushed n (entryNumber e)) es
 
 unfoldable pub none : Numbers
 none = record { count = 0; negative = pad 24 false []; magnitude = pad 24 0 [] }

@@ -1,4 +1,3 @@
-pub mod Shape
 pub mod Table
 pub mod Row
 pub mod Slot

@@ -3,7 +3,7 @@ use Prim.Native.Nat.{ℕ}
 use mathlib.Core.List.{List, [], _∷_}
 use lib.ListN.{getD}
 use Rattle.numeric_operations.specs.Operation.{registerOperation, transferOperation, pairOperation, quickOperation, immediateOperation, wordOperation, unsizedRegisterOperation, unsizedOneOperation, unsizedPairOperation, oneOperation, shiftOperation, packOperation, branchOperation, linkOperation, statusOperation, conditionCodeOperation, vectorOperation, rawOperation, noOperandOperation}
-use Rattle.numeric_shapes.specs.Shape.{Shape, intoRegister, movem, transfer, pair, quick, moveq, immediateInto, wordIntoData, swap, exg, unsizedIntoRegister, unsizedOne, unsizedPair, ext, oneOperand, bcc, scc, dbcc, branch, link, unlk, shift, vector, status, conditionCode, moveusp, raw, noOperand, rtd, movec, trapcc, mull, pack, cas, cas2, bf, divl}
+use Rattle.numeric_spec.specs.Shape.{Shape, intoRegister, movem, transfer, pair, quick, moveq, immediateInto, wordIntoData, swap, exg, unsizedIntoRegister, unsizedOne, unsizedPair, ext, oneOperand, bcc, scc, dbcc, branch, link, unlk, shift, vector, status, conditionCode, moveusp, raw, noOperand, rtd, movec, trapcc, mull, pack, cas, cas2, bf, divl}
 
 abbrev pub byNumber : ℕ → List Shape
 byNumber operation =

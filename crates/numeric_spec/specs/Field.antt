@@ -141,12 +141,12 @@ abbrev pub registerPlace : RegisterOperand → ℕ
 registerPlace (Address n) = 0
 registerPlace (Data n) = 1
 
-abbrev pub registerFields : RegisterOperand → List Entry
-registerFields (Address n) = byteForm n
-registerFields (Data n) = byteForm n
+abbrev pub registerPayload : RegisterOperand → List Entry
+registerPayload (Address n) = byteForm n
+registerPayload (Data n) = byteForm n
 
 abbrev pub registerForm : RegisterOperand → List Entry
-registerForm r = unsigned 1 (registerPlace r) ∷ registerFields r
+registerForm r = unsigned 1 (registerPlace r) ∷ registerPayload r
 
 abbrev pub indexForm : IndexRegister → List Entry
 indexForm x = registerForm (x .register) ++ sizeForm (x .size)
@@ -155,12 +155,12 @@ abbrev pub fieldValuePlace : FieldValue → ℕ
 fieldValuePlace (value.Immediate n) = 0
 fieldValuePlace (value.Register n) = 1
 
-abbrev pub fieldValueFields : FieldValue → List Entry
-fieldValueFields (value.Immediate n) = byteForm n
-fieldValueFields (value.Register n) = byteForm n
+abbrev pub fieldValuePayload : FieldValue → List Entry
+fieldValuePayload (value.Immediate n) = byteForm n
+fieldValuePayload (value.Register n) = byteForm n
 
 abbrev pub fieldValueForm : FieldValue → List Entry
-fieldValueForm v = unsigned 1 (fieldValuePlace v) ∷ fieldValueFields v
+fieldValueForm v = unsigned 1 (fieldValuePlace v) ∷ fieldValuePayload v
 
 abbrev pub bitFieldForm : BitField → List Entry
 bitFieldForm f = fieldValueForm (f .offset) ++ fieldValueForm (f .width)
@@ -170,24 +170,24 @@ trapOperandPlace trap.None = 0
 trapOperandPlace (trap.Word n) = 1
 trapOperandPlace (trap.Long n) = 2
 
-abbrev pub trapOperandFields : TrapOperand → List Entry
-trapOperandFields trap.None = []
-trapOperandFields (trap.Word n) = wordForm n
-trapOperandFields (trap.Long n) = longForm n
+abbrev pub trapOperandPayload : TrapOperand → List Entry
+trapOperandPayload trap.None = []
+trapOperandPayload (trap.Word n) = wordForm n
+trapOperandPayload (trap.Long n) = longForm n
 
 abbrev pub trapOperandForm : TrapOperand → List Entry
-trapOperandForm x = unsigned 2 (trapOperandPlace x) ∷ trapOperandFields x
+trapOperandForm x = unsigned 2 (trapOperandPlace x) ∷ trapOperandPayload x
 
 abbrev pub registerChoicePlace : RegisterChoice → ℕ
 registerChoicePlace choice.None = 0
 registerChoicePlace (choice.Some n) = 1
 
-abbrev pub registerChoiceFields : RegisterChoice → List Entry
-registerChoiceFields choice.None = []
-registerChoiceFields (choice.Some n) = byteForm n
+abbrev pub registerChoicePayload : RegisterChoice → List Entry
+registerChoicePayload choice.None = []
+registerChoicePayload (choice.Some n) = byteForm n
 
 abbrev pub registerChoiceForm : RegisterChoice → List Entry
-registerChoiceForm x = unsigned 1 (registerChoicePlace x) ∷ registerChoiceFields x
+registerChoiceForm x = unsigned 1 (registerChoicePlace x) ∷ registerChoicePayload x
 
 abbrev pub operandPlace : Operand → ℕ
 operandPlace (Immediate v) = 0
@@ -202,18 +202,18 @@ operandPlace (PcIndex t x) = 8
 operandPlace (Extended base w z outer) = 9
 operandPlace (Absolute a w) = 10
 
-abbrev pub operandFields : Operand → List Entry
-operandFields (Immediate v) = longForm v
-operandFields (Register r) = registerForm r
-operandFields (Indirect n) = byteForm n
-operandFields (PostIndirect n) = byteForm n
-operandFields (PreIndirect n) = byteForm n
-operandFields (IndirectDisplacement z base) = signedForm z ++ registerForm base
-operandFields (IndirectIndex base z x) = registerForm base ++ signedForm z ++ indexForm x
-operandFields (PcDisplacement t) = longForm t
-operandFields (PcIndex t x) = longForm t ++ indexForm x
-operandFields (Extended base w z outer) = byteForm base ++ wordForm w ++ signedForm z ++ signedForm outer
-operandFields (Absolute a w) = addressForm a ++ addressWidthForm w
+abbrev pub operandPayload : Operand → List Entry
+operandPayload (Immediate v) = longForm v
+operandPayload (Register r) = registerForm r
+operandPayload (Indirect n) = byteForm n
+operandPayload (PostIndirect n) = byteForm n
+operandPayload (PreIndirect n) = byteForm n
+operandPayload (IndirectDisplacement z base) = signedForm z ++ registerForm base
+operandPayload (IndirectIndex base z x) = registerForm base ++ signedForm z ++ indexForm x
+operandPayload (PcDisplacement t) = longForm t
+operandPayload (PcIndex t x) = longForm t ++ indexForm x
+operandPayload (Extended base w z outer) = byteForm base ++ wordForm w ++ signedForm z ++ signedForm outer
+operandPayload (Absolute a w) = addressForm a ++ addressWidthForm w
 
 abbrev pub operandForm : Operand → List Entry
-operandForm o = unsigned 10 (operandPlace o) ∷ operandFields o
+operandForm o = unsigned 10 (operandPlace o) ∷ operandPayload o

@@ -42,7 +42,7 @@ use Rattle.isa.specs.declared.NoOperandOperation.{NoOperandOperation}
 use Rattle.isa.specs.declared.NoOperandOperation.the-variants.{RTE, RESET, RTR, TRAPV, ILLEGAL, RTS, NOP, SIMHALT}
 use Rattle.isa.specs.declared.Instruction.{Instruction}
 use Rattle.isa.specs.declared.Instruction.the-variants.{IntoRegister, MOVEM, Transfer, Pair, Quick, MOVEQ, ImmediateInto, WordIntoData, SWAP, EXG, UnsizedIntoRegister, UnsizedOne, UnsizedPair, EXT, OneOperand, Bcc, Scc, DBcc, Branch, Link, UNLK, Shift, Vector, Status, ConditionCode, MOVEUSP, Raw, NoOperand, RTD, MOVEC, TRAPcc, MULL, Pack, CAS, CAS2, BF, DIVL}
-use Rattle.numeric_spec.specs.Entry.{Entry, unsigned, numberOf}
+use Rattle.numeric_spec.specs.Entry.{Entry, unsigned, entryNumber}
 use Rattle.numeric_spec.specs.Field.{bitFieldForm, bitFieldOperationForm, branchSizeForm, byteForm, conditionForm, flagForm, longForm, operandForm, registerChoiceForm, registerForm, shiftDirectionForm, signForm, sizeForm, targetDirectionForm, trapOperandForm, wordForm}
 
 abbrev pub registerOperationPlace : RegisterOperation → ℕ
@@ -203,47 +203,47 @@ placeOf (CAS2 n n₂ n₃ n₄ r r₂ s) = 96
 placeOf (BF p o f n) = 97
 placeOf (DIVL o n n₂ b g) = 98
 
-abbrev pub fieldsOf : Instruction → List Entry
-fieldsOf (IntoRegister op o r s) = operandForm o ++ registerForm r ++ sizeForm s
-fieldsOf (MOVEM d s w o) = targetDirectionForm d ++ sizeForm s ++ wordForm w ++ operandForm o
-fieldsOf (Transfer op d s r o) = targetDirectionForm d ++ sizeForm s ++ registerForm r ++ operandForm o
-fieldsOf (Pair op o o₂ s) = operandForm o ++ operandForm o₂ ++ sizeForm s
-fieldsOf (Quick op n o s) = byteForm n ++ operandForm o ++ sizeForm s
-fieldsOf (MOVEQ n r) = byteForm n ++ registerForm r
-fieldsOf (ImmediateInto op v o s) = longForm v ++ operandForm o ++ sizeForm s
-fieldsOf (WordIntoData op o r g) = operandForm o ++ registerForm r ++ signForm g
-fieldsOf (SWAP r) = registerForm r
-fieldsOf (EXG r r₂) = registerForm r ++ registerForm r₂
-fieldsOf (UnsizedIntoRegister op o r) = operandForm o ++ registerForm r
-fieldsOf (UnsizedOne op o) = operandForm o
-fieldsOf (UnsizedPair op o o₂) = operandForm o ++ operandForm o₂
-fieldsOf (EXT r s s₂) = registerForm r ++ sizeForm s ++ sizeForm s₂
-fieldsOf (OneOperand op o s) = operandForm o ++ sizeForm s
-fieldsOf (Bcc v c s) = longForm v ++ conditionForm c ++ branchSizeForm s
-fieldsOf (Scc o c) = operandForm o ++ conditionForm c
-fieldsOf (DBcc r v c) = registerForm r ++ longForm v ++ conditionForm c
-fieldsOf (Branch op v s) = longForm v ++ branchSizeForm s
-fieldsOf (Link op r v) = registerForm r ++ longForm v
-fieldsOf (UNLK r) = registerForm r
-fieldsOf (Shift op o o₂ d s) = operandForm o ++ operandForm o₂ ++ shiftDirectionForm d ++ sizeForm s
-fieldsOf (Vector op n) = byteForm n
-fieldsOf (Status op w) = wordForm w
-fieldsOf (ConditionCode op n) = byteForm n
-fieldsOf (MOVEUSP b r) = flagForm b ++ registerForm r
-fieldsOf (Raw op w) = wordForm w
-fieldsOf (NoOperand op) = []
-fieldsOf (RTD v) = longForm v
-fieldsOf (MOVEC b w r) = flagForm b ++ wordForm w ++ registerForm r
-fieldsOf (TRAPcc c t) = conditionForm c ++ trapOperandForm t
-fieldsOf (MULL o n high g) = operandForm o ++ byteForm n ++ registerChoiceForm high ++ signForm g
-fieldsOf (Pack op o o₂ w) = operandForm o ++ operandForm o₂ ++ wordForm w
-fieldsOf (CAS n n₂ o s) = byteForm n ++ byteForm n₂ ++ operandForm o ++ sizeForm s
-fieldsOf (CAS2 n n₂ n₃ n₄ r r₂ s) = byteForm n ++ byteForm n₂ ++ byteForm n₃ ++ byteForm n₄ ++ registerForm r ++ registerForm r₂ ++ sizeForm s
-fieldsOf (BF p o f n) = bitFieldOperationForm p ++ operandForm o ++ bitFieldForm f ++ byteForm n
-fieldsOf (DIVL o n n₂ b g) = operandForm o ++ byteForm n ++ byteForm n₂ ++ flagForm b ++ signForm g
+abbrev pub payloadOf : Instruction → List Entry
+payloadOf (IntoRegister op o r s) = operandForm o ++ registerForm r ++ sizeForm s
+payloadOf (MOVEM d s w o) = targetDirectionForm d ++ sizeForm s ++ wordForm w ++ operandForm o
+payloadOf (Transfer op d s r o) = targetDirectionForm d ++ sizeForm s ++ registerForm r ++ operandForm o
+payloadOf (Pair op o o₂ s) = operandForm o ++ operandForm o₂ ++ sizeForm s
+payloadOf (Quick op n o s) = byteForm n ++ operandForm o ++ sizeForm s
+payloadOf (MOVEQ n r) = byteForm n ++ registerForm r
+payloadOf (ImmediateInto op v o s) = longForm v ++ operandForm o ++ sizeForm s
+payloadOf (WordIntoData op o r g) = operandForm o ++ registerForm r ++ signForm g
+payloadOf (SWAP r) = registerForm r
+payloadOf (EXG r r₂) = registerForm r ++ registerForm r₂
+payloadOf (UnsizedIntoRegister op o r) = operandForm o ++ registerForm r
+payloadOf (UnsizedOne op o) = operandForm o
+payloadOf (UnsizedPair op o o₂) = operandForm o ++ operandForm o₂
+payloadOf (EXT r s s₂) = registerForm r ++ sizeForm s ++ sizeForm s₂
+payloadOf (OneOperand op o s) = operandForm o ++ sizeForm s
+payloadOf (Bcc v c s) = longForm v ++ conditionForm c ++ branchSizeForm s
+payloadOf (Scc o c) = operandForm o ++ conditionForm c
+payloadOf (DBcc r v c) = registerForm r ++ longForm v ++ conditionForm c
+payloadOf (Branch op v s) = longForm v ++ branchSizeForm s
+payloadOf (Link op r v) = registerForm r ++ longForm v
+payloadOf (UNLK r) = registerForm r
+payloadOf (Shift op o o₂ d s) = operandForm o ++ operandForm o₂ ++ shiftDirectionForm d ++ sizeForm s
+payloadOf (Vector op n) = byteForm n
+payloadOf (Status op w) = wordForm w
+payloadOf (ConditionCode op n) = byteForm n
+payloadOf (MOVEUSP b r) = flagForm b ++ registerForm r
+payloadOf (Raw op w) = wordForm w
+payloadOf (NoOperand op) = []
+payloadOf (RTD v) = longForm v
+payloadOf (MOVEC b w r) = flagForm b ++ wordForm w ++ registerForm r
+payloadOf (TRAPcc c t) = conditionForm c ++ trapOperandForm t
+payloadOf (MULL o n high g) = operandForm o ++ byteForm n ++ registerChoiceForm high ++ signForm g
+payloadOf (Pack op o o₂ w) = operandForm o ++ operandForm o₂ ++ wordForm w
+payloadOf (CAS n n₂ o s) = byteForm n ++ byteForm n₂ ++ operandForm o ++ sizeForm s
+payloadOf (CAS2 n n₂ n₃ n₄ r r₂ s) = byteForm n ++ byteForm n₂ ++ byteForm n₃ ++ byteForm n₄ ++ registerForm r ++ registerForm r₂ ++ sizeForm s
+payloadOf (BF p o f n) = bitFieldOperationForm p ++ operandForm o ++ bitFieldForm f ++ byteForm n
+payloadOf (DIVL o n n₂ b g) = operandForm o ++ byteForm n ++ byteForm n₂ ++ flagForm b ++ signForm g
 
 unfoldable pub formOf : Instruction → List Entry
-formOf i = unsigned 98 (placeOf i) ∷ fieldsOf i
+formOf i = unsigned 98 (placeOf i) ∷ payloadOf i
 
 unfoldable pub numbersOf : Instruction → List ℤ
-numbersOf i = map numberOf (formOf i)
+numbersOf i = map entryNumber (formOf i)

@@ -1,4 +1,7 @@
-pub mod Number
 pub mod Entry
 pub mod Field
 pub mod Form
+pub mod Value
+pub mod Take
+pub mod Shape
+pub mod Build

@@ -1,19 +1,21 @@
 -- What `encode` prints for a line: the words, `=>` and the size, or refusals in their places.
 use mathlib.Core.Bool.{cond}
-use mathlib.Core.List.{List, [], _∷_, _++_}
+use mathlib.Core.List.{List, [], _∷_, _++_, map}
 use Prim.Native.Nat.{ℕ}
 use lib.Dec.{eqb}
+use lib.IntN.{ℤ}
 use lib.ListN.{take}
 use Rattle.isa.specs.declared.Encoded.{Encoded}
 use Rattle.isa.specs.declared.Measured.{Measured}
 use Rattle.encode_spec.specs.Encode.{encodeOf, sizeOf}
-use Rattle.numeric_spec.specs.declared.Numbers.{Numbers}
-use Rattle.numeric_build.specs.declared.Built.{Built}
-use Rattle.numeric_build.specs.declared.Built.the-variants.{Instruction, NotInForm}
-use Rattle.numeric_fields.specs.Number.{longAt}
-use Rattle.numeric_build.specs.Build.{buildOf}
-use Rattle.base_spec.specs.declared.Numbers as read
-use Rattle.base_spec.specs.Numbers.{numbersOf}
+use Rattle.numeric_spec.specs.declared.Built.{Built}
+use Rattle.numeric_spec.specs.declared.Built.the-variants.{Instruction, NotInForm}
+use Rattle.numeric_spec.specs.Take.{Taken, taken, notThere, takeLong}
+use Rattle.numeric_spec.specs.Build.{builtOf}
+use Rattle.base_spec.specs.declared.Number.{Number}
+use Rattle.base_spec.specs.Parts.{fields}
+use Rattle.base_spec.specs.Number.{numberOf}
+use Rattle.base_spec.specs.Numbers.{allNumbers, integerOf}
 use Rattle.base_spec.specs.Written.{hex4Of, decimalOf}
 use Rattle.base_spec.specs.Refused.{tab, refusedText, notInForm}
 
@@ -38,13 +40,18 @@ abbrev pub builtText : Built → ℕ → List ℕ
 builtText (Instruction i) address = resultText (encodeOf i address) (sizeOf i)
 builtText NotInForm address = notInForm
 
--- for the address and the numbers of an instruction
-unfoldable pub numbersText : Numbers → List ℕ
-numbersText ns = let address = longAt ns 0 in cond (address .ok) (builtText (buildOf ns 1) (address .value)) notInForm
+-- for numbers: an address of 32 bits, then those of an instruction
+abbrev pub addressedText : Taken ℕ → List ℕ
+addressedText (taken address rest) = builtText (builtOf rest) address
+addressedText notThere = notInForm
 
-abbrev pub numbersIn : read.Numbers → Numbers
-numbersIn n = record { count = n .count; negative = n .negative; magnitude = n .magnitude }
+unfoldable pub instructionText : List ℤ → List ℕ
+instructionText zs = addressedText (takeLong zs)
+
+-- for the numbers that the fields of a line say
+unfoldable pub lineNumbersText : List Number → List ℕ
+lineNumbersText ns = cond (allNumbers ns) (instructionText (map integerOf ns)) notInForm
 
 -- for a line
 unfoldable pub answerOf : List ℕ → List ℕ
-answerOf line = let n = numbersOf line in cond (n .ok) (numbersText (numbersIn n)) notInForm
+answerOf line = lineNumbersText (map numberOf (fields line))

@@ -9,13 +9,13 @@ use Rattle.sheet_spec.specs.Sheet.{linesIn, counted}
 use Rattle.sheet_spec.specs.Translate.{Outcome, inOrder, refused, startIn, countIn, addressesIn, outcomeOf, lineWords}
 
 -- a tab and each word
-abbrev pub wordsText : List ℕ → List ℕ
-wordsText [] = []
-wordsText (w ∷ ws) = tab ++ hex4Of w ++ wordsText ws
+abbrev pub listedWords : List ℕ → List ℕ
+listedWords [] = []
+listedWords (w ∷ ws) = tab ++ hex4Of w ++ listedWords ws
 
 -- number⇥address⇥words
 unfoldable pub lineText : ℕ → ℕ → List ℕ → List ℕ
-lineText k address words = fieldText k ++ hex8Of address ++ wordsText words ++ (10 ∷ [])
+lineText k address words = fieldText k ++ hex8Of address ++ listedWords words ++ (10 ∷ [])
 
 -- the lines of a sheet of n lines, from line k on, which stands at a
 abbrev pub listingFrom : List ℕ → ℕ → ℕ → ℕ → List (List ℕ) → List ℕ
@@ -27,13 +27,13 @@ unfoldable pub listingOf : List ℕ → List ℕ
 listingOf text = listingFrom (addressesIn text) (countIn text) 1 (startIn text) (linesIn text)
 
 -- refused⇥number⇥line⇥detail⇥value
-unfoldable pub refusalText : ℕ → ℕ → ℕ → ℤ → List ℕ
-refusalText number line detail value =
+unfoldable pub sheetRefusal : ℕ → ℕ → ℕ → ℤ → List ℕ
+sheetRefusal number line detail value =
     bytes "refused\t" ++ fieldText number ++ fieldText line ++ fieldText detail ++ signedOf value ++ (10 ∷ [])
 
 abbrev pub printedAs : Outcome → List ℕ → List ℕ
 printedAs inOrder listing = listing
-printedAs (refused number line detail value) listing = refusalText number line detail value
+printedAs (refused number line detail value) listing = sheetRefusal number line detail value
 
 -- with so many scratch places and image words
 unfoldable pub printedOf : List ℕ → ℕ → ℕ → List ℕ

@@ -12,9 +12,11 @@ use Rattle.isa.specs.declared.Instruction.{Instruction}
 use Rattle.base_spec.specs.Written.{decimalOf, signedOf}
 use Rattle.base_spec.specs.Refused.{tab, notInForm}
 use Rattle.numeric_spec.specs.declared.Numbers.{Numbers}
-use Rattle.numeric_spec.specs.Entry.{Entry, unsigned, numberOf, isNegative, pad, numbersFrom}
+use Rattle.numeric_spec.specs.Entry.{Entry, unsigned, entryNumber}
+use Rattle.numeric_push.specs.Places.{isNegative, numbersFrom}
+use Rattle.base_facts.specs.Lists.{pad, getD-pad}
 use Rattle.numeric_spec.specs.Form.{formOf, numbersOf}
-use Rattle.numeric_laws.specs.RoundTrip.{form-length}
+use Rattle.numeric_facts.specs.Length.{form-length}
 use Rattle.print_spec.specs.declared.Run.{Run}
 use Rattle.print_spec.specs.Run.{runOf}
 use Rattle.read_runs.specs.RunLaws.{run-count, run-places}
@@ -35,13 +37,6 @@ number-text : (z : ℤ) → numberText (isNegative z) (natAbs z) ≡ signedOf z 
 number-text (pos n) = refl
 number-text (negsuc n) = refl
 
-getD-pad : {A : Type 0} (n : ℕ) (d : A) (xs : List A) (k : ℕ) → k < n → getD (pad n d xs) k d ≡ getD xs k d
-getD-pad zero d xs k h = absurd (omega arith)
-getD-pad (suc n) d [] zero h = refl
-getD-pad (suc n) d [] (suc k) h = getD-pad n d [] k (omega arith)
-getD-pad (suc n) d (x ∷ xs) zero h = refl
-getD-pad (suc n) d (x ∷ xs) (suc k) h = getD-pad n d xs k (omega arith)
-
 text-more : (zs : List ℤ) (z : ℤ) → numbersText (zs ++ (z ∷ [])) ≡ numbersText zs ++ (signedOf z ++ tab)
 text-more [] z = append-nil (signedOf z ++ tab)
 text-more (y ∷ zs) z =
@@ -49,32 +44,32 @@ text-more (y ∷ zs) z =
 
 -- entry k as it is held
 module _ (es : List Entry) (k : ℕ) (h : k < 24) where
-  held : numberText (getD (numbersFrom es .negative) k false) (getD (numbersFrom es .magnitude) k 0) ≡ signedOf (numberOf (getD es k (unsigned 0 0))) ++ tab
+  held : numberText (getD (numbersFrom es .negative) k false) (getD (numbersFrom es .magnitude) k 0) ≡ signedOf (entryNumber (getD es k (unsigned 0 0))) ++ tab
   unfolding numbersFrom
   held =
-      (λ i. numberText (n i) (m i)) ∙ number-text (numberOf (getD es k (unsigned 0 0)))
+      (λ i. numberText (n i) (m i)) ∙ number-text (entryNumber (getD es k (unsigned 0 0)))
     where
-      n : getD (pad 24 false (map (λ e. isNegative (numberOf e)) es)) k false ≡ isNegative (numberOf (getD es k (unsigned 0 0)))
-      n = getD-pad 24 false (map (λ e. isNegative (numberOf e)) es) k h ∙ List·getD-map (λ e. isNegative (numberOf e)) es k (unsigned 0 0)
+      n : getD (pad 24 false (map (λ e. isNegative (entryNumber e)) es)) k false ≡ isNegative (entryNumber (getD es k (unsigned 0 0)))
+      n = getD-pad 24 false (map (λ e. isNegative (entryNumber e)) es) k h ∙ List·getD-map (λ e. isNegative (entryNumber e)) es k (unsigned 0 0)
 
-      m : getD (pad 24 0 (map (λ e. natAbs (numberOf e)) es)) k 0 ≡ natAbs (numberOf (getD es k (unsigned 0 0)))
-      m = getD-pad 24 0 (map (λ e. natAbs (numberOf e)) es) k h ∙ List·getD-map (λ e. natAbs (numberOf e)) es k (unsigned 0 0)
+      m : getD (pad 24 0 (map (λ e. natAbs (entryNumber e)) es)) k 0 ≡ natAbs (entryNumber (getD es k (unsigned 0 0)))
+      m = getD-pad 24 0 (map (λ e. natAbs (entryNumber e)) es) k h ∙ List·getD-map (λ e. natAbs (entryNumber e)) es k (unsigned 0 0)
 
-first-text : (es : List Entry) (k : ℕ) → k ≤ length es → k ≤ 24 → firstNumbers (numbersFrom es) k ≡ numbersText (map numberOf (take k es))
+first-text : (es : List Entry) (k : ℕ) → k ≤ length es → k ≤ 24 → firstNumbers (numbersFrom es) k ≡ numbersText (map entryNumber (take k es))
 first-text es zero h g = refl
 first-text es (suc k) h g =
     let d = unsigned 0 0 in
-    rw (first-text es k (omega arith) (omega arith), held es k (omega arith), take-suc es k d h, map-append numberOf (take k es) (getD es k d ∷ []))
-    (sym (text-more (map numberOf (take k es)) (numberOf (getD es k d))))
+    rw (first-text es k (omega arith) (omega arith), held es k (omega arith), take-suc es k d h, map-append entryNumber (take k es) (getD es k d ∷ []))
+    (sym (text-more (map entryNumber (take k es)) (entryNumber (getD es k d))))
 
 count-is : (es : List Entry) → numbersFrom es .count ≡ length es
 unfolding numbersFrom
 count-is es = refl
 
-all-text : (es : List Entry) → length es ≤ 24 → firstNumbers (numbersFrom es) (numbersFrom es .count) ≡ numbersText (map numberOf es)
+all-text : (es : List Entry) → length es ≤ 24 → firstNumbers (numbersFrom es) (numbersFrom es .count) ≡ numbersText (map entryNumber es)
 all-text es h =
     ap (firstNumbers (numbersFrom es)) (count-is es) ∙ first-text es (length es) (omega arith) h
-    ∙ ap (λ (l : List Entry). numbersText (map numberOf l)) (take-length es)
+    ∙ ap (λ (l : List Entry). numbersText (map entryNumber l)) (take-length es)
 
 pub put-text : (i : Instruction) (ns : Numbers) (n : ℕ) → ns ≡ numbersFrom (formOf i) → putText ns n ≡ readText (numbersOf i) n
 unfolding putText readText numbersOf

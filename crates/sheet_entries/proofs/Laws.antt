@@ -11,8 +11,8 @@ use lib.Seq.{take-all, length-take-le, take-suc, drop-cons, append-snoc, set-at}
 use denote.Laws.{Is}
 use denote.Struct.Declared.{row}
 use mir.Val.{Val}
-use Rattle.numeric_build.specs.declared.Built.the-variants as built
-use Rattle.numeric_build.specs.Build.{buildOf}
+use Rattle.numeric_spec.specs.declared.Built.the-variants as built
+use Rattle.numeric_spec.specs.Build.{builtFrom}
 use Rattle.sheet_tokens.specs.declared.Entries.{Entries}
 use Rattle.sheet_tokens.proofs.Entries as entries
 use Rattle.sheet_spec.specs.Made.{addressIn}
@@ -108,7 +108,7 @@ module _ (addresses : List ℕ) where
   address-line (suc k) h = let e : suc k - 1 ≡ k = omega arith in rw e
 
   module _ (e : Entries) where
-    pub made-ok : e .ok ≡ true → madeWith e addresses ≡ buildOf (numbersWith e addresses) 0
+    pub made-ok : e .ok ≡ true → madeWith e addresses ≡ builtFrom (numbersWith e addresses) 0
     unfolding madeWith
     made-ok h = cond-true (e .ok) _ _ h
 

@@ -4,9 +4,9 @@ use mathlib.Core.Bool.{Bool, true, cond, not, _&&_, _||_}
 use mathlib.Core.List.{List, [], _∷_}
 use lib.Dec.{leb}
 use Rattle.numeric_spec.specs.declared.Numbers.{Numbers}
-use Rattle.numeric_build.specs.declared.Built.{Built}
-use Rattle.numeric_build.specs.declared.Built.the-variants as built
-use Rattle.numeric_build.specs.Build.{buildOf}
+use Rattle.numeric_spec.specs.declared.Built.{Built}
+use Rattle.numeric_spec.specs.declared.Built.the-variants as built
+use Rattle.numeric_spec.specs.Build.{builtFrom}
 use Rattle.sheet_tokens.specs.declared.Entries.{Entries}
 use Rattle.sheet_spec.specs.Made.{addressIn}
 
@@ -35,4 +35,4 @@ unfoldable pub numbersWith : Entries → List ℕ → Numbers
 numbersWith e addresses = record { count = e .count; negative = e .negative; magnitude = resolvedNumbers addresses (e .named) (e .magnitude) }
 
 unfoldable pub madeWith : Entries → List ℕ → Built
-madeWith e addresses = cond (e .ok) (buildOf (numbersWith e addresses) 0) built.NotInForm
+madeWith e addresses = cond (e .ok) (builtFrom (numbersWith e addresses) 0) built.NotInForm

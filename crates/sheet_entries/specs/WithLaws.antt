@@ -6,18 +6,13 @@ use mathlib.Core.List.{List, [], _∷_, _++_, map}
 use native.Mathlib.Omega.{arith}
 use lib.ListN.{length, set, length-append, length-map}
 use borrow.Author.Tests.{lt-ltb, le-ltb}
-use Rattle.numeric_spec.specs.Entry.{pad}
+use Rattle.base_facts.specs.Lists.{pad, map-more}
 use Rattle.sheet_tokens.specs.declared.Value.{Value}
 use Rattle.sheet_tokens.specs.declared.Value.the-variants as value
 use Rattle.sheet_tokens.specs.declared.Entries.{Entries}
 use Rattle.sheet_spec.specs.Line.{Token, literal, label, invalid}
 use Rattle.sheet_tokens.specs.Entries.{valueOf, isLine, negativeIn, magnitudeIn, noEntries, entriesFrom}
 use Rattle.sheet_entries.specs.With.{placedEntry, withValue}
-
-module _ {A : Type 0} {B : Type 0} where
-  map-more : (f : A → B) (l : List A) (a : A) → map f (l ++ (a ∷ [])) ≡ map f l ++ (f a ∷ [])
-  map-more f [] a = refl
-  map-more f (x ∷ xs) a = ap (λ (t : List B). f x ∷ t) (map-more f xs a)
 
 module _ {A : Type 0} where
   pad-more : (n : ℕ) (z : A) (l : List A) (k : ℕ) (a : A) → length l ≡ k → k < n → set (pad n z l) k a ≡ pad n z (l ++ (a ∷ []))

@@ -10,8 +10,8 @@ use borrow.Author.Tests.{eqb-true, ltb-true, leb-true}
 use Rattle.sheet_spec.specs.declared.Kind.the-variants as kind
 use Rattle.sheet_spec.specs.Names.{bytes, instructionNames}
 use Rattle.sheet_spec.specs.Line.{Token, literal, label, invalid, equal, isNone, asVariant}
-use Rattle.sheet_token_laws.specs.Facts.{equal-is, equal-refl}
-use Rattle.sheet_token_laws.specs.Names.{place-is, some-or, name-back}
+use Rattle.sheet_facts.specs.Facts.{equal-is, equal-refl}
+use Rattle.sheet_facts.specs.Names.{place-is, some-or, name-back}
 use Rattle.sheet_field.specs.Hash.{hashOf, hashed, placeOf, nameAt, offsetOf}
 use Rattle.base_facts.specs.Tests.{T-true, and-true, below, all}
 

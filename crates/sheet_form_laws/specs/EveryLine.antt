@@ -10,21 +10,21 @@ use Rattle.isa.specs.declared.RawOperation.the-variants.{IllegalWord}
 use Rattle.isa.specs.declared.NoOperandOperation.the-variants.{SIMHALT}
 use Rattle.isa.specs.declared.Instruction.{Instruction}
 use Rattle.isa.specs.declared.Instruction.the-variants.{Raw, NoOperand}
-use Rattle.numeric_spec.specs.Entry.{numberOf, Inside}
+use Rattle.numeric_spec.specs.Entry.{entryNumber, Inside}
 use Rattle.numeric_spec.specs.Form.{placeOf, formOf, numbersOf}
 use Rattle.numeric_spec.specs.Form as numeric
-use Rattle.numeric_build.specs.declared.Built.the-variants as built
+use Rattle.numeric_spec.specs.declared.Built.the-variants as built
 use Rattle.sheet_spec.specs.declared.Kind.the-variants as kind
 use Rattle.sheet_spec.specs.Names.{bytes, namesOf}
 use Rattle.sheet_spec.specs.Line.{Token, literal, label, invalid}
 use Rattle.sheet_spec.specs.Spell.{numberAs, Variant, Fits, spell, Line}
 use Rattle.sheet_spec.specs.Made.{madeOf}
-use Rattle.sheet_token_laws.specs.Numbers.{entries}
+use Rattle.sheet_size_facts.specs.Says.{entries, place-named}
 use Rattle.sheet_form_laws.specs.InForm.{form-complete}
-use Rattle.sheet_form_laws.specs.Fitting.{fields-numbers, Fitting}
+use Rattle.sheet_size_facts.specs.Fitting.{fields-numbers, Fitting}
 use Rattle.sheet_spec.specs.Told.{Mark, saying, unaimed, HasLine, Told}
-use Rattle.sheet_form_laws.specs.Sorts.{variant-fitting}
-use Rattle.sheet_form_laws.specs.Rows.{row}
+use Rattle.sheet_size_facts.specs.Sorts.{variant-fitting}
+use Rattle.sheet_size_facts.specs.Rows.{row}
 
 fitted : (i : Instruction) → HasLine i → (m : ℕ → Mark) → Fitting entries (kind.Instruction ∷ []) i m []
 fitted i l m =
@@ -38,23 +38,17 @@ pub every-line : (m : ℕ → Mark) (i : Instruction) → HasLine i → Inside (
 unfolding formOf numbersOf
 every-line m i l h =
     let f = fitted i l m in
-    let n = append-nil (numeric.fieldsOf i) in
+    let n = append-nil (numeric.payloadOf i) in
     let e : entries (f .bare) ≡ unaimed m (kind.Instruction ∷ []) (entries i) = sym (append-nil (entries (f .bare))) ∙ sym (rw n at (f .leaves [])) in
     let b = fields-numbers m (kind.Instruction ∷ []) (entries i) h in
     let g : Fits (kind.Instruction ∷ []) (saying m (kind.Instruction ∷ []) (entries i)) = (rw n at (f .fits [])) h (λ i. tt) in
-    record { bare = f .bare; form = e; line = record { grammar = g; numbers = b .0 ∙ ap (map numberOf) (sym e); inside = subst Inside (sym e) (b .1) } }
+    record { bare = f .bare; form = e; line = record { grammar = g; numbers = b .0 ∙ ap (map entryNumber) (sym e); inside = subst Inside (sym e) (b .1) } }
 
 -- each such line is in the form
 pub every-line-in-form : (m : ℕ → Mark) (i : Instruction) (l : HasLine i) (h : Inside (formOf i)) → madeOf (λ n. 0) (spell (saying m (kind.Instruction ∷ []) (formOf i))) ≡ built.Instruction (every-line m i l h .bare)
 every-line-in-form m i l h = form-complete _ _ (every-line m i l h .line)
 
 -- IllegalWord and SIMHALT have none
-pub place-named : (v : Token) (p : ℕ) → Variant kind.Instruction v → numberAs (λ n. 0) v ≡ pos p → 0 < length (getD (map bytes (namesOf kind.Instruction)) p [])
-place-named (literal true n) p s e = absurd s
-place-named (literal false n) p s e = subst (λ (k : ℕ). 0 < length (getD (map bytes (namesOf kind.Instruction)) k [])) (ap natAbs e) (s .1)
-place-named (label n) p s e = absurd s
-place-named invalid p s e = absurd s
-
 line-named : (vs : List Token) (i : Instruction) → Line vs i → 0 < length (getD (map bytes (namesOf kind.Instruction)) (placeOf i) [])
 unfolding formOf numbersOf
 line-named [] i l = absurd (l .grammar)

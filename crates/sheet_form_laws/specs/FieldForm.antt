@@ -13,8 +13,8 @@ use Rattle.sheet_spec.specs.declared.Kind.{Kind}
 use Rattle.sheet_spec.specs.declared.Kind.the-variants as kind
 use Rattle.sheet_spec.specs.Line.{Token, literal, label, invalid, asNumber, asName, isName, asVariant, token}
 use Rattle.sheet_spec.specs.Spell.{signText, numberText, nameText, spelled, Written, Named, Either, Variant, Suits}
-use Rattle.sheet_token_laws.specs.Names.{solid, name-back, name-solid}
-use Rattle.sheet_token_laws.specs.Fields.{Sorted, of-number, of-target, of-place, of-variant, sorted, name-is, variant-said}
+use Rattle.sheet_facts.specs.Names.{solid, name-back, name-solid}
+use Rattle.sheet_facts.specs.Fields.{Sorted, of-number, of-target, of-place, of-variant, sorted, name-is, variant-said}
 use Rattle.sheet_form_laws.specs.NumberForm.{digit, decimal-plain, decimal-value, plain-digits, plain-decimal, number-form, number-back}
 use Rattle.base_facts.specs.Tests.{and-true, cond-true, cond-false}
 

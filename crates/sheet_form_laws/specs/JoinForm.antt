@@ -10,7 +10,7 @@ use borrow.Author.Tests.{eqb-true, ltb-true, ne-eqb}
 use Rattle.base_spec.specs.Parts.{onto, parts, fields}
 use Rattle.base_spec.specs.Lines.{linesOf}
 use Rattle.sheet_spec.specs.Spell.{joined}
-use Rattle.sheet_token_laws.specs.Names.{solid}
+use Rattle.sheet_facts.specs.Names.{solid}
 use Rattle.base_facts.specs.Tests.{and-true}
 
 joined-onto : (b : ℕ) (ps : List (List ℕ)) → joined (onto b ps) ≡ b ∷ joined ps

@@ -3,8 +3,4 @@ pub mod JoinForm
 pub mod FieldForm
 pub mod LineForm
 pub mod InForm
-pub mod Turned
-pub mod Fitting
-pub mod Sorts
-pub mod Rows
 pub mod EveryLine

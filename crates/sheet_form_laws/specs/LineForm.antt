@@ -9,8 +9,8 @@ use Rattle.sheet_spec.specs.declared.Kind.the-variants as kind
 use Rattle.sheet_spec.specs.Grammar.{kindsOf}
 use Rattle.sheet_spec.specs.Line.{Token, literal, label, invalid, says, with, after, lineFrom, lineOf}
 use Rattle.sheet_spec.specs.Spell.{spelled, Suits, nextKinds, Fits, fieldsFrom, joined, spell}
-use Rattle.sheet_token_laws.specs.Fields.{suits-some}
-use Rattle.sheet_token_laws.specs.Lines.{by-line, line-fits}
+use Rattle.sheet_facts.specs.Fields.{suits-some}
+use Rattle.sheet_facts.specs.Lines.{by-line, line-fits}
 use Rattle.sheet_form_laws.specs.FieldForm.{said-spelled, said-is, field-solid}
 use Rattle.sheet_form_laws.specs.JoinForm.{Solid, joined-fields, fields-joined, joined-line}
 

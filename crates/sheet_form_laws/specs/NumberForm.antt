@@ -13,7 +13,7 @@ use Rattle.base_text.specs.WrittenLaws.{decimal-small, decimal-more}
 use Rattle.base_text.specs.ReadBack.{Digits, decimal-digits, decimal-back, negative-back}
 use Rattle.sheet_spec.specs.Line.{literal}
 use Rattle.sheet_spec.specs.Spell.{signText, Written}
-use Rattle.sheet_token_laws.specs.Fields.{number-is}
+use Rattle.sheet_facts.specs.Fields.{number-is}
 use Rattle.base_facts.specs.Tests.{and-true}
 
 pub digit : (b : ℕ) → isDigit b ≡ true → (48 ≤ b) × (b ≤ 57)

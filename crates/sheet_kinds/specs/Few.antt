@@ -7,7 +7,7 @@ use lib.ListN.{length}
 use Rattle.sheet_spec.specs.declared.Kind.{Kind}
 use Rattle.sheet_spec.specs.Line.{Token, literal, label, invalid, says, lineOf}
 use Rattle.sheet_spec.specs.Spell.{nextKinds}
-use Rattle.sheet_token_laws.specs.Lines.{by-line}
+use Rattle.sheet_facts.specs.Lines.{by-line}
 use Rattle.sheet_kinds.specs.Weight.{most, total, most-next, most-rest}
 
 pub most-following : (k : Kind) (v : Token) (ks : List Kind) → total most (nextKinds k v ++ ks) < total most (k ∷ ks)

@@ -7,7 +7,7 @@ use native.Mathlib.Omega.{arith}
 use lib.ListN.{length}
 use Rattle.isa.specs.declared.Instruction.{Instruction}
 use Rattle.encode_spec.specs.Encode.{wordsOf}
-use Rattle.numeric_build.specs.declared.Built.{Built}
+use Rattle.numeric_spec.specs.declared.Built.{Built}
 use Rattle.sheet_spec.specs.Made.{addressIn}
 use Rattle.read_spec.specs.declared.Reading.the-variants.{Read}
 use Rattle.read_spec.specs.Plain.{plain}
@@ -15,14 +15,14 @@ use Rattle.read_spec.specs.Read.{readOf}
 use Rattle.read_spec.specs.Accepted as reads
 use Rattle.read_laws.specs.ReaderLaws.{complete}
 use Rattle.sheet_spec.specs.Translate.{countIn, addressesIn}
-use Rattle.sheet_spec.specs.Follow.{Next, on, to, either, stop, nextOf, target, lineAt, addressOf, countOf, instructionIn, plainLine, named}
-use Rattle.sheet_size_laws.specs.Lawful.{quiet, Goes, quietly, aimed}
-use Rattle.sheet_size_laws.specs.Made.{LineMade}
-use Rattle.sheet_size_laws.specs.Image.{address-is}
+use Rattle.sheet_spec.specs.Follow.{Next, on, to, either, stop, nextOf, target, lineAt, addressOf, countedAt, instructionIn, plainLine, named}
+use Rattle.sheet_size_facts.specs.Lawful.{quiet, Goes, quietly, aimed}
+use Rattle.sheet_size_facts.specs.Made.{LineMade}
+use Rattle.sheet_size_facts.specs.Image.{address-is}
 use Rattle.sheet_spec.specs.Promises.{AcceptedSheet, wordsAt}
-use Rattle.sheet_size_laws.specs.Bounds.{line-at, count-some, names-bounded, addresses-bounded}
-use Rattle.sheet_size_laws.specs.Counted.{measured}
-use Rattle.sheet_size_laws.specs.Counted as counted
+use Rattle.sheet_size_facts.specs.Bounds.{line-at, count-some, names-bounded, addresses-bounded}
+use Rattle.sheet_size_facts.specs.Counted.{measured}
+use Rattle.sheet_size_facts.specs.Counted as counted
 use Rattle.sheet_laws.specs.InTypes.{inside-typed}
 use Rattle.sheet_laws.specs.Follows.{Aims, Within, LineStands, AllStand}
 
@@ -59,7 +59,7 @@ module _ (text : List ℕ) (places room : ℕ) (ok : AcceptedSheet text places r
     words-are : wordsAt text n ≡ wordsOf i a
     words-are = counted.words-are text places room ok n h g l
 
-    counts-are : length (wordsOf i a) ≡ countOf text n
+    counts-are : length (wordsOf i a) ≡ countedAt text n
     counts-are = counted.counts-are text places room ok n h g l
 
     plain-is : plainLine text n ≡ plain i

@@ -5,8 +5,8 @@ use mathlib.Core.Bool.{Bool}
 use mathlib.Core.List.{List}
 use Rattle.read_spec.specs.declared.Reading.the-variants.{Read}
 use Rattle.sheet_spec.specs.Translate.{inOrder, startIn, countIn, imageIn, outcomeOf}
-use Rattle.sheet_spec.specs.Follow.{Together, byLines, byWords, readingAt, addressOf, plainLine, countOf}
-use Rattle.sheet_size_laws.specs.Outcomes.{accepted}
+use Rattle.sheet_spec.specs.Follow.{Together, byLines, byWords, readingAt, addressOf, plainLine, countedAt}
+use Rattle.sheet_size_facts.specs.Outcomes.{accepted}
 use Rattle.sheet_laws.specs.Follows.{AllStand, together, there}
 use Rattle.sheet_laws.specs.Demand.{all-stand}
 
@@ -19,5 +19,5 @@ demand-3 text places room e choices = together text (stand text places room e) c
 
 -- every line reads at its address as its plain form, reached or not
 pub each-line : (text : List ℕ) (places room : ℕ) → outcomeOf text places room ≡ inOrder → (n : ℕ) → suc n ≤ countIn text
-    → readingAt (startIn text) (imageIn text) (addressOf text (suc n)) ≡ Read (plainLine text (suc n)) (2 * countOf text (suc n))
+    → readingAt (startIn text) (imageIn text) (addressOf text (suc n)) ≡ Read (plainLine text (suc n)) (2 * countedAt text (suc n))
 each-line text places room e n h = there text (stand text places room e) n h

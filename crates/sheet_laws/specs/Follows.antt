@@ -13,8 +13,8 @@ use Rattle.read_spec.specs.declared.Reading.the-variants.{Read}
 use Rattle.read_spec.specs.Read.{readOf}
 use Rattle.sheet_spec.specs.Sheet.{linesIn, total}
 use Rattle.sheet_spec.specs.Translate.{startIn, countIn, addressesIn, imageIn}
-use Rattle.sheet_spec.specs.Follow.{Next, on, to, either, stop, nextOf, Place, follow, goes, target, addressOf, countOf, plainLine, named, comeLine, stepLine, byLines, end, begins, readingAt, comeWord, stepWord, byWords, Together, both-ended, both-at}
-use Rattle.sheet_size_laws.specs.Image.{address-next, total-part, Counts, split, image-length, drop-before}
+use Rattle.sheet_spec.specs.Follow.{Next, on, to, either, stop, nextOf, Place, follow, goes, target, addressOf, countedAt, plainLine, named, comeLine, stepLine, byLines, end, begins, readingAt, comeWord, stepWord, byWords, Together, both-ended, both-at}
+use Rattle.sheet_size_facts.specs.Image.{address-next, total-part, Counts, split, image-length, drop-before}
 use Rattle.sheet_spec.specs.Promises.{wordsAt}
 
 -- a target is the address t
@@ -33,9 +33,9 @@ Within stop m n = Unit {0}
 
 -- what is used of each line of an accepted sheet
 pub record LineStands (text : List ℕ) (n : ℕ) : Type 0 where
-  pub some : 1 ≤ countOf text n
-  pub counts : length (wordsAt text n) ≡ countOf text n
-  pub reads-back : (rest : List ℕ) → readOf (wordsAt text n ++ rest) (addressOf text n) ≡ Read (plainLine text n) (2 * countOf text n)
+  pub some : 1 ≤ countedAt text n
+  pub counts : length (wordsAt text n) ≡ countedAt text n
+  pub reads-back : (rest : List ℕ) → readOf (wordsAt text n ++ rest) (addressOf text n) ≡ Read (plainLine text n) (2 * countedAt text n)
   pub aims : Aims (nextOf (plainLine text n)) (addressOf text (named text n))
   pub within : Within (nextOf (plainLine text n)) (countIn text) (named text n)
 
@@ -53,7 +53,7 @@ module _ (text : List ℕ) (ok : AllStand text) where
   offset n = omega arith
 
   pub there : (n : ℕ) → suc n ≤ countIn text
-      → readingAt (startIn text) (imageIn text) (addressOf text (suc n)) ≡ Read (plainLine text (suc n)) (2 * countOf text (suc n))
+      → readingAt (startIn text) (imageIn text) (addressOf text (suc n)) ≡ Read (plainLine text (suc n)) (2 * countedAt text (suc n))
   there n h =
       ap (λ (k : ℕ). readOf (drop k (imageIn text)) (addressOf text (suc n))) (offset n)
       ∙ ap (λ (ws : List ℕ). readOf ws (addressOf text (suc n))) (drop-before text counts n h)
@@ -96,7 +96,7 @@ module _ (text : List ℕ) (ok : AllStand text) where
 
   goes-on : (x : Next) (n : ℕ) → 1 ≤ n → n ≤ countIn text
       → Aims x (addressOf text (named text n)) → Within x (countIn text) (named text n) → (c : Bool)
-      → Together text (imageIn text) (goes (comeLine text) x (n + 1) (named text n) c) (goes (comeWord (startIn text) (imageIn text)) x (addressOf text n + 2 * countOf text n) (target x) c)
+      → Together text (imageIn text) (goes (comeLine text) x (n + 1) (named text n) c) (goes (comeWord (startIn text) (imageIn text)) x (addressOf text n + 2 * countedAt text n) (target x) c)
   goes-on on n h g a w c = subst (λ (k : ℕ). Together text (imageIn text) (comeLine text (n + 1)) (comeWord (startIn text) (imageIn text) k)) (address-next text n h g) (comes (n + 1) (omega arith) (omega arith))
   goes-on (to t) n h g a w c = subst (λ (k : ℕ). Together text (imageIn text) (comeLine text (named text n)) (comeWord (startIn text) (imageIn text) k)) (sym a) (comes (named text n) (w .0) (omega arith))
   goes-on (either t) n h g a w true = subst (λ (k : ℕ). Together text (imageIn text) (comeLine text (named text n)) (comeWord (startIn text) (imageIn text) k)) (sym a) (comes (named text n) (w .0) (omega arith))

@@ -12,14 +12,13 @@ use Rattle.isa.specs.declared.Operand.{Operand}
 use Rattle.isa.specs.declared.Operand.the-variants.{Immediate, Register, Indirect, PostIndirect, PreIndirect, IndirectDisplacement, IndirectIndex, PcDisplacement, PcIndex, Extended, Absolute}
 use Rattle.isa.specs.declared.Instruction.{Instruction}
 use Rattle.isa.specs.declared.Instruction.the-variants.{IntoRegister, MOVEM, Transfer, Pair, Quick, MOVEQ, ImmediateInto, WordIntoData, SWAP, EXG, UnsizedIntoRegister, UnsizedOne, UnsizedPair, EXT, OneOperand, Bcc, Scc, DBcc, Branch, Link, UNLK, Shift, Vector, Status, ConditionCode, MOVEUSP, Raw, NoOperand, RTD, MOVEC, TRAPcc, MULL, Pack, CAS, CAS2, BF, DIVL}
-use Rattle.numeric_spec.specs.Entry.{Entry, Inside}
+use Rattle.numeric_spec.specs.Entry.{Entry, Inside, isI32}
 use Rattle.numeric_spec.specs.Field.{sizeForm, conditionForm, shiftDirectionForm, signForm, flagForm, byteForm, wordForm, longForm, bitFieldForm, registerForm, registerChoiceForm, trapOperandForm, operandForm}
-use Rattle.numeric_spec.specs.Number.{isI32}
 use Rattle.read_spec.specs.Accepted.{Fits32, InTypes, TrapInTypes, InstructionInTypes}
 use Rattle.read_operand_laws.specs.Facts.{as-fits32}
 use Rattle.base_facts.specs.Tests.{leb-is}
-use Rattle.sheet_form_laws.specs.Turned.{inside-parts}
-use Rattle.sheet_token_laws.specs.Numbers.{entries}
+use Rattle.sheet_size_facts.specs.Turned.{inside-parts}
+use Rattle.sheet_size_facts.specs.Says.{entries}
 
 small : (top n : ℕ) → leb n (top - 1) ≡ true → 0 < top → n < top
 small top n h g = omega (arith, leb-is n (top - 1) h)

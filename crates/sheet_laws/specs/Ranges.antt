@@ -3,14 +3,14 @@ use Prim.Native.Nat.{ℕ, _≤_}
 use mathlib.Core.Path.{sym, ap, _∙_, subst}
 use mathlib.Core.List.{List}
 use Rattle.isa.specs.declared.Measured.{Measured}
-use Rattle.numeric_build.specs.declared.Built.{Built}
+use Rattle.numeric_spec.specs.declared.Built.{Built}
 use Rattle.encode_spec.specs.Promises.{OnlyOutOfRange}
 use Rattle.m68k_encode.specs.Laws.{range-law}
 use Rattle.sheet_spec.specs.Made.{addressIn}
 use Rattle.sheet_spec.specs.Sheet.{encodedLine, lineEncoded}
 use Rattle.sheet_spec.specs.Translate.{countIn, addressesIn}
 use Rattle.sheet_spec.specs.Follow.{lineAt, addressOf}
-use Rattle.sheet_size_laws.specs.Bounds.{line-at, addresses-bounded}
+use Rattle.sheet_size_facts.specs.Bounds.{line-at, addresses-bounded}
 use Rattle.sheet_spec.specs.Promises.{MeasuredSheet}
 
 pub only-ranges : (text : List ℕ) → MeasuredSheet text → (n : ℕ) → 1 ≤ n → n ≤ countIn text

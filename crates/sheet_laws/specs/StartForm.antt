@@ -14,7 +14,7 @@ use Rattle.base_spec.specs.Written.{decimalOf}
 use Rattle.sheet_spec.specs.Names.{bytes}
 use Rattle.sheet_spec.specs.Line.{equal}
 use Rattle.sheet_spec.specs.Spell.{joined}
-use Rattle.sheet_token_laws.specs.Facts.{equal-is}
+use Rattle.sheet_facts.specs.Facts.{equal-is}
 use Rattle.sheet_form_laws.specs.NumberForm.{number-form, number-back}
 use Rattle.sheet_form_laws.specs.JoinForm.{joined-fields, fields-joined}
 use Rattle.sheet_form_laws.specs.FieldForm.{decimal-solid}

@@ -16,7 +16,7 @@ use Rattle.sheet_tokens.specs.declared.Entries.{Entries}
 use Rattle.sheet_spec.specs.Grammar.{kindsOf}
 use Rattle.sheet_spec.specs.Line.{Token, literal, label, invalid, token, Parsed, says, no, with, after, lineFrom, lineOf}
 use Rattle.sheet_spec.specs.Spell.{Suits}
-use Rattle.sheet_token_laws.specs.Fields.{Sorted, of-number, of-target, of-place, of-variant, sorted, said-suits, suits-some}
+use Rattle.sheet_facts.specs.Fields.{Sorted, of-number, of-target, of-place, of-variant, sorted, said-suits, suits-some}
 use Rattle.sheet_tokens.specs.Entries.{valueOf, noEntries, entriesFrom, entriesOf}
 use Rattle.sheet_kinds.specs.Packed.{packed, kindAt}
 use Rattle.sheet_kinds.specs.Weight.{room, most, total, room-next, most-next, length-room}

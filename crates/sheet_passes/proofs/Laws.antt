@@ -15,7 +15,7 @@ use borrow.Rule.Slice.PartMut.{putMid}
 use Rattle.isa.specs.declared.Measured.{Measured}
 use Rattle.isa.specs.declared.Encoded.{Encoded}
 use Rattle.base_text.specs.Parts.{partEnd}
-use Rattle.numeric_build.specs.declared.Built.{Built}
+use Rattle.numeric_spec.specs.declared.Built.{Built}
 use Rattle.sheet_tokens.specs.declared.Entries.{Entries}
 use Rattle.sheet_tokens.specs.Entries.{entriesOf}
 use Rattle.sheet_spec.specs.Line.{lineOf}
@@ -25,7 +25,7 @@ use Rattle.sheet_entries.specs.MadeLaws.{made-line, made-unaddressed, names-in}
 use Rattle.base_text.specs.LinesLaws.{lines-next}
 use Rattle.sheet_spec.specs.Sheet.{sizedAs, sizedOf, counted, total, addressesFrom, encodedLine, lineEncoded}
 use Rattle.sheet_spec.specs.Translate.{andThen, asOutcome, sizesOutcome, rangesOutcome, lineWords, imageFrom, over}
-use Rattle.sheet_token_laws.specs.Listing.{over-length}
+use Rattle.sheet_facts.specs.Listing.{over-length}
 use Rattle.sheet_passes.specs.declared.Passed.{Passed}
 use Rattle.sheet_passes.specs.Passes.{linesAt, passedOf, filledOf, Placed, rangesAt, imageAt}
 use Rattle.sheet_passes.specs.PassLaws.{counted-most, words-length, line-most}
@@ -64,12 +64,12 @@ pub line-sized : (n : ℕ) (line : List ℕ) {e : Entries} {b : Built} {named : 
     → b ≡ madeWith e [] → named ≡ namesLines e n → sizedAs b named ≡ sizedOf n line
 unfolding sizedOf
 line-sized n line h e f g =
-    rw (f, g, e, made-line [] (omega arith) line, made-unaddressed line, names-in n h (lineOf line) (few line))
+    rw (f, g, e, made-line [] (omega arith) line (few line), made-unaddressed line, names-in n h (lineOf line) (few line))
 
 pub line-encoded : (addresses line : List ℕ) (a : ℕ) {e : Entries} {b : Built} → length addresses ≤ 4096 → e ≡ entriesOf (lineOf line)
     → b ≡ madeWith e addresses → encodedLine b a ≡ lineEncoded addresses line a
 unfolding lineEncoded
-line-encoded addresses line a h e f = rw (f, e, made-line addresses h line)
+line-encoded addresses line a h e f = rw (f, e, made-line addresses h line (few line))
 
 -- ---- sizes: from `next` on it goes as it went from `from` on, after k lines and so many words
 module _ (text : List ℕ) (from n start : ℕ) (lent : List ℕ) where

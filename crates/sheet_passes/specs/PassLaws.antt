@@ -9,12 +9,12 @@ use borrow.Author.Tests.{eq-eqb}
 use Rattle.isa.specs.declared.Instruction.{Instruction}
 use Rattle.encode_spec.specs.Item as item
 use Rattle.encode_spec.specs.Encode.{itemsOf, wordsOf, refusalOf, measuredAs, sizeOf}
-use Rattle.numeric_build.specs.declared.Built.{Built}
-use Rattle.numeric_build.specs.declared.Built.the-variants as built
+use Rattle.numeric_spec.specs.declared.Built.{Built}
+use Rattle.numeric_spec.specs.declared.Built.the-variants as built
 use Rattle.sheet_spec.specs.Line.{lineOf}
 use Rattle.sheet_spec.specs.Made.{addressIn, namesIn, madeOf}
 use Rattle.encode_facts.specs.Items.{words-count}
-use Rattle.sheet_token_laws.specs.Listing.{both-in-order, in-order-zero, measured-size}
+use Rattle.sheet_facts.specs.Listing.{both-in-order, in-order-zero, measured-size}
 use Rattle.m68k_encode.specs.Lays.{instruction-lays}
 use Rattle.m68k_encode.specs.Laws.{places-law, encode-most}
 use Rattle.sheet_spec.specs.Sheet.{sizedAs, sizedOf, counted, total, addressesFrom, encodedLine, lineEncoded}

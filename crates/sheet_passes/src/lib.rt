@@ -7,7 +7,7 @@ ghost use Rattle.sheet_spec.specs.Translate.{sizesOutcome, over};
 ghost use Rattle.sheet_passes.specs.Passes.{linesAt, passedOf, filledOf, Placed, rangesAt, imageAt};
 use isa::Encoded;
 use isa::Measured;
-use numeric_build::Built;
+use numeric_spec::Built;
 
 // The first refusal with its line, or the words that were counted.
 pub struct Passed {

@@ -10,16 +10,16 @@ use Rattle.base_spec.specs.Written.{hex4Of}
 use Rattle.base_spec.specs.Refused.{tab}
 use Rattle.sheet_spec.specs.Sheet.{counted, addressesFrom}
 use Rattle.sheet_spec.specs.Translate.{lineWords, imageFrom}
-use Rattle.sheet_size_laws.specs.Image.{Counts, first-counts, later-counts}
-use Rattle.print_spec.specs.Printed.{wordsText, lineText, listingFrom}
+use Rattle.sheet_size_facts.specs.Image.{Counts, first-counts, later-counts}
+use Rattle.print_spec.specs.Printed.{listedWords, lineText, listingFrom}
 use Rattle.sheet_print.specs.Listing.{firstCount, linesText, Rises, Laid}
 
-words-more : (ws : List ℕ) (w : ℕ) → wordsText (ws ++ (w ∷ [])) ≡ wordsText ws ++ (tab ++ hex4Of w)
+words-more : (ws : List ℕ) (w : ℕ) → listedWords (ws ++ (w ∷ [])) ≡ listedWords ws ++ (tab ++ hex4Of w)
 words-more [] w = refl
 words-more (v ∷ ws) w = ap (λ (t : List ℕ). tab ++ hex4Of v ++ t) (words-more ws w)
 
 -- one word more
-pub words-next : (ws : List ℕ) (i : ℕ) → i < length ws → wordsText (take (i + 1) ws) ≡ wordsText (take i ws) ++ (tab ++ hex4Of (getD ws i 0))
+pub words-next : (ws : List ℕ) (i : ℕ) → i < length ws → listedWords (take (i + 1) ws) ≡ listedWords (take i ws) ++ (tab ++ hex4Of (getD ws i 0))
 words-next ws i h = rw (add-one, take-suc ws i 0 h) (words-more (take i ws) (getD ws i 0))
 
 -- ---- the first count

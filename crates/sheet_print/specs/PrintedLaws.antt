@@ -14,15 +14,15 @@ use Rattle.base_text.specs.Wrote.{Wrote}
 use Rattle.sheet_spec.specs.declared.Listed.{Listed}
 use Rattle.sheet_spec.specs.Sheet.{isSheet, feeds, last, linesIn}
 use Rattle.sheet_spec.specs.Translate.{Outcome, inOrder, refused, startIn, countIn, addressesIn, needIn, outcomeOf, listedOf, imageIn, over, imageOf, scratchOf}
-use Rattle.sheet_size_laws.specs.Image.{Counts}
-use Rattle.sheet_size_laws.specs.Outcomes.{accepted}
-use Rattle.sheet_size_laws.specs.Counted.{counts, image-counts}
-use Rattle.sheet_token_laws.specs.SheetLaws.{count-most}
+use Rattle.sheet_size_facts.specs.Image.{Counts}
+use Rattle.sheet_size_facts.specs.Outcomes.{accepted}
+use Rattle.sheet_size_facts.specs.Counted.{counts, image-counts}
+use Rattle.sheet_facts.specs.SheetLaws.{count-most}
 use Rattle.sheet_passes.specs.PassLaws.{line-most, words-length}
 use Rattle.sheet_spec.specs.Promises.{Translated}
 use Rattle.sheet_translate.specs.OutcomeLaws.{Sound, outcome-sound}
 use Rattle.sheet_translate.specs.PlaceLaws.{addresses-length}
-use Rattle.print_spec.specs.Printed.{listingOf, refusalText, printedOf}
+use Rattle.print_spec.specs.Printed.{listingOf, sheetRefusal, printedOf}
 use Rattle.sheet_print.specs.Listing.{linesText, Laid}
 use Rattle.sheet_print.specs.ListingLaws.{listing-is, laid}
 
@@ -74,12 +74,12 @@ module _ {text v s v′ s′ : List ℕ} {r : Listed} (t : Translated text v s v
       go inOrder e n = rw (t .listed, t .image, t .scratch, e) (accepted-listable text v s e)
       go (refused number line detail value) e n = absurd (n (rw (t .listed, e) at h))
 
-  pub refusal-is : (r .number ≡ 0 → ⊥) → refusalText (r .number) (r .line) (r .detail) (r .value) ≡ printedOf text (length s) (length v)
+  pub refusal-is : (r .number ≡ 0 → ⊥) → sheetRefusal (r .number) (r .line) (r .detail) (r .value) ≡ printedOf text (length s) (length v)
   unfolding listedOf printedOf
   refusal-is h = go (outcomeOf text (length s) (length v)) refl
     where
       go : (w : Outcome) → outcomeOf text (length s) (length v) ≡ w
-          → refusalText (r .number) (r .line) (r .detail) (r .value) ≡ printedOf text (length s) (length v)
+          → sheetRefusal (r .number) (r .line) (r .detail) (r .value) ≡ printedOf text (length s) (length v)
       go inOrder e = absurd (h (rw (t .listed, e)))
       go (refused number line detail value) e = rw (t .listed, e)
 
@@ -95,6 +95,6 @@ sheet-long text h = rw (lt-leb (length text) 65536 h) (long (leb 1 (length text)
     long true = refl
     long false = refl
 
-pub long-refused : (text : List ℕ) (places room : ℕ) → 65536 < length text → printedOf text places room ≡ refusalText 10 0 0 (pos 0)
+pub long-refused : (text : List ℕ) (places room : ℕ) → 65536 < length text → printedOf text places room ≡ sheetRefusal 10 0 0 (pos 0)
 unfolding printedOf outcomeOf
 long-refused text places room h = rw (sheet-long text h)

@@ -6,7 +6,7 @@ ghost use Rattle.base_spec.specs.Written.{placed};
 ghost use Rattle.base_text.specs.Wrote.{Wrote};
 ghost use Rattle.base_spec.specs.Refused.{fieldText};
 ghost use Rattle.sheet_spec.specs.Translate.{imageOf, scratchOf};
-ghost use Rattle.print_spec.specs.Printed.{wordsText, lineText, refusalText, printedOf};
+ghost use Rattle.print_spec.specs.Printed.{listedWords, lineText, sheetRefusal, printedOf};
 ghost use Rattle.sheet_print.specs.Listing.{firstCount, linesText, Rises, Laid};
 
 // A number and a tab.
@@ -21,7 +21,7 @@ fn put_field(out: &mut [u8], at: usize, n: u64) -> usize
 // A tab and each word.
 fn put_words(out: &mut [u8], at: usize, words: &[u16]) -> usize
     requires { ⌜ (at + 55 ≤ length (now out)) × (length (now words) ≤ 11) ⌝ }
-    ensures { λ r. ⌜ Wrote (now (out .entry)) at (wordsText (now (words .entry))) (now (out .exit)) r × (r ≤ at + 55) ⌝ }
+    ensures { λ r. ⌜ Wrote (now (out .entry)) at (listedWords (now (words .entry))) (now (out .exit)) r × (r ≤ at + 55) ⌝ }
 {
     let mut next = at;
     let mut i: usize = 0;
@@ -83,7 +83,7 @@ fn put_listing(addresses: &[u32], words: &[u16], out: &mut [u8]) -> usize
 // `refused`, number, line, detail and value.
 pub fn put_refusal(out: &mut [u8], number: u8, line: usize, detail: u8, value: i64) -> usize
     requires { ⌜ 92 ≤ length (now out) ⌝ }
-    ensures { λ r. ⌜ Wrote (now (out .entry)) 0 (refusalText number line detail value) (now (out .exit)) r × (r ≤ 92) ⌝ }
+    ensures { λ r. ⌜ Wrote (now (out .entry)) 0 (sheetRefusal number line detail value) (now (out .exit)) r × (r ≤ 92) ⌝ }
 {
     let mut next = base_text::put(out, 0, b"refused\t");
     next = put_field(out, next, number as u64);

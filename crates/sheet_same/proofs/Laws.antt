@@ -10,7 +10,7 @@ use borrow.Author.Tests.{eqb-true, ne-eqb, leb-true}
 use Rattle.sheet_spec.specs.Line.{equal}
 use Rattle.sheet_spec.specs.declared.Listed.{Listed}
 use Rattle.sheet_spec.specs.Translate.{Outcome, inOrder, refused, startIn, countIn, needIn, imageIn, outcomeOf, listedAs, listedOf, imageAs, imageOf, scratchOf, isInOrder, same}
-use Rattle.sheet_size_laws.specs.Outcomes.{accepted}
+use Rattle.sheet_size_facts.specs.Outcomes.{accepted}
 use Rattle.sheet_spec.specs.Promises.{Translated, enough, Compared}
 use Rattle.sheet_translate.specs.OutcomeLaws.{Sound, outcome-sound}
 use Rattle.sheet_translate.specs.PlaceLaws.{scratch-length, image-length, words-fit}

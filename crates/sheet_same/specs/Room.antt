@@ -6,7 +6,7 @@ use mathlib.Core.List.{List}
 use native.Mathlib.Omega.{arith}
 use lib.Dec.{leb}
 use borrow.Author.Tests.{le-leb}
-use Rattle.sheet_token_laws.specs.SheetLaws.{count-most}
+use Rattle.sheet_facts.specs.SheetLaws.{count-most}
 use Rattle.sheet_passes.specs.PassLaws.{total-most}
 use Rattle.sheet_spec.specs.Sheet.{isSheet, startLine, startOf, linesIn}
 use Rattle.sheet_spec.specs.Translate.{Outcome, andThen, require, startOutcome, startIn, countIn, needIn, outcomeOf}

@@ -6,7 +6,7 @@ use mathlib.Core.List.{List}
 use lib.Dec.{eqb}
 use borrow.Author.Tests.{eq-eqb, eqb-true}
 use Rattle.sheet_spec.specs.Line.{equal}
-use Rattle.sheet_token_laws.specs.Facts.{equal-is, equal-refl}
+use Rattle.sheet_facts.specs.Facts.{equal-is, equal-refl}
 use Rattle.sheet_spec.specs.Translate.{Outcome, inOrder, refused, startIn, imageIn, outcomeOf, isInOrder, same}
 use Rattle.sheet_spec.specs.Promises.{Same}
 use Rattle.base_facts.specs.Tests.{and-true}

@@ -15,8 +15,8 @@ use Rattle.isa.specs.declared.RawOperation.{RawOperation}
 use Rattle.isa.specs.declared.RawOperation.the-variants.{LINEA, LINEF, IllegalWord}
 use Rattle.isa.specs.declared.NoOperandOperation.{NoOperandOperation}
 use Rattle.isa.specs.declared.NoOperandOperation.the-variants.{RTE, RESET, RTR, TRAPV, ILLEGAL, RTS, NOP, SIMHALT}
-use Rattle.numeric_build.specs.declared.Built.{Built}
-use Rattle.numeric_build.specs.declared.Built.the-variants as built
+use Rattle.numeric_spec.specs.declared.Built.{Built}
+use Rattle.numeric_spec.specs.declared.Built.the-variants as built
 use Rattle.read_spec.specs.declared.Reading.{Reading}
 use Rattle.read_spec.specs.declared.Reading.the-variants.{Read, Short, Nothing}
 use Rattle.read_spec.specs.Plain.{plain}
@@ -136,8 +136,8 @@ lineAt text n = getD (linesIn text) (pred n) []
 abbrev pub addressOf : List ℕ → ℕ → ℕ
 addressOf text n = startIn text + 2 * total (countIn text) (take (pred n) (linesIn text))
 
-abbrev pub countOf : List ℕ → ℕ → ℕ
-countOf text n = counted (countIn text) (lineAt text n)
+abbrev pub countedAt : List ℕ → ℕ → ℕ
+countedAt text n = counted (countIn text) (lineAt text n)
 
 -- line n's instruction, each line's number k in it made f k; a line that is not in the form has none, and NOP stands for it
 abbrev pub instructionIn : Built → Instruction
@@ -203,5 +203,5 @@ byWords start v cs = follow (stepWord start v) (comeWord start v start) cs
 pub data Together (text v : List ℕ) : Place → Place → Type 0 where
   both-ended : Together text v ended ended
   both-at : (n : ℕ) → 1 ≤ n → n ≤ countIn text
-      → readingAt (startIn text) v (addressOf text n) ≡ Read (plainLine text n) (2 * countOf text n)
+      → readingAt (startIn text) v (addressOf text n) ≡ Read (plainLine text n) (2 * countedAt text n)
       → Together text v (at n) (at (addressOf text n))

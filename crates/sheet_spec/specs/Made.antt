@@ -1,29 +1,18 @@
 -- The instruction that a line makes, each line's name made a number.
 use Prim.Native.Nat.{ℕ}
-use mathlib.Core.Bool.{Bool, true, false, _&&_}
+use mathlib.Core.Bool.{Bool, true, _&&_}
 use mathlib.Core.List.{List, [], _∷_, map}
 use lib.Dec.{leb}
-use lib.ListN.{length, getD}
-use lib.IntN.{natAbs}
-use Rattle.numeric_spec.specs.declared.Numbers.{Numbers}
-use Rattle.numeric_spec.specs.Entry.{isNegative, pad}
-use Rattle.numeric_build.specs.declared.Built.{Built}
-use Rattle.numeric_build.specs.declared.Built.the-variants as built
-use Rattle.numeric_build.specs.Build.{buildOf}
+use lib.ListN.{getD}
+use Rattle.numeric_spec.specs.declared.Built.{Built}
+use Rattle.numeric_spec.specs.declared.Built.the-variants as built
+use Rattle.numeric_spec.specs.Build.{builtOf}
 use Rattle.sheet_spec.specs.Line.{Token, literal, label, invalid, Parsed, says, no, lineOf}
 use Rattle.sheet_spec.specs.Spell.{numberAs}
 
-unfoldable pub numbersAs : (ℕ → ℕ) → List Token → Numbers
-numbersAs f vs =
-    record {
-      count = length vs;
-      negative = pad 24 false (map (λ v. isNegative (numberAs f v)) vs);
-      magnitude = pad 24 0 (map (λ v. natAbs (numberAs f v)) vs);
-    }
-
 -- where `@` is as 0, the line is in the form exactly when this is an instruction
 abbrev pub madeAs : (ℕ → ℕ) → Parsed → Built
-madeAs f (says vs) = buildOf (numbersAs f vs) 0
+madeAs f (says vs) = builtOf (map (numberAs f) vs)
 madeAs f no = built.NotInForm
 
 unfoldable pub madeOf : (ℕ → ℕ) → List ℕ → Built

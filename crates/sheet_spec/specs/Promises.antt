@@ -5,7 +5,7 @@ use Rattle.base_spec.specs.Written.{decimalOf}
 use Rattle.sheet_spec.specs.Names.{bytes}
 use Rattle.sheet_spec.specs.Sheet.{isSheet, startLine, at, startOf, sizedOf, lineEncoded}
 use Rattle.sheet_spec.specs.Translate.{startIn, countIn, addressesIn, needIn, lineWords, listedOf, imageOf, scratchOf, same, inOrder, imageIn, outcomeOf}
-use Rattle.sheet_spec.specs.Follow.{lineAt, addressOf, Together, byLines, byWords, readingAt, plainLine, countOf}
+use Rattle.sheet_spec.specs.Follow.{lineAt, addressOf, Together, byLines, byWords, readingAt, plainLine, countedAt}
 use Rattle.sheet_spec.specs.declared.Listed.{Listed}
 use Rattle.sheet_spec.specs.declared.Comparison.{Comparison}
 use mathlib.Core.Path.{_≡_}
@@ -76,8 +76,8 @@ pub record Followed (text v s v′ s′ : List ℕ) (r : Listed) : Type 0 where
   pub together : (choices : List Bool)
       → Together text (take (r .words) v′) (byLines text choices) (byWords (startIn text) (take (r .words) v′) choices)
   pub reads : (n : ℕ) → 1 ≤ n → n ≤ r .lines
-      → readingAt (startIn text) (take (r .words) v′) (addressOf text n) ≡ Read (plainLine text n) (2 * countOf text n)
-  pub each : (n : ℕ) → 1 ≤ n → n ≤ r .lines → take (countOf text n) (drop ((addressOf text n - startIn text) / 2) v′) ≡ wordsAt text n
+      → readingAt (startIn text) (take (r .words) v′) (addressOf text n) ≡ Read (plainLine text n) (2 * countedAt text n)
+  pub each : (n : ℕ) → 1 ≤ n → n ≤ r .lines → take (countedAt text n) (drop ((addressOf text n - startIn text) / 2) v′) ≡ wordsAt text n
   pub addresses : (n : ℕ) → 1 ≤ n → n ≤ r .lines → getD s′ (pred n) 0 ≡ addressOf text n
   pub later-words : drop (r .words) v′ ≡ drop (r .words) v
   pub later-places : drop (r .lines) s′ ≡ drop (r .lines) s

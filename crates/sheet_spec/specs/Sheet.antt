@@ -14,8 +14,8 @@ use Rattle.base_spec.specs.declared.Number.the-variants as number
 use Rattle.base_spec.specs.Parts.{fields}
 use Rattle.base_spec.specs.Number.{numberOf}
 use Rattle.base_spec.specs.Lines.{linesOf}
-use Rattle.numeric_build.specs.declared.Built.{Built}
-use Rattle.numeric_build.specs.declared.Built.the-variants as built
+use Rattle.numeric_spec.specs.declared.Built.{Built}
+use Rattle.numeric_spec.specs.declared.Built.the-variants as built
 use Rattle.sheet_spec.specs.Names.{bytes}
 use Rattle.sheet_spec.specs.Line.{equal, lineOf}
 use Rattle.sheet_spec.specs.Made.{addressIn, namesIn, madeOf}

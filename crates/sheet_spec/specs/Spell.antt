@@ -8,7 +8,7 @@ use lib.IntN.{ℤ, pos}
 use Rattle.isa.specs.declared.Instruction.{Instruction}
 use Rattle.numeric_spec.specs.Form.{formOf, numbersOf}
 use Rattle.numeric_spec.specs.Entry.{Inside}
-use Rattle.numeric_spec.specs.Number.{minus}
+use Rattle.base_spec.specs.Signed.{minus}
 use Rattle.base_spec.specs.Written.{decimalOf}
 use Rattle.sheet_spec.specs.declared.Kind.{Kind}
 use Rattle.sheet_spec.specs.declared.Kind.the-variants as kind

@@ -4,7 +4,7 @@ use mathlib.Core.Bool.{Bool, true, false, cond}
 use mathlib.Core.List.{List, map}
 use lib.Dec.{leb}
 use lib.ListN.{length, replicate}
-use Rattle.numeric_spec.specs.Entry.{pad}
+use Rattle.base_facts.specs.Lists.{pad}
 use Rattle.sheet_tokens.specs.declared.Value.{Value}
 use Rattle.sheet_tokens.specs.declared.Value.the-variants as value
 use Rattle.sheet_tokens.specs.declared.Entries.{Entries}

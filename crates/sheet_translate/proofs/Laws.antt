@@ -12,13 +12,13 @@ use lib.Seq.{drop-cons, set-at}
 use borrow.Author.Tests.{eq-eqb, ne-eqb, le-leb, lt-leb}
 use Rattle.sheet_start.specs.declared.StartAt.{StartAt}
 use Rattle.sheet_start.specs.StartLine.{startAt}
-use Rattle.sheet_token_laws.specs.SheetLaws.{outline, count-feeds, count-most, lines-after}
+use Rattle.sheet_facts.specs.SheetLaws.{outline, count-feeds, count-most, lines-after}
 use Rattle.sheet_spec.specs.declared.Listed.{Listed}
 use Rattle.sheet_spec.specs.Sheet.{feeds, isSheet, startLine, linesIn, Start, at, notInForm, startOf, total}
 use Rattle.sheet_spec.specs.Translate.{Outcome, inOrder, refused, andThen, require, startOutcome, startNumber, asOutcome, sizesOutcome, startIn, countIn, needIn, addressesIn, imageIn, outcomeOf, listedAs, over}
-use Rattle.sheet_token_laws.specs.Listing.{as-in-order, as-refused, over-length}
-use Rattle.sheet_size_laws.specs.Outcomes.{accepted}
-use Rattle.sheet_size_laws.specs.Counted.{image-counts}
+use Rattle.sheet_facts.specs.Listing.{as-in-order, as-refused, over-length}
+use Rattle.sheet_size_facts.specs.Outcomes.{accepted}
+use Rattle.sheet_size_facts.specs.Counted.{image-counts}
 use Rattle.sheet_passes.specs.declared.Passed.{Passed}
 use Rattle.sheet_passes.specs.Passes.{passedOf, filledOf, linesAt, Placed, rangesAt, imageAt}
 use Rattle.sheet_passes.specs.PassLaws.{total-most, filled-addresses}

@@ -8,8 +8,8 @@ use Rattle.sheet_spec.specs.declared.Listed.{Listed}
 use Rattle.sheet_spec.specs.Sheet.{linesIn}
 use Rattle.sheet_spec.specs.Translate.{Outcome, inOrder, refused, startIn, countIn, addressesIn, needIn, imageIn, over, outcomeOf, listedAs, listedOf, imageAs, imageOf, scratchAs, scratchOf}
 use Rattle.sheet_spec.specs.Follow.{addressOf}
-use Rattle.sheet_size_laws.specs.Image.{address-is}
-use Rattle.sheet_size_laws.specs.Counted.{image-counts}
+use Rattle.sheet_size_facts.specs.Image.{address-is}
+use Rattle.sheet_size_facts.specs.Counted.{image-counts}
 use Rattle.sheet_spec.specs.Promises.{Translated}
 use Rattle.sheet_translate.specs.OutcomeLaws.{Sound, outcome-sound}
 use Rattle.sheet_translate.specs.PlaceLaws.{over-take, addresses-length}

@@ -10,9 +10,9 @@ use lib.Seq.{drop-append-seam, take-at, drop-at}
 use Rattle.sheet_spec.specs.declared.Listed.{Listed}
 use Rattle.sheet_spec.specs.Sheet.{linesIn, sizedOf, counted, addressesFrom}
 use Rattle.sheet_spec.specs.Translate.{Outcome, inOrder, refused, startIn, countIn, addressesIn, needIn, imageIn, over, outcomeOf, listedAs, listedOf, imageAs, imageOf, scratchAs, scratchOf}
-use Rattle.sheet_token_laws.specs.Listing.{over-length}
-use Rattle.sheet_size_laws.specs.Outcomes.{accepted}
-use Rattle.sheet_size_laws.specs.Counted.{image-counts}
+use Rattle.sheet_facts.specs.Listing.{over-length}
+use Rattle.sheet_size_facts.specs.Outcomes.{accepted}
+use Rattle.sheet_size_facts.specs.Counted.{image-counts}
 use Rattle.sheet_passes.specs.Passes.{filledOf}
 use Rattle.sheet_spec.specs.Promises.{Translated}
 

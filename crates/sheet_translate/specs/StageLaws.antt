@@ -11,7 +11,7 @@ use borrow.Author.Tests.{ne-eqb, leb-true}
 use Rattle.sheet_spec.specs.declared.Listed.{Listed}
 use Rattle.sheet_spec.specs.Sheet.{isSheet, startLine, Start, at, notInForm, startOf}
 use Rattle.sheet_spec.specs.Translate.{Outcome, inOrder, refused, andThen, require, startOutcome, asOutcome, startIn, countIn, needIn, addressesIn, imageIn, outcomeOf, listedAs, listedOf, imageAs, imageOf, scratchAs, scratchOf}
-use Rattle.sheet_token_laws.specs.Listing.{both-in-order, require-true}
+use Rattle.sheet_facts.specs.Listing.{both-in-order, require-true}
 use Rattle.sheet_translate.specs.Translated.{outcomeNumber, openingOf, sizesIn, closingOf, rangesIn}
 use Rattle.sheet_spec.specs.Promises.{Translated}
 

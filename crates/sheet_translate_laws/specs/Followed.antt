@@ -9,10 +9,10 @@ use Rattle.read_spec.specs.declared.Reading.the-variants.{Read}
 use Rattle.sheet_spec.specs.declared.Listed.{Listed}
 use Rattle.sheet_spec.specs.Sheet.{linesIn, total}
 use Rattle.sheet_spec.specs.Translate.{startIn, countIn, addressesIn, imageIn}
-use Rattle.sheet_spec.specs.Follow.{readingAt, plainLine, addressOf, countOf}
-use Rattle.sheet_size_laws.specs.Image.{total-part}
+use Rattle.sheet_spec.specs.Follow.{readingAt, plainLine, addressOf, countedAt}
+use Rattle.sheet_size_facts.specs.Image.{total-part}
 use Rattle.sheet_spec.specs.Promises.{wordsAt, Translated, Followed}
-use Rattle.sheet_size_laws.specs.Counted.{each-stands, image-counts}
+use Rattle.sheet_size_facts.specs.Counted.{each-stands, image-counts}
 use Rattle.sheet_laws.specs.Demand3.{demand-3, each-line}
 use Rattle.sheet_translate.specs.PlaceLaws.{over-drop, addresses-length}
 use Rattle.sheet_translate.specs.Left.{Left, left}
@@ -22,17 +22,17 @@ part-front : (x y : List ℕ) (at k : ℕ) → at + k ≤ length x → take k (d
 part-front x y at k h = rw (drop-append-le at x y (omega arith), take-append-le k (drop at x) y (rw length-drop (omega arith)))
 
 module _ (text v s v′ s′ : List ℕ) (r : Listed) (l : Left text v s v′ s′ r) where
-  each-at : (n : ℕ) → 1 ≤ n → n ≤ countIn text → take (countOf text n) (drop ((addressOf text n - startIn text) / 2) v′) ≡ wordsAt text n
+  each-at : (n : ℕ) → 1 ≤ n → n ≤ countIn text → take (countedAt text n) (drop ((addressOf text n - startIn text) / 2) v′) ≡ wordsAt text n
   each-at zero g k = absurd (omega arith)
   each-at (suc n) g k =
       let o : (addressOf text (suc n) - startIn text) / 2 ≡ total (countIn text) (take n (linesIn text)) = omega arith in
-      let fits : total (countIn text) (take n (linesIn text)) + countOf text (suc n) ≤ length (imageIn text) =
+      let fits : total (countIn text) (take n (linesIn text)) + countedAt text (suc n) ≤ length (imageIn text) =
       omega (arith, total-part (countIn text) (linesIn text) n k, image-counts text (length s) (length v) (l .accepts)) in
-      rw (l .image, o) (part-front (imageIn text) (drop (length (imageIn text)) v) (total (countIn text) (take n (linesIn text))) (countOf text (suc n)) fits)
+      rw (l .image, o) (part-front (imageIn text) (drop (length (imageIn text)) v) (total (countIn text) (take n (linesIn text))) (countedAt text (suc n)) fits)
       ∙ each-stands text (length s) (length v) (l .accepts) n k
 
   reads-at : (n : ℕ) → 1 ≤ n → n ≤ countIn text
-      → readingAt (startIn text) (take (r .words) v′) (addressOf text n) ≡ Read (plainLine text n) (2 * countOf text n)
+      → readingAt (startIn text) (take (r .words) v′) (addressOf text n) ≡ Read (plainLine text n) (2 * countedAt text n)
   reads-at zero g k = absurd (omega arith)
   reads-at (suc n) g k = rw (l .words) (each-line text (length s) (length v) (l .accepts) n k)
 

@@ -7,8 +7,8 @@ use Prim.Native.Nat.{ℕ, _+_, _-_, _≤_, _<_}
 use lib.Dec.{leb, ltb, eqb}
 use lib.ListN.{length, take, drop, getD}
 use Rattle.base_text.specs.Parts.{partEnd}
-use Rattle.base_spec.specs.declared.Numbers.{Numbers}
-use Rattle.base_spec.specs.Numbers.{numbersOf}
+use Rattle.base_text.specs.declared.LineNumbers.{LineNumbers}
+use Rattle.base_text.specs.Numbers.{lineNumbers}
 use Rattle.sheets.specs.declared.Header.{Header}
 
 abbrev pub noHeader : Header
@@ -22,20 +22,20 @@ headerOf line left bytes places room =
     noHeader
 
 -- three numbers, none below 0
-abbrev pub isHeader : Numbers → Bool
+abbrev pub isHeader : LineNumbers → Bool
 isHeader n = n .ok && eqb (n .count) 3 && not (getD (n .negative) 0 false) && not (getD (n .negative) 1 false) && not (getD (n .negative) 2 false)
 
-abbrev pub headerAs : List ℕ → ℕ → Numbers → Header
+abbrev pub headerAs : List ℕ → ℕ → LineNumbers → Header
 headerAs list line n =
     cond (isHeader n) (headerOf line (length list - line) (getD (n .magnitude) 0 0) (getD (n .magnitude) 1 0) (getD (n .magnitude) 2 0)) noHeader
 
 unfoldable pub headerIn : List ℕ → ℕ → Header
-headerIn list from = let line = partEnd 10 list from in headerAs list line (numbersOf (take (line - from) (drop from list)))
+headerIn list from = let line = partEnd 10 list from in headerAs list line (lineNumbers (take (line - from) (drop from list)))
 
-module _ (list : List ℕ) (from line : ℕ) (n : Numbers) (e : line ≡ partEnd 10 list from) (f : n ≡ numbersOf (take (line - from) (drop from list))) where
+module _ (list : List ℕ) (from line : ℕ) (n : LineNumbers) (e : line ≡ partEnd 10 list from) (f : n ≡ lineNumbers (take (line - from) (drop from list))) where
   header-is : headerAs list line n ≡ headerIn list from
   unfolding headerIn
-  header-is = ap (headerAs list line) f ∙ ap (λ (k : ℕ). headerAs list k (numbersOf (take (k - from) (drop from list)))) e
+  header-is = ap (headerAs list line) f ∙ ap (λ (k : ℕ). headerAs list k (lineNumbers (take (k - from) (drop from list)))) e
 
   pub header-yes : isHeader n ≡ true
       → headerOf line (length list - line) (getD (n .magnitude) 0 0) (getD (n .magnitude) 1 0) (getD (n .magnitude) 2 0) ≡ headerIn list from

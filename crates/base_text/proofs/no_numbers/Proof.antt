@@ -1,5 +1,5 @@
 use mathlib.Core.Path.{refl}
-use Rattle.base_spec.specs.Numbers.{noNumbers}
+use Rattle.base_text.specs.Numbers.{noNumbers}
 use Rattle.base_text.proofs.no_numbers.Statement.{statement}
 use Rattle.base_text.proofs.no_numbers.Tie as tie
 

@@ -1,16 +1,16 @@
-use Rattle.base_spec.specs.declared.Numbers.{Numbers}
+use Rattle.base_text.specs.declared.LineNumbers.{LineNumbers}
 use mathlib.Core.Path.{_≡_, sym, ap, _∙_}
 use Prim.Native.Nat.{_+_, _-_, _≤_}
 use native.Mathlib.Omega.{arith}
 use lib.ListN.{length}
 use Rattle.base_text.specs.Numbers.{withNumber}
-use Rattle.base_spec.specs.Numbers.{numbersOf}
+use Rattle.base_text.specs.Numbers.{lineNumbers}
 use Rattle.base_text.specs.NumbersLaws.{gatheredOn, numbersFrom, numbers-start, numbers-on, numbers-end}
 use Rattle.base_text.proofs.read_numbers.Statement.{statement}
 use Rattle.base_text.proofs.read_numbers.Tie as tie
 
 abbrev Inv-loop : tie.InvT-loop
-Inv-loop line r₀ from₀ r from = (from ≤ length line + 1) × (numbersOf line ≡ gatheredOn r (numbersFrom line from))
+Inv-loop line r₀ from₀ r from = (from ≤ length line + 1) × (lineNumbers line ≡ gatheredOn r (numbersFrom line from))
 
 abbrev μ-loop : tie.MeasureT-loop
 μ-loop line r₀ from₀ r from = length line + 1 - from
@@ -26,7 +26,7 @@ loop-again c =
     let w = c .with-number .ensures ∙ ap (withNumber (b .loop .r)) (c .before .read-number .ensures) in (
       omega arith,
       b .loop .inv .1 ∙ numbers-on line (b .loop .from) (e .result) (b .loop .r) (omega arith) (e .ensures .0)
-          ∙ ap (λ (r : Numbers). gatheredOn r (numbersFrom line (e .result + 1))) (sym w),
+          ∙ ap (λ (r : LineNumbers). gatheredOn r (numbersFrom line (e .result + 1))) (sym w),
     )
 
 returns : tie.Need-returns Inv-loop μ-loop

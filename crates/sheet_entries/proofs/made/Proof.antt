@@ -1,7 +1,7 @@
 use mathlib.Core.Path.{sym, ap, _∙_}
 use borrow.Author.Needs.{needs}
 use Rattle.numeric_spec.specs.declared.Numbers.{Numbers}
-use Rattle.numeric_build.specs.Build.{buildOf}
+use Rattle.numeric_spec.specs.Build.{builtFrom}
 use Rattle.sheet_entries.proofs.Laws.{made-ok, made-not}
 use Rattle.sheet_entries.proofs.made.Statement.{statement}
 use Rattle.sheet_entries.proofs.made.Tie as tie
@@ -9,7 +9,7 @@ use Rattle.sheet_entries.proofs.made.Tie as tie
 returns : tie.Need-returns
 returns c =
     let a = c .before .before .before .before .args in
-    c .build .ensures ∙ ap (λ (ns : Numbers). buildOf ns 0) (c .before .numbers .ensures) ∙ sym (made-ok (a .addresses .now) (a .e) (c .before .before .if1 .taken))
+    c .build .ensures ∙ ap (λ (ns : Numbers). builtFrom ns 0) (c .before .numbers .ensures) ∙ sym (made-ok (a .addresses .now) (a .e) (c .before .before .if1 .taken))
 
 returns-2 : tie.Need-returns-2
 returns-2 c = let a = c .before .before .args in sym (made-not (a .addresses .now) (a .e) (c .if1 .left))

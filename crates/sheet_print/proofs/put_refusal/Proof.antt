@@ -6,7 +6,7 @@ use mir.Facts.{toZ-ofZ}
 use mir.Syntax.{w64}
 use Rattle.sheet_spec.specs.Names.{bytes}
 use Rattle.base_text.specs.WroteLaws.{wrote, wrote-then, signed-20}
-use Rattle.print_spec.specs.Printed.{refusalText}
+use Rattle.print_spec.specs.Printed.{sheetRefusal}
 
 put-byte-requires : tie.Need-put-byte-requires
 put-byte-requires c κs =
@@ -16,7 +16,7 @@ put-byte-requires c κs =
     omega arith
 
 returns : tie.Need-returns
-unfolding refusalText
+unfolding sheetRefusal
 returns c =
     let s = c .before .before .before .before .before .before .before .before .before .before .before .before .before .before .before .before .before .before .before .before .before .before .before .before .before .before in
     let l = signed-20 (s .args .value) (s .fits .value) in

@@ -7,12 +7,12 @@ use lib.ListN.{length, take}
 use lib.Seq.{take-all}
 use Rattle.base_text.specs.Wrote.{Wrote}
 use Rattle.base_text.specs.WroteLaws.{wrote, wrote-none, wrote-then}
-use Rattle.print_spec.specs.Printed.{wordsText}
+use Rattle.print_spec.specs.Printed.{listedWords}
 use Rattle.sheet_print.specs.ListingLaws.{words-next}
 
 abbrev Inv-loop : tie.InvT-loop
 Inv-loop out₀ at words next₀ i₀ out next i =
-    (i ≤ length words) × (length out ≡ length out₀) × (next ≡ at + 5 * i) × Wrote out₀ at (wordsText (take i words)) out next
+    (i ≤ length words) × (length out ≡ length out₀) × (next ≡ at + 5 * i) × Wrote out₀ at (listedWords (take i words)) out next
 
 abbrev μ-loop : tie.MeasureT-loop
 μ-loop out₀ at words next₀ i₀ out next i = length words - i

@@ -1,5 +1,5 @@
 use native.Mathlib.Omega.{arith}
-use Rattle.sheet_token_laws.specs.SheetLaws.{start-length}
+use Rattle.sheet_facts.specs.SheetLaws.{start-length}
 use borrow.Author.Needs.{needs}
 use Rattle.sheet_start.proofs.lines_begin.Statement.{statement}
 use Rattle.sheet_start.proofs.lines_begin.Tie as tie

@@ -3,7 +3,7 @@ use native.Mathlib.Omega.{arith}
 use lib.ListN.{length-take}
 use Rattle.sheet_spec.specs.Sheet.{startOf}
 use Rattle.sheet_start.specs.StartLine.{startAt}
-use Rattle.sheet_token_laws.specs.SheetLaws.{start-line}
+use Rattle.sheet_facts.specs.SheetLaws.{start-line}
 use borrow.Author.Needs.{needs}
 use Rattle.sheet_start.proofs.start.Statement.{statement}
 use Rattle.sheet_start.proofs.start.Tie as tie

@@ -1,7 +1,7 @@
 use mathlib.Core.Path.{sym, _∙_}
 use native.Mathlib.Omega.{arith}
 use borrow.Author.Tests.{not-true, not-false}
-use Rattle.sheet_token_laws.specs.SheetLaws.{outline}
+use Rattle.sheet_facts.specs.SheetLaws.{outline}
 use Rattle.sheet_translate.proofs.Laws.{open-10, open-7, open-9, open-11, open-0}
 use borrow.Author.Needs.{needs}
 use Rattle.sheet_translate.proofs.opening.Statement.{statement}

@@ -2,7 +2,7 @@ use native.Mathlib.Omega.{arith}
 use borrow.Author.Needs.{needs}
 use denote.Ref.{now}
 use Rattle.numeric_fields.specs.Number.{wordAt, numbersIn}
-use Rattle.numeric_fields.proofs.Laws.{unsigned-le}
+use Rattle.numeric_fields.specs.NumberLaws.{unsigned-le}
 use Rattle.numeric_fields.proofs.number.word_at.Statement.{statement}
 use Rattle.numeric_fields.proofs.number.word_at.Tie as tie
 

@@ -1,4 +1,0 @@
-pub mod FieldLaws
-pub mod Standing
-pub mod FormLaws
-pub mod RoundTrip

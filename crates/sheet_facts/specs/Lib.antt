@@ -1,0 +1,6 @@
+pub mod Facts
+pub mod Names
+pub mod Fields
+pub mod Lines
+pub mod Listing
+pub mod SheetLaws

@@ -1,0 +1,13 @@
+pub mod Says
+pub mod Turned
+pub mod Fitting
+pub mod Sorts
+pub mod Rows
+pub mod Sizes
+pub mod Lawful
+pub mod Renamed
+pub mod Made
+pub mod Image
+pub mod Outcomes
+pub mod Bounds
+pub mod Counted

@@ -1,0 +1,269 @@
+-- Sorts of values in a line: their form, the kinds of its fields, what they make whatever names are made, and their line whatever their targets name.
+use Prim.Native.Nat.{ℕ, suc, _-_, _^_, _≤_}
+use mathlib.Core.Path.{_≡_, refl, sym, ap, ap₂, _∙_}
+use mathlib.Core.Bool.{Bool, true, false, _&&_}
+use mathlib.Core.List.{List, [], _∷_, _++_, append-assoc, map}
+use native.Mathlib.Omega.{arith}
+use lib.Dec.{leb, ltb}
+use lib.ListN.{length, getD}
+use lib.IntN.{ℤ, pos, negsuc}
+use borrow.Author.Tests.{le-leb, leb-true, ltb-true}
+use Rattle.numeric_spec.specs.Entry.{Entry, unsigned, signed, inside, Inside}
+use Rattle.numeric_spec.specs.Field.{longForm}
+use Rattle.sheet_spec.specs.declared.Kind.{Kind}
+use Rattle.sheet_spec.specs.declared.Kind.the-variants as kind
+use Rattle.sheet_spec.specs.Names.{bytes, namesOf}
+use Rattle.sheet_spec.specs.Grammar.{kindsOf}
+use Rattle.sheet_spec.specs.Line.{Token, literal, label, invalid}
+use Rattle.sheet_spec.specs.Spell.{numberAs, Suits, Variant, nextKinds}
+use Rattle.sheet_spec.specs.Made.{names, namesAll}
+use Rattle.sheet_size_facts.specs.Turned.{Input, Turned, Turn, head-is, tail-is, inside-append, inside-parts}
+use Rattle.sheet_size_facts.specs.Fitting.{Fitting}
+use Rattle.sheet_spec.specs.Told.{Mark, numbered, named, field, unaimed}
+use Rattle.base_facts.specs.Tests.{and-true, below, all}
+
+-- what is known of their targets is in Aims
+pub record Sort (n : ℕ) (X : Type 0) : Type 1 where
+  pub form : X → List Entry
+  pub kinds : List Kind
+  pub bare : X → X
+  pub Aims : ((ℕ → ℕ) → X) → Type 0
+  pub turn : (x : X) → Turn n form kinds bare Aims x
+  pub fitting : (x : X) (m : ℕ → Mark) (ks : List Kind) → Fitting form kinds x m ks
+
+-- ---- no value, and one value after the other
+abbrev pub none : {n : ℕ} → Sort n (Unit {0})
+none = record {
+  form = λ z. [];
+  kinds = [];
+  bare = λ z. z;
+  Aims = λ y. Unit {0};
+  turn = λ x ks vs es h i. record { rest = vs; left = h; made = λ f. tt; good = (λ f. refl, tt); spells = λ f b us q. q; stays = λ f b. tt };
+  fitting = λ x m ks. record { bare = tt; next = m; leaves = λ es. refl; fits = λ es i h. h i };
+}
+
+pub both-turned : {n : ℕ} {X Y : Type 0} (s : Sort n X) (t : Sort n Y) (z : X × Y)
+    → Turn n (λ w. s .form (w .0) ++ t .form (w .1)) (s .kinds ++ t .kinds) (λ w. (s .bare (w .0), t .bare (w .1))) (λ y. s .Aims (λ f. y f .0) × t .Aims (λ f. y f .1)) z
+both-turned s t z ks vs es h g =
+    let i = inside-parts (s .form (z .0)) (t .form (z .1)) g in
+    let a = s .turn (z .0) (t .kinds ++ ks) vs (t .form (z .1) ++ es) (simp append-assoc at h) (i .0) in
+    let b = t .turn (z .1) ks (a .rest) es (a .left) (i .1) in
+    record {
+      rest = b .rest;
+      left = b .left;
+      made = λ f. (a .made f, b .made f);
+      good = (λ f j. (a .good .0 f j, b .good .0 f j), (a .good .1, b .good .1));
+      spells = λ f k us q. rw (append-assoc (s .form (a .made f)) (t .form (b .made f)) us) (a .spells f k (t .form (b .made f) ++ us) (b .spells f k us q));
+      stays = λ f k. inside-append (s .form (a .made f)) (t .form (b .made f)) (a .stays f k) (b .stays f k);
+    }
+
+infixl 60 _⊗_
+abbrev pub _⊗_ : {n : ℕ} {X Y : Type 0} → Sort n X → Sort n Y → Sort n (X × Y)
+s ⊗ t = record {
+  form = λ z. s .form (z .0) ++ t .form (z .1);
+  kinds = s .kinds ++ t .kinds;
+  bare = λ z. (s .bare (z .0), t .bare (z .1));
+  Aims = λ y. s .Aims (λ f. y f .0) × t .Aims (λ f. y f .1);
+  turn = both-turned s t;
+  fitting = λ z m ks.
+      let a = s .fitting (z .0) m (t .kinds ++ ks) in
+      let b = t .fitting (z .1) (a .next) ks in
+      record {
+        bare = (a .bare, b .bare);
+        next = b .next;
+        leaves = λ es.
+            rw (append-assoc (s .kinds) (t .kinds) ks, append-assoc (s .form (z .0)) (t .form (z .1)) es, append-assoc (s .form (a .bare)) (t .form (b .bare)) (unaimed (b .next) ks es))
+            (a .leaves (t .form (z .1) ++ es) ∙ ap (λ l. s .form (a .bare) ++ l) (b .leaves es));
+        fits = λ es. rw (append-assoc (s .kinds) (t .kinds) ks, append-assoc (s .form (z .0)) (t .form (z .1)) es) (λ i h. a .fits (t .form (z .1) ++ es) i (λ j. b .fits es j h));
+      };
+}
+
+-- ---- one field: a number or a variant without fields
+same-number : (f : ℕ → ℕ) (b : Bool) (m : ℕ) → numberAs f (literal b m) ≡ numberAs (λ k. 0) (literal b m)
+same-number f true m = refl
+same-number f false m = refl
+
+said-turned : {n : ℕ} {X : Type 0} {P : ((ℕ → ℕ) → X) → Type 0} (e : X → Entry) (x : X) → P (λ f. x) → (k : Kind) (b : Bool) (m : ℕ) → kindsOf k m ≡ [] → (ks : List Kind) (vs : List Token) (es : List Entry)
+    → Input n (k ∷ ks) (literal b m ∷ vs) (e x ∷ es) → Inside (e x ∷ []) → Turned n X (λ z. e z ∷ []) P ks (literal b m ∷ vs) es
+said-turned e x p k b m c ks vs es h i =
+    record {
+      rest = vs;
+      left = record { fits = rw c at (h .fits .1); named = and-true true (namesAll _ vs) (h .named) .1; zeros = tail-is (h .zeros) };
+      made = λ f. x;
+      good = p;
+      spells = λ f l us q. ap₂ _∷_ (same-number f b m ∙ head-is (h .zeros)) q;
+      stays = λ f l. i;
+    }
+
+-- a kind whose fields say numbers that no fields follow
+abbrev pub Simple : Kind → Type 0
+Simple k = (m : ℕ) → (kindsOf k m ≡ []) × (Suits k (label m) → ⊥) × (Suits k invalid → ⊥)
+
+pub plain-turned : {n : ℕ} {X : Type 0} (k : Kind) → Simple k → (e : X → Entry) (x : X) → Turn n (λ z. e z ∷ []) (k ∷ []) (λ z. z) (λ y. Unit {0}) x
+plain-turned k s e x ks [] es h i = absurd (h .fits)
+plain-turned k s e x ks (literal b m ∷ vs) es h i = said-turned e x (λ f. refl, tt) k b m (s m .0) ks vs es h i
+plain-turned k s e x ks (label m ∷ vs) es h i = absurd (s m .1 (h .fits .0))
+plain-turned k s e x ks (invalid ∷ vs) es h i = absurd (s 0 .2 (h .fits .0))
+
+-- its line, whatever a target in it names
+pub one-fitting : {X : Type 0} (k : Kind) (e : X → Entry) (bare : Mark → X → X)
+    → ((m : Mark) (x : X) → (field k m (e x) .1 ≡ e (bare m x)) × (nextKinds k (field k m (e x) .0) ≡ []) × (inside (e x) ≡ true → Suits k (field k m (e x) .0)))
+    → (x : X) (m : ℕ → Mark) (ks : List Kind) → Fitting (λ z. e z ∷ []) (k ∷ []) x m ks
+one-fitting k e bare law x m ks =
+    let l = law (m 0) x in
+    record { bare = bare (m 0) x; next = λ n. m (suc n); leaves = λ es. rw (l .1) (λ i. l .0 i ∷ unaimed (λ n. m (suc n)) ks es); fits = λ es i h. rw (l .1) (l .2 (i .0), h (i .1)) }
+
+abbrev pub number : {n : ℕ} {X : Type 0} (top : ℕ) → leb top (2 ^ 64 - 1) ≡ true → (X → ℕ) → Sort n X
+number top t p = record {
+  form = λ x. unsigned top (p x) ∷ [];
+  kinds = kind.Number ∷ [];
+  bare = λ x. x;
+  Aims = λ y. Unit {0};
+  turn = plain-turned kind.Number (λ m. (refl, λ h. h, λ h. h)) (λ x. unsigned top (p x));
+  fitting = one-fitting kind.Number (λ x. unsigned top (p x)) (λ m x. x) (λ m x. (refl, refl, λ h. omega (arith, leb-true (p x) top h, leb-true top (2 ^ 64 - 1) t)));
+}
+
+abbrev pub integer : {n : ℕ} → Sort n ℤ
+integer = record {
+  form = λ z. signed z ∷ [];
+  kinds = kind.Number ∷ [];
+  bare = λ z. z;
+  Aims = λ y. Unit {0};
+  turn = plain-turned kind.Number (λ m. (refl, λ h. h, λ h. h)) signed;
+  fitting = one-fitting kind.Number signed (λ m z. z)
+      (λ m z. elim z [ pos n ↦ (refl, refl, λ h. omega (arith, ltb-true n (2 ^ 31) h)) | negsuc n ↦ (refl, refl, λ h. (omega arith, omega (arith, ltb-true n (2 ^ 31) h))) ]);
+}
+
+-- ---- a target, and a target in an operand, which may also be a number
+abbrev pub Aimed : ℕ → ((ℕ → ℕ) → ℕ) → Type 0
+Aimed n y = (m : ℕ) × (1 ≤ m) × (m ≤ n) × ((f : ℕ → ℕ) → y f ≡ f m)
+
+pub aim-turned : {n : ℕ} {A : ((ℕ → ℕ) → ℕ) → Type 0} (k : Kind) → ((m : ℕ) → kindsOf k m ≡ []) → (Suits k invalid → ⊥)
+    → (x : ℕ) → ((b : Bool) (m : ℕ) → Suits k (literal b m) → A (λ f. x)) → ((m : ℕ) → Aimed n (λ f. f m) → A (λ f. f m)) → Turn n longForm (k ∷ []) (λ x. 0) A x
+aim-turned k s t x p q ks [] es h i = absurd (h .fits)
+aim-turned k s t x p q ks (literal b m ∷ vs) es h i = said-turned (λ z. unsigned (2 ^ 32 - 1) z) x (λ f. refl, p b m (h .fits .0)) k b m (s m) ks vs es h i
+aim-turned {n} k s t x p q ks (label m ∷ vs) es h i =
+    let g = and-true (names n (label m)) (namesAll n vs) (h .named) in
+    let u = and-true (leb 1 m) (leb m n) (g .0) in
+    let l = leb-true 1 m (u .0) in
+    let r = leb-true m n (u .1) in
+    record {
+      rest = vs;
+      left = record { fits = h .fits .1; named = g .1; zeros = tail-is (h .zeros) };
+      made = λ f. f m;
+      good = (λ f. refl, q m (m, l, r, λ f. refl));
+      spells = λ f b us e. ap (λ (zs : List ℤ). pos (f m) ∷ zs) e;
+      stays = λ f b. (le-leb (f m) (2 ^ 32 - 1) (omega (arith, b m l r)), tt);
+    }
+aim-turned k s t x p q ks (invalid ∷ vs) es h i = absurd (t (h .fits .0))
+
+abbrev pub target : {n : ℕ} → Sort n ℕ
+target {n} = record {
+  form = longForm;
+  kinds = kind.Target ∷ [];
+  bare = λ x. 0;
+  Aims = Aimed n;
+  turn = λ x. aim-turned kind.Target (λ m. refl) (λ h. h) x (λ b m h. absurd h) (λ m a. a);
+  fitting = one-fitting kind.Target (λ t. unsigned (2 ^ 32 - 1) t) (λ m t. 0) (λ m t. elim m [ numbered n ↦ (refl, refl, λ h. tt) | named n ↦ (refl, refl, λ h. tt) ]);
+}
+
+abbrev pub place : {n : ℕ} → Sort n ℕ
+place = record {
+  form = longForm;
+  kinds = kind.Place ∷ [];
+  bare = λ x. 0;
+  Aims = λ y. Unit {0};
+  turn = λ x. aim-turned kind.Place (λ m. refl) (λ h. h) x (λ b m h. tt) (λ m a. tt);
+  fitting = one-fitting kind.Place (λ t. unsigned (2 ^ 32 - 1) t) (λ m t. elim m [ numbered n ↦ t | named n ↦ 0 ])
+      (λ m t. elim m [ numbered n ↦ (refl, refl, λ h. omega (arith, leb-true t (2 ^ 32 - 1) h)) | named n ↦ (refl, refl, λ h. tt) ]);
+}
+
+-- ---- a variant, by its name
+abbrev pub isNamed : Kind → ℕ → Bool
+isNamed k n = ltb n (length (namesOf k)) && ltb 0 (length (getD (map bytes (namesOf k)) n []))
+
+is-variant : (k : Kind) (n : ℕ) → isNamed k n ≡ true → Variant k (literal false n)
+is-variant k n e =
+    let b = and-true (ltb n (length (namesOf k))) (ltb 0 (length (getD (map bytes (namesOf k)) n []))) e in
+    (ltb-true n (length (namesOf k)) (b .0), ltb-true 0 (length (getD (map bytes (namesOf k)) n [])) (b .1))
+
+-- a kind whose fields are names
+abbrev pub Naming : Kind → Type 0
+Naming k = (n : ℕ) → (Variant k (literal false n) → Suits k (literal false n)) × ((m : Mark) (top : ℕ) → field k m (unsigned top n) ≡ (literal false n, unsigned top n))
+
+-- ---- a variant and its fields
+pub chosen : {n : ℕ} {X Z : Type 0} {form : X → List Entry} {P : ((ℕ → ℕ) → X) → Type 0} (k : Kind) → ((v : Token) → Suits k v → Variant k v) → (top p : ℕ) (s : Sort n Z) (con : Z → X) (z : Z)
+    → (Variant k (literal false p) → (kindsOf k p ≡ s .kinds) × ((w : Z) → form (con w) ≡ unsigned top p ∷ s .form w)
+    × ((y : (ℕ → ℕ) → Z) → ((f : ℕ → ℕ) → s .bare (y f) ≡ s .bare z) → s .Aims y → P (λ f. con (y f))))
+    → (ks : List Kind) (vs : List Token) (es : List Entry) → Input n (k ∷ ks) vs (unsigned top p ∷ (s .form z ++ es)) → Inside (unsigned top p ∷ s .form z) → Turned n X form P ks vs es
+chosen k v top p s con z l ks [] es h i = absurd (h .fits)
+chosen k v top p s con z l ks (literal true m ∷ vs) es h i = absurd (v (literal true m) (h .fits .0))
+chosen {n} k v top p s con z l ks (literal false m ∷ vs) es h i =
+    let e = h .zeros in
+    let q : m ≡ p = cc in
+    let t = l (rw q at (v (literal false m) (h .fits .0))) in
+    let a = s .turn z ks vs es (record { fits = rw (q, t .0) at (h .fits .1); named = and-true true (namesAll n vs) (h .named) .1; zeros = tail-is e }) (i .1) in
+    record {
+      rest = a .rest;
+      left = a .left;
+      made = λ f. con (a .made f);
+      good = t .2 (a .made) (a .good .0) (a .good .1);
+      spells = λ f b us r. rw (t .1 (a .made f)) (λ j. head-is e j ∷ a .spells f b us r j);
+      stays = λ f b. rw (t .1 (a .made f)) (i .0, a .stays f b);
+    }
+chosen k v top p s con z l ks (label m ∷ vs) es h i = absurd (v (label m) (h .fits .0))
+chosen k v top p s con z l ks (invalid ∷ vs) es h i = absurd (v invalid (h .fits .0))
+
+-- an enum: its form, its kind and the place of its last variant, and a value without its targets
+pub record Enum (X : Type 0) : Type 0 where
+  pub form : X → List Entry
+  pub kind : Kind
+  pub suits : (v : Token) → Suits kind v → Variant kind v
+  pub names : Naming kind
+  pub top : ℕ
+  pub bare : X → X
+
+pub variant-fitting : {n : ℕ} {X Z : Type 0} (e : Enum X) (p : ℕ) → (leb p (e .top) ≡ true → isNamed (e .kind) p ≡ true) → (s : Sort n Z) (con : Z → X)
+    → ((w : Z) → _≡_ {A = List Kind × List Entry} (kindsOf (e .kind) p, e .form (con w)) (s .kinds, unsigned (e .top) p ∷ s .form w))
+    → (z : Z) (m : ℕ → Mark) (ks : List Kind) → Fitting (e .form) (e .kind ∷ []) (con z) m ks
+variant-fitting {n} {X} {Z} e p t s con law z m ks =
+    let a = s .fitting z (λ n. m (suc n)) ks in
+    let n = e .names p .1 (m 0) (e .top) in
+    let l : (w : Z) → e .form (con w) ≡ unsigned (e .top) p ∷ s .form w = λ w. ap (λ t. t .1) (law w) in
+    let q : kindsOf (e .kind) p ≡ s .kinds = ap (λ t. t .0) (law z) in
+    record {
+      bare = con (a .bare);
+      next = a .next;
+      leaves = λ es. rw (l z, l (a .bare), n, q) (ap (λ x. unsigned (e .top) p ∷ x) (a .leaves es));
+      fits = λ es. rw (l z, n, q) (λ i h. (e .names p .0 (is-variant (e .kind) p (t (i .0))), a .fits es (i .1) h));
+    }
+
+abbrev pub Variants : (n : ℕ) {X : Type 0} → Enum X → X → Type 0
+Variants n e x = Turn n (e .form) (e .kind ∷ []) (e .bare) (λ y. Unit {0}) x × ((m : ℕ → Mark) (ks : List Kind) → Fitting (e .form) (e .kind ∷ []) x m ks)
+
+pub variant : {n : ℕ} {X Z : Type 0} (e : Enum X) (p : ℕ) → (leb p (e .top) ≡ true → isNamed (e .kind) p ≡ true) → (s : Sort n Z) (con : Z → X) (z : Z)
+    → ((w : Z) → _≡_ {A = List Kind × List Entry × X} (kindsOf (e .kind) p, e .form (con w), e .bare (con w)) (s .kinds, unsigned (e .top) p ∷ s .form w, con (s .bare w)))
+    → Variants n e (con z)
+variant {n} {X} {Z} e p t s con z law =
+    let form : (w : Z) → e .form (con w) ≡ unsigned (e .top) p ∷ s .form w = λ w. ap (λ t. t .1) (law w) in
+    let bare : (w : Z) → e .bare (con w) ≡ con (s .bare w) = λ w. ap (λ t. t .2) (law w) in (
+      λ ks vs es h i. chosen (e .kind) (e .suits) (e .top) p s con z (λ l. (ap (λ t. t .0) (law z), form, λ y q a. (λ f. bare (y f) ∙ ap con (q f) ∙ sym (bare z), tt)))
+          ks vs es (rw (form z) at h) (rw (form z) at i),
+      variant-fitting e p t s con (λ w. ap (λ t. (t .0, t .1)) (law w)) z,
+    )
+
+abbrev pub enum : {n : ℕ} {X : Type 0} (e : Enum X) → ((x : X) → Variants n e x) → Sort n X
+enum e t = record { form = e .form; kinds = e .kind ∷ []; bare = e .bare; Aims = λ y. Unit {0}; turn = λ x. t x .0; fitting = λ x. t x .1 }
+
+-- an enum without fields
+abbrev pub choice : {n : ℕ} {X : Type 0} (k : Kind) → ((m : ℕ) → kindsOf k m ≡ []) → ((v : Token) → Suits k v → Variant k v) → (top : ℕ) (p : X → ℕ) → all (isNamed k) (suc top) ≡ true → Naming k → Sort n X
+choice {n} {X} k s u top p t c = record {
+  form = λ x. unsigned top (p x) ∷ [];
+  kinds = k ∷ [];
+  bare = λ x. x;
+  Aims = λ y. Unit {0};
+  turn = plain-turned k (λ m. (s m, u (label m), u invalid)) (λ x. unsigned top (p x));
+  fitting = λ x.
+      let e : Enum X = record { form = λ x. unsigned top (p x) ∷ []; kind = k; suits = u; names = c; top = top; bare = λ x. x } in
+      variant-fitting {n = n} e (p x) (λ h. below (isNamed k) (suc top) t (p x) (omega (arith, leb-true (p x) top h))) none (λ w. x) (λ w i. (s (p x) i, unsigned top (p x) ∷ [])) tt;
+}

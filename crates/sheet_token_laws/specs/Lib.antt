@@ -1,7 +1,0 @@
-pub mod Facts
-pub mod Names
-pub mod Fields
-pub mod Lines
-pub mod Numbers
-pub mod Listing
-pub mod SheetLaws
