@@ -15,10 +15,10 @@ use Rattle.numeric_spec.specs.declared.Numbers.{Numbers}
 use Rattle.numeric_spec.specs.Entry.{Entry, unsigned, numberOf, isNegative, pad, numbersFrom}
 use Rattle.numeric_spec.specs.Form.{formOf, numbersOf}
 use Rattle.numeric_laws.specs.RoundTrip.{form-length}
-use Rattle.print_spec.specs.declared.Run.{Run}
-use Rattle.print_spec.specs.Run.{runOf}
+use Rattle.read_runs.specs.declared.Run.{Run}
+use Rattle.read_runs.specs.Kept.{runOf, runText, keptAnswerOf}
 use Rattle.read_runs.specs.RunLaws.{run-count, run-places}
-use Rattle.print_spec.specs.ReadAnswer.{numbersText, readText, runText, readAnswerOf}
+use Rattle.print_spec.specs.ReadAnswer.{numbersText, readText}
 use Rattle.read_answers.specs.Put.{numberText, firstNumbers, putText}
 
 cond-true : (t : Bool) (a b : List ℕ) → t ≡ true → cond t a b ≡ a
@@ -84,12 +84,12 @@ put-text i ns n e =
 
 -- ---- the form
 module _ (line : List ℕ) (r : Run) (e : r ≡ runOf line) where
-  pub answer-yes : r .ok ≡ true → readAnswerOf line ≡ runText r
-  unfolding readAnswerOf
+  pub answer-yes : r .ok ≡ true → keptAnswerOf line ≡ runText r
+  unfolding keptAnswerOf
   answer-yes h = cond-true (runOf line .ok) _ _ (rw (sym e) h) ∙ rw e
 
-  pub answer-no : r .ok ≡ false → readAnswerOf line ≡ notInForm
-  unfolding readAnswerOf
+  pub answer-no : r .ok ≡ false → keptAnswerOf line ≡ notInForm
+  unfolding keptAnswerOf
   answer-no h = cond-false (runOf line .ok) _ _ (rw (sym e) h)
 
   pub run-room : (r .count ≤ 16) × (r .count ≤ length (r .words))

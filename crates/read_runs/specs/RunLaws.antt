@@ -16,10 +16,11 @@ use Rattle.base_spec.specs.Parts.{fields}
 use Rattle.base_text.specs.PartLaws.{partsFrom, parts-at, parts-start, parts-past, part-is}
 use Rattle.base_spec.specs.Number.{numberOf}
 use Rattle.base_spec.specs.Numbers.{magnitudeOf}
-use Rattle.print_spec.specs.declared.Run.{Run}
+use Rattle.read_runs.specs.declared.Run.{Run}
 use Rattle.read_runs.specs.declared.Word.{Word}
 use Rattle.read_runs.specs.declared.Word.the-variants.{Is, No}
-use Rattle.print_spec.specs.Run.{within, hexValue, isWord, wordIn, allWords, wordsIn, isAddress, keptRun, noRun, runIn, runOf}
+use Rattle.print_spec.specs.Run.{within, hexValue, isWord, wordIn, allWords, wordsIn, isAddress}
+use Rattle.read_runs.specs.Kept.{keptRun, noRun, runIn, runOf}
 use Rattle.read_runs.specs.Step.{fourDigits, wordOf, startAt, startOf, placedWord, withWord}
 use Rattle.base_facts.specs.Tests.{cond-true, cond-false}
 

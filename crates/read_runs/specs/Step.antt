@@ -6,10 +6,11 @@ use lib.Dec.{ltb}
 use lib.ListN.{replicate, set}
 use Rattle.base_spec.specs.declared.Number.{Number}
 use Rattle.base_spec.specs.declared.Number.the-variants as number
-use Rattle.print_spec.specs.declared.Run.{Run}
+use Rattle.read_runs.specs.declared.Run.{Run}
 use Rattle.read_runs.specs.declared.Word.{Word}
 use Rattle.read_runs.specs.declared.Word.the-variants.{Is, No}
-use Rattle.print_spec.specs.Run.{isWord, wordIn, noRun}
+use Rattle.print_spec.specs.Run.{isWord, wordIn}
+use Rattle.read_runs.specs.Kept.{noRun}
 
 -- the word of four digits
 abbrev pub fourDigits : ℕ → ℕ → ℕ → ℕ → Word
