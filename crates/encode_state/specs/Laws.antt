@@ -57,13 +57,13 @@ parts-append [] qs e = refl
 parts-append (p ∷ ps) qs e = parts-append ps qs (run (p (nextAddress e)) e)
 
 -- ---- a check leaves the place of the next word
-next-pick : (b : Bool) (x y : Encoder) → nextAddress x ≡ nextAddress y → nextAddress (cond b x y) ≡ nextAddress y
-next-pick true x y h = h
-next-pick false x y h = refl
+next-cond : (b : Bool) (x y : Encoder) → nextAddress x ≡ nextAddress y → nextAddress (cond b x y) ≡ nextAddress y
+next-cond true x y h = h
+next-cond false x y h = refl
 
 refuse-next : (e : Encoder) (n d : ℕ) (z : ℤ) → nextAddress (refused e n d z) ≡ nextAddress e
 unfolding refused nextAddress
-refuse-next e n d z = next-pick (eqb (e .number) 0) _ e refl
+refuse-next e n d z = next-cond (eqb (e .number) 0) _ e refl
 
 pub marked-next : (v : Verdict) (e : Encoder) → nextAddress (marked v e) ≡ nextAddress e
 marked-next fine e = refl

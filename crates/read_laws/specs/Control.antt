@@ -12,7 +12,7 @@ use Rattle.read_spec.specs.Decoded.{extended, quickDecoded, wordOf, branchTo, b
 use Rattle.read_operand_laws.specs.Facts.{fits, fits-wider, as-fits32, signed16-low, signed32-low, low-signed32, signed16-fits, distance-reach, reach-distance, count-holds, reach-lt, low-signed16, word-branch-holds, low, low8, short-branch-holds, signed8-fits, low-signed8, signed8-low}
 use Rattle.encode_facts.specs.Items.{placed-placed, placed-lt, unless-reason, true-unless, lt-number}
 use Rattle.isa.specs.declared.Condition.{Condition}
-use Rattle.isa_values.specs.Condition.{of-code, code-of}
+use Rattle.isa_facts.specs.Condition.{of-code, code-of, condition-lt}
 use Rattle.isa_spec.specs.Condition.{conditionOf}
 use Rattle.isa_spec.specs.Code.{conditionCode, sizeCode, isByte}
 use mathlib.Core.List.{List, _∷_, []}
@@ -138,11 +138,6 @@ pub extended-word : (d : ℕ) → d < 2 ^ 32 → fits (2 ^ 15) (signed32 d) ≡ 
 extended-word d l h = rw (again (bitsOf (signed32 d)), signed16-low (signed32 d) h) (low-signed32 d l)
 
 -- ---- Scc DBcc TRAPcc: the condition in bits 11 to 8
-condition-lt : (c : Condition) → conditionCode c < 16
-condition-lt c =
-    let e : conditionCode c ≡ conditionCode c % 16 = sym (ap conditionCode (of-code c)) ∙ code-of (conditionCode c) in
-    omega (arith, e)
-
 abbrev high : Condition → ℕ
 high c = conditionCode c / 2
 

@@ -23,15 +23,16 @@ use Rattle.isa_spec.specs.ExtensionWord.{isFull, baseSize, outerSize, isCanonic
 use Rattle.encode_spec.specs.Ea.{indexSizeVerdict, briefItems, displacementItems, fromPc, fullItems, briefField, scaledItems, extendedItems, extendedModeField, extendedRegisterField, eaField, eaItems, isTyped}
 use Rattle.base_spec.specs.Signed.{bitsOf}
 use Rattle.read_spec.specs.Number.{signed8, reach}
-use Rattle.read_spec.specs.Operand.{generalOf, indexOf, displacementTree, landed, fullTree, indexOperand, scaledOperand, briefOperand, indexedTree}
+use Rattle.read_spec.specs.Operand.{generalOf, indexOf, displacementTree, landed, outerTree, baseTree, fullTree, indexOperand, scaledOperand, briefOperand, indexedTree}
 use Rattle.read_spec.specs.Plain.{plainIndex, plainBrief, plainOperand}
-use Rattle.read_spec.specs.Tree.{Tree, ret, got, run, bind}
+use Rattle.read_spec.specs.Tree.{Tree, ret, got, run}
 use Rattle.read_operand_laws.specs.Stands.{Stands}
 use Rattle.read_spec.specs.Accepted.{Fits32, InTypes, Words}
 use Rattle.read_operand_laws.specs.Facts.{fits, fits-wider, as-fits32, low-signed8, signed8-low, signed8-fits, reach-distance, distance-reach, reach-lt, pc-index-holds, index-displacement-holds, base-displacement-holds, outer-displacement-holds}
 use Rattle.encode_facts.specs.Items.{fine-both, both-fine, reason-not, range-holds, holds-range, number-lt, lt-number, failure-append, words-in-append, count-append, placed-lt}
 use Rattle.read_operand_laws.specs.TreeLaws.{rest-words, Alive, Clean, got-subst, short-no, guard-true, guard-then, guard-clean, bind-got, bind-then, bind-alive, bind-clean}
 use Rattle.read_operand_laws.specs.DisplacementLaws.{got-is, displacement-complete, displacement-sound, displacement-clean, based, landed-based, based-fits, based-landed, landed-fits}
+use Rattle.isa_facts.specs.Code.{general-lt, long-lt}
 use Rattle.base_facts.specs.Tests.{Lt, less, past, lt?, Eq, same, other, eq?, ltb-true, ltb-not, leb-true, eqb-is, eqb-not, and-yes, cond-true, cond-false, true-and, true-not-false}
 
 -- ---- the index of a brief word
@@ -41,15 +42,6 @@ briefWord x low = general (x .register) * 4096 + longBit (x .size) * 2048 + low
 -- a brief word of scale 1, its displacement's byte and its index
 abbrev pub Brief : ℕ → ℕ → IndexRegister → Type 0
 Brief w low x = (isFull w ≡ false) × (eqb (w / 512 % 4) 0 ≡ true) × (w % 256 ≡ low) × (indexOf w ≡ x)
-
-pub general-lt : (r : RegisterOperand) → general r < 16
-general-lt (Address n) = omega arith
-general-lt (Data n) = omega arith
-
-pub long-lt : (s : Size) → longBit s < 2
-long-lt Byte = omega arith
-long-lt Word = omega arith
-long-lt Long = omega arith
 
 general-of : (r : RegisterOperand) → numberVerdict (numberOfRegister r) ≡ fine → generalOf (general r) ≡ r
 general-of (Address n) e =
@@ -116,12 +108,6 @@ index-sound w h e f =
     (g .0, b .0, rw (g .1, b .1) (upper w e f))
 
 -- ---- an extension word of a full format
-abbrev outerPart : ℕ → ℕ → ℕ → ℤ → Tree Operand
-outerPart base at w z = bind (displacementTree (outerSize w)) (λ outer. ret (Extended base w (landed (fromPc base w) at z) outer))
-
-abbrev fullPart : ℕ → ℕ → ℕ → Tree Operand
-fullPart base at w = bind (displacementTree (baseSize w)) (λ z. outerPart base at w z)
-
 abbrev baseItems : ℕ → ℤ → List Item
 baseItems w z = displacementItems (baseSize w) z field.BaseDisplacement
 
@@ -142,8 +128,8 @@ full-complete base a n w z outer f c t u e r =
     ap (λ (l : List ℕ). l ++ r) (words-in-append (baseItems w y) (outerItems w outer)) ∙ append-assoc (wordsIn (baseItems w y)) (wordsIn (outerItems w outer)) r in
     let counted = count-append (baseItems w y) (outerItems w outer) in
     ap (λ (l : List ℕ). run (indexedTree base) a n (w ∷ l)) split
-    ∙ ap (λ (k : Tree Operand). run k a (n + 1) ws) (cond-true (isFull w) (fullTree base at w) (ret (briefOperand base at w)) f ∙ guard-true (isCanonical w) (fullPart base at w) c)
-    ∙ bind-got (displacementTree (baseSize w)) (λ y. outerPart base at w y) a (n + 1) ws y (n + 1 + countOf (baseItems w y)) (wordsIn (outerItems w outer) ++ r)
+    ∙ ap (λ (k : Tree Operand). run k a (n + 1) ws) (cond-true (isFull w) (fullTree base at w) (ret (briefOperand base at w)) f ∙ guard-true (isCanonical w) (baseTree base at w) c)
+    ∙ bind-got (displacementTree (baseSize w)) (outerTree base at w) a (n + 1) ws y (n + 1 + countOf (baseItems w y)) (wordsIn (outerItems w outer) ++ r)
     (displacement-complete (baseSize w) field.BaseDisplacement base-displacement-holds y (based-fits (fromPc base w) at z t) (v .0) a (n + 1) (wordsIn (outerItems w outer) ++ r))
     ∙ bind-got (displacementTree (outerSize w)) (λ outer. ret (Extended base w (landed (fromPc base w) at y) outer)) a (n + 1 + countOf (baseItems w y))
     (wordsIn (outerItems w outer) ++ r) outer
@@ -262,8 +248,8 @@ full-sound : (s : Size) (base a n w : ℕ) (ws : List ℕ) → base ≤ 8 → w 
     → OperandSound s a n (extendedField base) (w ∷ ws) o m r
 full-sound s base a n w ws hb hw h f o m r e =
     let at = placed a n in
-    let g = guard-then (isCanonical w) (fullPart base at w) a (n + 1) ws o m r e in
-    bind-then (displacementTree (baseSize w)) (λ z. outerPart base at w z) a (n + 1) ws o m r (g .1) (λ z j s1 e1 f1.
+    let g = guard-then (isCanonical w) (baseTree base at w) a (n + 1) ws o m r e in
+    bind-then (displacementTree (baseSize w)) (outerTree base at w) a (n + 1) ws o m r (g .1) (λ z j s1 e1 f1.
     bind-then (displacementTree (outerSize w)) (λ outer. ret (Extended base w (landed (fromPc base w) at z) outer)) a j s1 o m r f1 (λ outer k s2 e2 f2.
     let d = displacement-sound (baseSize w) field.BaseDisplacement base-displacement-holds a (n + 1) ws h z j s1 e1 in
     let h1 : Words s1 = rest-words (wordsIn (baseItems w z)) s1 (subst Words (d .2) h) in
@@ -415,18 +401,18 @@ indexed-sound s base a n hb (w ∷ ws) h o m r e = go (isFull w) refl
 -- ---- zeros complete it
 full-clean : (base at w : ℕ) → Clean (fullTree base at w)
 full-clean base at w =
-    guard-clean (isCanonical w) (fullPart base at w) (λ c.
-    bind-clean (displacementTree (baseSize w)) (λ z. outerPart base at w z) (displacement-clean (baseSize w) .1)
+    guard-clean (isCanonical w) (baseTree base at w) (λ c.
+    bind-clean (displacementTree (baseSize w)) (outerTree base at w) (displacement-clean (baseSize w) .1)
     (λ z. bind-alive (displacementTree (outerSize w)) (λ outer. ret (Extended base w (landed (fromPc base w) at z) outer)) (displacement-clean (outerSize w) .0) (λ outer. tt))
     (λ z. bind-clean (displacementTree (outerSize w)) (λ outer. ret (Extended base w (landed (fromPc base w) at z) outer)) (displacement-clean (outerSize w) .1)
     (λ outer. tt) (λ outer. tt)))
 
-pick-clean : (b : Bool) (t : Tree Operand) (o : Operand) → Clean t → Clean (cond b t (ret o))
-pick-clean true t o c = c
-pick-clean false t o c = tt
+cond-clean : (b : Bool) (t : Tree Operand) (o : Operand) → Clean t → Clean (cond b t (ret o))
+cond-clean true t o c = c
+cond-clean false t o c = tt
 
 pub indexed-alive : (base : ℕ) → Alive (indexedTree base)
 indexed-alive base = λ at. tt
 
 pub indexed-clean : (base : ℕ) → Clean (indexedTree base)
-indexed-clean base = (λ at. tt, λ at w. pick-clean (isFull w) (fullTree base at w) (briefOperand base at w) (full-clean base at w))
+indexed-clean base = (λ at. tt, λ at w. cond-clean (isFull w) (fullTree base at w) (briefOperand base at w) (full-clean base at w))

@@ -1,7 +1,7 @@
 -- The effective address: what stands is read in its plain form, and what is read stands and is plain.
 use Prim.Native.Nat.{ℕ, zero, suc, _+_, _*_, _-_, _/_, _%_, _^_, _<_, _≤_}
 use mathlib.Core.Path.{_≡_, refl, ap, sym, _∙_, subst}
-use mathlib.Core.Bool.{Bool, true, false, cond}
+use mathlib.Core.Bool.{true, cond}
 use mathlib.Core.List.{List, [], _∷_, _++_}
 use native.Mathlib.Omega.{arith}
 use lib.Dec.{ltb, leb, eqb}
@@ -32,7 +32,7 @@ use Rattle.encode_facts.specs.Items.{fine-both, both-fine, reason-not, range-ho
 use Rattle.read_operand_laws.specs.TreeLaws.{Alive, Clean, got-subst, short-no, none-no, guard-true, guard-then, guard-clean, bind-got, bind-then, bind-alive, bind-clean}
 use Rattle.read_operand_laws.specs.DisplacementLaws.{got-is}
 use Rattle.read_operand_laws.specs.IndexLaws.{briefWord, Brief, index-complete, brief-step, extended-complete, extendedField, OperandSound, sound-by, indexed-sound, indexed-alive, indexed-clean}
-use Rattle.base_facts.specs.Tests.{Lt, less, past, lt?, ltb-true, ltb-is, leb-is, eqb-not, and-true, cond-true, cond-false}
+use Rattle.base_facts.specs.Tests.{Lt, less, past, lt?, ltb-true, ltb-is, leb-is, eqb-not, and-true, cond-true, cond-false, cond-lt}
 
 -- ---- immediates
 immediate-lt : (s : Size) (v : ℕ) → failure true (immediateItems v s) ≡ fine → v < suc (topOf s)
@@ -432,10 +432,6 @@ mode-field (Extended base w z outer) i = go (lt? base 8)
 mode-field (Absolute v width.Word) i = refl
 mode-field (Absolute v width.Long) i = refl
 
-pick-lt : (b : Bool) (m n k : ℕ) → m < k → n < k → cond b m n < k
-pick-lt true m n k h g = h
-pick-lt false m n k h g = g
-
 pub mode-lt : (o : Operand) → modeOf o < 12
 mode-lt (Immediate v) = omega arith
 mode-lt (Register (Address k)) = omega arith
@@ -447,7 +443,7 @@ mode-lt (IndirectDisplacement z base) = omega arith
 mode-lt (IndirectIndex base z x) = omega arith
 mode-lt (PcDisplacement t) = omega arith
 mode-lt (PcIndex t x) = omega arith
-mode-lt (Extended base w z outer) = pick-lt (eqb base 8) 10 6 12 (omega arith) (omega arith)
+mode-lt (Extended base w z outer) = cond-lt (eqb base 8) 10 6 12 (omega arith) (omega arith)
 mode-lt (Absolute v width.Word) = omega arith
 mode-lt (Absolute v width.Long) = omega arith
 
@@ -469,8 +465,8 @@ field-lt (IndirectIndex base z x) = omega arith
 field-lt (PcDisplacement t) = omega arith
 field-lt (PcIndex t x) = omega arith
 field-lt (Extended base w z outer) =
-    let p = pick-lt (ltb base 8) 6 7 8 (omega arith) (omega arith) in
-    let q = pick-lt (ltb base 8) (base % 8) 3 8 (omega arith) (omega arith) in
+    let p = cond-lt (ltb base 8) 6 7 8 (omega arith) (omega arith) in
+    let q = cond-lt (ltb base 8) (base % 8) 3 8 (omega arith) (omega arith) in
     omega (arith, p, q)
 field-lt (Absolute v width.Word) = omega arith
 field-lt (Absolute v width.Long) = omega arith

@@ -22,29 +22,22 @@ use Rattle.read_runs.specs.declared.Word.the-variants.{Is, No}
 use Rattle.print_spec.specs.Run.{within, hexValue, isWord, wordIn, allWords, wordsIn, isAddress}
 use Rattle.read_runs.specs.Kept.{keptRun, noRun, runIn, runOf}
 use Rattle.read_runs.specs.Step.{fourDigits, wordOf, startAt, startOf, placedWord, withWord}
-use Rattle.base_facts.specs.Tests.{cond-true, cond-false}
+use Rattle.base_facts.specs.Tests.{and-true, cond-true, cond-false}
 
 -- ---- tests
-and-left : (s t : Bool) → s && t ≡ true → s ≡ true
-and-left true t e = refl
-and-left false t e = e
-
-and-right : (s t : Bool) → s && t ≡ true → t ≡ true
-and-right true t e = e
-and-right false t e = let z : true ≡ false = sym e in cc
-
 pub within-low : (low high b : ℕ) → within low high b ≡ true → low ≤ b
-within-low low high b e = leb-true low b (and-left (leb low b) (leb b high) e)
+within-low low high b e = leb-true low b (and-true (leb low b) (leb b high) e .0)
 
 -- ---- words
 pub four-fit : (a b c d : ℕ) → ltb a 16 && ltb b 16 && ltb c 16 && ltb d 16 ≡ true → a * 4096 + b * 256 + c * 16 + d < 2 ^ 16
 four-fit a b c d e =
-    let abc = and-left (ltb a 16 && ltb b 16 && ltb c 16) (ltb d 16) e in
-    let ab = and-left (ltb a 16 && ltb b 16) (ltb c 16) abc in
-    let k : a < 16 = ltb-true a 16 (and-left (ltb a 16) (ltb b 16) ab) in
-    let l : b < 16 = ltb-true b 16 (and-right (ltb a 16) (ltb b 16) ab) in
-    let m : c < 16 = ltb-true c 16 (and-right (ltb a 16 && ltb b 16) (ltb c 16) abc) in
-    let n : d < 16 = ltb-true d 16 (and-right (ltb a 16 && ltb b 16 && ltb c 16) (ltb d 16) e) in
+    let abcd = and-true (ltb a 16 && ltb b 16 && ltb c 16) (ltb d 16) e in
+    let abc = and-true (ltb a 16 && ltb b 16) (ltb c 16) (abcd .0) in
+    let ab = and-true (ltb a 16) (ltb b 16) (abc .0) in
+    let k : a < 16 = ltb-true a 16 (ab .0) in
+    let l : b < 16 = ltb-true b 16 (ab .1) in
+    let m : c < 16 = ltb-true c 16 (abc .1) in
+    let n : d < 16 = ltb-true d 16 (abcd .1) in
     omega arith
 
 four-tests : (s t u v : Bool) → s && t && u && v ≡ s && (t && (u && (v && true)))
@@ -75,7 +68,7 @@ word-not f h = rw (ne-eqb (length f) 4 h)
 
 -- ---- the run, a word at a time
 pub below-32 : (negative : Bool) (n : ℕ) → not negative && ltb n (2 ^ 32) ≡ true → n < 2 ^ 32
-below-32 negative n e = ltb-true n (2 ^ 32) (and-right (not negative) (ltb n (2 ^ 32)) e)
+below-32 negative n e = ltb-true n (2 ^ 32) (and-true (not negative) (ltb n (2 ^ 32)) e .1)
 
 start-is : (n : Number) → startOf n ≡ cond (isAddress n) (keptRun (magnitudeOf n) []) noRun
 unfolding startAt keptRun
@@ -119,7 +112,7 @@ module _ (address : ℕ) (ws : List ℕ) (w : ℕ) where
       go (no h) = full (omega arith)
 
 pub has-room : (r : Run) → r .ok && ltb (r .count) 16 ≡ true → r .count < 16
-has-room r e = ltb-true (r .count) 16 (and-right (r .ok) (ltb (r .count) 16) e)
+has-room r e = ltb-true (r .count) 16 (and-true (r .ok) (ltb (r .count) 16) e .1)
 
 pub placed-yes : (r : Run) (w : ℕ) → r .ok && ltb (r .count) 16 ≡ true
     → record { ok = r .ok; address = r .address; count = r .count + 1; words = set (r .words) (r .count) w } ≡ placedWord r w
