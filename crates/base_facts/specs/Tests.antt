@@ -2,6 +2,7 @@
 use Prim.Native.Nat.{ℕ, _<_, _≤_, zero, suc}
 use mathlib.Core.Path.{_≡_, refl, sym, _∙_, subst}
 use mathlib.Core.Bool.{Bool, true, false, _&&_, true≢false, false≢true, cond}
+use mathlib.Core.List.{List, [], _∷_}
 use lib.Dec.{ltb, T, leb, eqb}
 use borrow.Author.Tests as tests
 use native.Mathlib.Omega.{arith}
@@ -20,6 +21,10 @@ lt? a b = go (ltb a b) refl
 pub T-true : (b : Bool) → T b → b ≡ true
 T-true true t = refl
 T-true false t = absurd t
+
+pub T-and : (a b : Bool) → T (a && b) → T a × T b
+T-and true b t = (tt, t)
+T-and false b t = absurd t
 
 pub true-not-false : {C : Type 0} {b : Bool} → b ≡ true → b ≡ false → C
 true-not-false e f = absurd (true≢false (sym e ∙ f))
@@ -40,6 +45,10 @@ cond-true b x y e = rw e
 
 pub cond-false : {A : Type 0} (b : Bool) (x y : A) → b ≡ false → cond b x y ≡ y
 cond-false b x y e = rw e
+
+pub cond-lt : (b : Bool) (m n k : ℕ) → m < k → n < k → cond b m n < k
+cond-lt true m n k h g = h
+cond-lt false m n k h g = g
 
 pub data Eq (a b : ℕ) : Type 0 where
   same : a ≡ b → eqb a b ≡ true → Eq a b
@@ -90,6 +99,11 @@ below f (suc n) t k h = go (below f n (and-true (f n) (all f n) t .1) k) (lt? k 
     go : (k < n → f k ≡ true) → Lt k n → f k ≡ true
     go ih (less l e) = ih l
     go ih (past l e) = let q : n ≡ k = omega arith in subst (λ (m : ℕ). f m ≡ true) q (and-true (f n) (all f n) t .0)
+
+-- of the numbers of a list
+abbrev pub allIn : (ℕ → Bool) → List ℕ → Bool
+allIn f [] = true
+allIn f (k ∷ ks) = f k && allIn f ks
 
 pub and-false : (t : Bool) → t && false ≡ false
 and-false true = refl

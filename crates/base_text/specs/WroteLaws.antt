@@ -9,6 +9,7 @@ use lib.IntN.{ℤ, pos, negsuc}
 use mir.Val.{SFits}
 use mir.Syntax.{w64}
 use Rattle.base_spec.specs.Written.{placed, decimalOf, signedOf}
+use Rattle.base_spec.specs.Refused.{tab, fieldText}
 use Rattle.base_text.specs.WrittenLaws.{placed-then, decimal-length, decimal-19}
 use Rattle.base_text.specs.Wrote.{Wrote}
 
@@ -27,8 +28,8 @@ wrote-then {buf} {mid} {out} {s} {t} {at} {next} {r} v w h =
       image = placed-then buf mid out at next s t (omega (arith, v .next, w .next, length-append s t)) (v .next) (v .image) (w .image);
     }
 
-pub byte-digits : (n : ℕ) → n < 256 → length (decimalOf n) ≤ 3
-byte-digits n h = decimal-length 2 n (omega arith)
+pub byte-field : (n : ℕ) → n < 256 → length (fieldText n) ≤ 4
+byte-field n h = omega (arith, decimal-length 2 n (omega arith), length-append (decimalOf n) tab)
 
 pub signed-20 : (z : ℤ) → SFits w64 z → length (signedOf z) ≤ 20
 signed-20 (pos n) h = omega (arith, h .sfits, decimal-19 n (omega (arith, h .sfits)))

@@ -278,11 +278,11 @@ pub fn put_signed(out: &mut [u8], at: usize, v: i64) -> usize
 }
 
 // A number and a tab.
-fn put_field(out: &mut [u8], at: usize, n: u8) -> usize
-    requires { ⌜ at + 20 ≤ length (now out) ⌝ }
-    ensures { λ r. ⌜ Wrote (now (out .entry)) at (fieldText n) (now (out .exit)) r × (r ≤ at + 4) ⌝ }
+pub fn put_field(out: &mut [u8], at: usize, n: u64) -> usize
+    requires { ⌜ at + 21 ≤ length (now out) ⌝ }
+    ensures { λ r. ⌜ Wrote (now (out .entry)) at (fieldText n) (now (out .exit)) r × (r ≤ at + 21) ⌝ }
 {
-    let next = put_decimal(out, at, n as u64);
+    let next = put_decimal(out, at, n);
     put_byte(out, next, b'\t')
 }
 
@@ -292,8 +292,8 @@ pub fn put_refusal(out: &mut [u8], at: usize, number: u8, detail: u8, value: i64
     ensures { λ r. ⌜ Wrote (now (out .entry)) at (refusedText number detail value) (now (out .exit)) r × (r ≤ at + 36) ⌝ }
 {
     let mut next = put(out, at, b"refused\t");
-    next = put_field(out, next, number);
-    next = put_field(out, next, detail);
+    next = put_field(out, next, number as u64);
+    next = put_field(out, next, detail as u64);
     put_signed(out, next, value)
 }
 

@@ -31,7 +31,7 @@ use Rattle.numeric_fields.specs.declared.LongAt.{LongAt}
 use Rattle.numeric_fields.specs.Number.{longAt}
 use Rattle.numeric_fields.specs.Taken.{Whole, Same, long-same, long-next}
 use Rattle.print_spec.specs.EncodeAnswer.{wordsText, builtText, addressedText, instructionText, lineNumbersText, answerOf}
-use Rattle.encode_answers.specs.Places.{numbersIn, placesText}
+use Rattle.encode_answers.specs.Places.{placesIn, placesText}
 
 words-more : (ws : List ℕ) (w : ℕ) → wordsText (ws ++ (w ∷ [])) ≡ wordsText ws ++ (hex4Of w ++ tab)
 words-more [] w = refl
@@ -109,11 +109,11 @@ module _ (xs : List Number) where
       go true e h = let b = and-true (allNumbers xs) (leb (length xs) 24) e in (b .0, leb-is (length xs) 24 (b .1))
       go false e h = never h
 
-  gathered-held : (h : length xs ≤ 24) → allNumbers xs ≡ true → numbersIn (gathered xs) ≡ held xs h
+  gathered-held : (h : length xs ≤ 24) → allNumbers xs ≡ true → placesIn (gathered xs) ≡ held xs h
   unfolding gathered
   gathered-held h a = rw (a, leb-true (length xs) 24 h)
 
-  text-yes : gathered xs .ok ≡ true → lineNumbersText xs ≡ placesText (numbersIn (gathered xs))
+  text-yes : gathered xs .ok ≡ true → lineNumbersText xs ≡ placesText (placesIn (gathered xs))
   unfolding lineNumbersText
   text-yes t =
       let g = gathered-yes t in
@@ -134,9 +134,9 @@ module _ (xs : List Number) where
       go false h b k e = refl
 
 module _ (line : List ℕ) (n : LineNumbers) (e : n ≡ lineNumbers line) where
-  pub answer-yes : (ns : Numbers) → ns ≡ numbersIn n → n .ok ≡ true → answerOf line ≡ placesText ns
+  pub answer-yes : (ns : Numbers) → ns ≡ placesIn n → n .ok ≡ true → answerOf line ≡ placesText ns
   unfolding answerOf
-  answer-yes ns f h = text-yes (map numberOf (fields line)) (rw (sym e) h) ∙ ap placesText (sym (f ∙ ap numbersIn e))
+  answer-yes ns f h = text-yes (map numberOf (fields line)) (rw (sym e) h) ∙ ap placesText (sym (f ∙ ap placesIn e))
 
   pub answer-no : n .ok ≡ false → answerOf line ≡ notInForm
   unfolding answerOf

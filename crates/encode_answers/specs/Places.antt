@@ -9,8 +9,8 @@ use Rattle.numeric_spec.specs.Build.{builtFrom}
 use Rattle.numeric_fields.specs.Number.{longAt}
 use Rattle.print_spec.specs.EncodeAnswer.{builtText}
 
-abbrev pub numbersIn : LineNumbers → Numbers
-numbersIn n = record { count = n .count; negative = n .negative; magnitude = n .magnitude }
+abbrev pub placesIn : LineNumbers → Numbers
+placesIn n = record { count = n .count; negative = n .negative; magnitude = n .magnitude }
 
 unfoldable pub placesText : Numbers → List ℕ
 placesText ns = let address = longAt ns 0 in cond (address .ok) (builtText (builtFrom ns 1) (address .value)) notInForm

@@ -6,7 +6,7 @@ ghost use Rattle.base_spec.specs.Written.{placed};
 ghost use Rattle.base_text.specs.Wrote.{Wrote};
 ghost use Rattle.base_spec.specs.Lines.{Answered};
 ghost use Rattle.print_spec.specs.EncodeAnswer.{wordsText, encodedText, measuredText, resultText, builtText, answerOf};
-ghost use Rattle.encode_answers.specs.Places.{numbersIn, placesText};
+ghost use Rattle.encode_answers.specs.Places.{placesIn, placesText};
 use base_spec::Step;
 use isa::Encoded;
 use isa::Measured;
@@ -92,7 +92,7 @@ fn put_numbers(out: &mut [u8], at: usize, numbers: Numbers) -> usize
 }
 
 fn numbers_in(n: base_text::LineNumbers) -> Numbers
-    ensures { λ r. ⌜ r ≡ numbersIn n ⌝ }
+    ensures { λ r. ⌜ r ≡ placesIn n ⌝ }
 {
     let negative = n.negative;
     let magnitude = n.magnitude;

@@ -9,7 +9,7 @@ use lib.IntN.{ℤ, pos}
 use lib.ListN.{length}
 use Rattle.isa.specs.declared.Field.{Field}
 use Rattle.isa_spec.specs.Field.{holds}
-use Rattle.encode_spec.specs.Item.{Item, Verdict, fine, malformed, outOfRange, noEncoding, word, check, range, unless, ranged, orElse, failure, verdict, numberVerdict, wordsIn, countOf, placed}
+use Rattle.encode_spec.specs.Item.{Item, Verdict, fine, malformed, outOfRange, noEncoding, word, check, range, unless, ranged, orElse, failure, verdict, numberVerdict, wordsIn, countOf, wordAddress}
 use Rattle.base_facts.specs.Tests.{ltb-is, ltb-true}
 use Rattle.isa.specs.declared.Field.the-variants as field
 
@@ -95,8 +95,8 @@ words-count (word w ∷ xs) = let e = words-count xs in omega arith
 words-count (check v ∷ xs) = words-count xs
 words-count (range f z ∷ xs) = words-count xs
 
-pub placed-placed : (a m n : ℕ) → placed (placed a m) n ≡ placed a (m + n)
-placed-placed a m n = omega arith
+pub address-address : (a m n : ℕ) → wordAddress (wordAddress a m) n ≡ wordAddress a (m + n)
+address-address a m n = omega arith
 
-pub placed-lt : (a n : ℕ) → placed a n < 2 ^ 32
-placed-lt a n = omega arith
+pub address-lt : (a n : ℕ) → wordAddress a n < 2 ^ 32
+address-lt a n = omega arith

@@ -8,7 +8,7 @@ use Rattle.isa.specs.declared.Operand.{Operand}
 use Rattle.isa.specs.declared.Field.{Field}
 use Rattle.isa.specs.declared.Field.the-variants as field
 use Rattle.base_spec.specs.Signed.{signed32, bitsOf, difference}
-use Rattle.encode_spec.specs.Item.{Item, Part, word, range, dataRegister, allow, operation, fixed, placed}
+use Rattle.encode_spec.specs.Item.{Item, Part, word, range, dataRegister, allow, operation, fixed, wordAddress}
 use Rattle.isa_spec.specs.Code.{registerBits, conditionCode}
 use Rattle.encode_spec.specs.Ea.{dataAlterable, control, distance, longItems, wordItems, single}
 use Rattle.isa.specs.declared.Condition.{Condition}
@@ -32,8 +32,8 @@ conditionOperation line condition x ea = operation line (condition / 2) (4 * (co
 -- the distance in the operation word's low byte, from the word after it; -1 is written $FF (01, exception i)
 abbrev pub shortBranch : ℕ → ℕ → Part
 shortBranch condition t at =
-    range field.ShortBranch (distance t (placed at 1))
-    ∷ conditionOperation 6 condition (bitsOf (distance t (placed at 1)) % 256 / 64) (bitsOf (distance t (placed at 1)) % 64) ∷ []
+    range field.ShortBranch (distance t (wordAddress at 1))
+    ∷ conditionOperation 6 condition (bitsOf (distance t (wordAddress at 1)) % 256 / 64) (bitsOf (distance t (wordAddress at 1)) % 64) ∷ []
 
 -- Bcc BRA BSR: the byte is $00 before a word and $FF before a long
 unfoldable pub branchParts : ℕ → ℕ → BranchSize → List Part

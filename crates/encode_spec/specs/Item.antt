@@ -8,7 +8,7 @@ use Rattle.isa.specs.declared.RegisterOperand.{RegisterOperand}
 use Rattle.isa.specs.declared.RegisterOperand.the-variants.{Address, Data}
 use Rattle.isa.specs.declared.Field.{Field}
 use Rattle.isa.specs.declared.Field.the-variants as field
-use Rattle.isa_spec.specs.Field.{holds, numberOf}
+use Rattle.isa_spec.specs.Field.{holds, fieldNumber}
 
 -- what a check says: that it passes, or the refusal (01, "Where a thing is turned back")
 pub data Verdict : Type 0 where
@@ -27,7 +27,7 @@ refusalNumber (noEncoding r) = 3
 abbrev pub refusalDetail : Verdict → ℕ
 refusalDetail fine = 0
 refusalDetail malformed = 0
-refusalDetail (outOfRange f z) = numberOf f
+refusalDetail (outOfRange f z) = fieldNumber f
 refusalDetail (noEncoding r) = r
 
 abbrev pub refusalValue : Verdict → ℤ
@@ -104,13 +104,13 @@ countOf [] = 0
 countOf (x ∷ xs) = oneMore x (countOf xs)
 
 -- the address of the word after n words from a
-abbrev pub placed : ℕ → ℕ → ℕ
-placed a n = (a + 2 * n) % 2 ^ 32
+abbrev pub wordAddress : ℕ → ℕ → ℕ
+wordAddress a n = (a + 2 * n) % 2 ^ 32
 
 -- the parts one after the other, each from the address that the words before it leave
 abbrev pub laid : List Part → ℕ → List Item
 laid [] a = []
-laid (p ∷ ps) a = p a ++ laid ps (placed a (countOf (p a)))
+laid (p ∷ ps) a = p a ++ laid ps (wordAddress a (countOf (p a)))
 
 -- the first check that fails; `size` skips the ranges
 abbrev pub orElse : Verdict → Verdict → Verdict

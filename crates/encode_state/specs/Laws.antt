@@ -10,11 +10,11 @@ use native.Mathlib.Omega.{arith}
 use borrow.Author.Tests.{lt-ltb}
 use Rattle.encode_state.specs.declared.Encoder.{Encoder}
 use Rattle.isa.specs.declared.Encoded.{Encoded}
-use Rattle.isa_spec.specs.Field.{numberOf}
-use Rattle.encode_spec.specs.Item.{Item, Part, Verdict, fine, malformed, outOfRange, noEncoding, word, check, range, ranged, wordsIn, countOf, placed, laid, orElse, failure}
+use Rattle.isa_spec.specs.Field.{fieldNumber}
+use Rattle.encode_spec.specs.Item.{Item, Part, Verdict, fine, malformed, outOfRange, noEncoding, word, check, range, ranged, wordsIn, countOf, wordAddress, laid, orElse, failure}
 use Rattle.encode_spec.specs.Encode.{padded, encodedAs}
 use Rattle.encode_state.specs.Encoder.{pushed, refused, marked, step, run, nextAddress, runParts, holding}
-use Rattle.encode_facts.specs.Items.{words-count, count-append, placed-placed}
+use Rattle.encode_facts.specs.Items.{words-count, count-append, address-address}
 
 -- ---- a refused state stays as it is
 abbrev pub Refused : Encoder → Type 0
@@ -31,7 +31,7 @@ refuse-refused e n d z h = rw h
 pub marked-refused : (v : Verdict) (e : Encoder) → Refused e → marked v e ≡ e
 marked-refused fine e h = refl
 marked-refused malformed e h = refuse-refused e 1 0 (pos 0) h
-marked-refused (outOfRange f z) e h = refuse-refused e 2 (numberOf f) z h
+marked-refused (outOfRange f z) e h = refuse-refused e 2 (fieldNumber f) z h
 marked-refused (noEncoding r) e h = refuse-refused e 3 r (pos 0) h
 
 step-refused : (x : Item) (e : Encoder) → Refused e → step e x ≡ e
@@ -57,18 +57,18 @@ parts-append [] qs e = refl
 parts-append (p ∷ ps) qs e = parts-append ps qs (run (p (nextAddress e)) e)
 
 -- ---- a check leaves the place of the next word
-next-pick : (b : Bool) (x y : Encoder) → nextAddress x ≡ nextAddress y → nextAddress (cond b x y) ≡ nextAddress y
-next-pick true x y h = h
-next-pick false x y h = refl
+next-cond : (b : Bool) (x y : Encoder) → nextAddress x ≡ nextAddress y → nextAddress (cond b x y) ≡ nextAddress y
+next-cond true x y h = h
+next-cond false x y h = refl
 
 refuse-next : (e : Encoder) (n d : ℕ) (z : ℤ) → nextAddress (refused e n d z) ≡ nextAddress e
 unfolding refused nextAddress
-refuse-next e n d z = next-pick (eqb (e .number) 0) _ e refl
+refuse-next e n d z = next-cond (eqb (e .number) 0) _ e refl
 
 pub marked-next : (v : Verdict) (e : Encoder) → nextAddress (marked v e) ≡ nextAddress e
 marked-next fine e = refl
 marked-next malformed e = refuse-next e 1 0 (pos 0)
-marked-next (outOfRange f z) e = refuse-next e 2 (numberOf f) z
+marked-next (outOfRange f z) e = refuse-next e 2 (fieldNumber f) z
 marked-next (noEncoding r) e = refuse-next e 3 r (pos 0)
 
 -- ---- words laid down
@@ -122,20 +122,20 @@ module _ (a : ℕ) (b : Bool) (Q : Encoder → Type 0) where
   after (range f z ∷ xs) ws m p q = after-check (ranged b f z) xs ws (λ e. after xs ws m p q) (λ h. q _ h)
 
 -- ---- where each part begins
-next-holding : (a : ℕ) (b : Bool) (ws : List ℕ) → length ws < 12 → nextAddress (holding a b ws) ≡ placed a (length ws)
+next-holding : (a : ℕ) (b : Bool) (ws : List ℕ) → length ws < 12 → nextAddress (holding a b ws) ≡ wordAddress a (length ws)
 unfolding nextAddress
 next-holding a b ws m = let e : length ws % 16 ≡ length ws = omega arith in rw e
 
-pub parts-run : (a : ℕ) (b : Bool) (ps : List Part) (ws : List ℕ) → length ws + countOf (laid ps (placed a (length ws))) < 12
-    → runParts ps (holding a b ws) ≡ run (laid ps (placed a (length ws))) (holding a b ws)
+pub parts-run : (a : ℕ) (b : Bool) (ps : List Part) (ws : List ℕ) → length ws + countOf (laid ps (wordAddress a (length ws))) < 12
+    → runParts ps (holding a b ws) ≡ run (laid ps (wordAddress a (length ws))) (holding a b ws)
 parts-run a b [] ws m = refl
 parts-run a b (p ∷ ps) ws m =
-    let at = placed a (length ws) in
+    let at = wordAddress a (length ws) in
     let xs = p at in
-    let rest = laid ps (placed at (countOf xs)) in
+    let rest = laid ps (wordAddress at (countOf xs)) in
     let n : length ws + (countOf xs + countOf rest) < 12 = rw (count-append xs rest) at m in
     let long : length (ws ++ wordsIn xs) ≡ length ws + countOf xs = length-append ws (wordsIn xs) ∙ ap (λ (k : ℕ). length ws + k) (words-count xs) in
-    let there : placed a (length (ws ++ wordsIn xs)) ≡ placed at (countOf xs) = rw long (sym (placed-placed a (length ws) (countOf xs))) in
+    let there : wordAddress a (length (ws ++ wordsIn xs)) ≡ wordAddress at (countOf xs) = rw long (sym (address-address a (length ws) (countOf xs))) in
     rw (next-holding a b ws (omega arith), run-append xs rest (holding a b ws))
     (after a b (λ e. runParts ps e ≡ run rest e) xs ws (omega arith)
     (rw (← there) (parts-run a b ps (ws ++ wordsIn xs) (rw (there, long) (omega arith))))
@@ -176,6 +176,6 @@ finish-run (range f z ∷ xs) a b ws m = finish-check (ranged b f z) xs a b ws (
 pub view : (ps : List Part) (a : ℕ) (b : Bool) → a < 2 ^ 32 → countOf (laid ps a) < 12
     → finished (runParts ps (holding a b [])) ≡ encodedAs (failure b (laid ps a)) (wordsIn (laid ps a))
 view ps a b h m =
-    let here : placed a 0 ≡ a = omega arith in
-    let n : 0 + countOf (laid ps (placed a 0)) < 12 = rw here (omega arith) in
+    let here : wordAddress a 0 ≡ a = omega arith in
+    let n : 0 + countOf (laid ps (wordAddress a 0)) < 12 = rw here (omega arith) in
     rw (parts-run a b ps [] n, here) (finish-run (laid ps a) a b [] (omega arith))

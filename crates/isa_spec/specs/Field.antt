@@ -13,27 +13,27 @@ use Rattle.isa.specs.declared.Field.{Field}
 use Rattle.isa.specs.declared.Field.the-variants as field
 
 -- the number of a field
-abbrev pub numberOf : Field → ℕ
-numberOf field.ShortBranch = 1
-numberOf field.WordBranch = 2
-numberOf field.PcDisplacement = 3
-numberOf field.PcIndex = 4
-numberOf field.Displacement = 5
-numberOf field.IndexDisplacement = 6
-numberOf field.ShortAddress = 7
-numberOf field.LongAddress = 8
-numberOf (field.Immediate s) = 9
-numberOf field.Count = 10
-numberOf field.TrapVector = 11
-numberOf field.BitNumber = 12
-numberOf field.LinkDisplacement = 13
-numberOf field.Register = 14
-numberOf field.RtdDisplacement = 15
-numberOf field.BreakpointVector = 16
-numberOf field.BaseDisplacement = 17
-numberOf field.OuterDisplacement = 18
-numberOf field.NullDisplacement = 19
-numberOf field.BitField = 20
+abbrev pub fieldNumber : Field → ℕ
+fieldNumber field.ShortBranch = 1
+fieldNumber field.WordBranch = 2
+fieldNumber field.PcDisplacement = 3
+fieldNumber field.PcIndex = 4
+fieldNumber field.Displacement = 5
+fieldNumber field.IndexDisplacement = 6
+fieldNumber field.ShortAddress = 7
+fieldNumber field.LongAddress = 8
+fieldNumber (field.Immediate s) = 9
+fieldNumber field.Count = 10
+fieldNumber field.TrapVector = 11
+fieldNumber field.BitNumber = 12
+fieldNumber field.LinkDisplacement = 13
+fieldNumber field.Register = 14
+fieldNumber field.RtdDisplacement = 15
+fieldNumber field.BreakpointVector = 16
+fieldNumber field.BaseDisplacement = 17
+fieldNumber field.OuterDisplacement = 18
+fieldNumber field.NullDisplacement = 19
+fieldNumber field.BitField = 20
 
 -- from the one value to the other
 abbrev pub between : ℤ → ℤ → Range
@@ -66,7 +66,7 @@ ranges =
 
 -- the pair of a field
 abbrev pub pairOf : Field → Range
-pairOf f = getD ranges (numberOf f - 1) (between (pos 0) (pos 0))
+pairOf f = getD ranges (fieldNumber f - 1) (between (pos 0) (pos 0))
 
 abbrev pub lowest : Field → ℤ
 lowest f = pairOf f .low
@@ -109,4 +109,4 @@ isZero (negsuc n) = false
 
 -- a field holds what lies between its ends; ShortBranch does not hold 0, which marks a word branch
 unfoldable pub holds : Field → ℤ → Bool
-holds f z = leZ (lowest f) z && leZ z (highest f) && (not (eqb (numberOf f) 1) || not (isZero z))
+holds f z = leZ (lowest f) z && leZ z (highest f) && (not (eqb (fieldNumber f) 1) || not (isZero z))

@@ -19,7 +19,7 @@ use Rattle.isa.specs.declared.Field.{Field}
 use Rattle.isa.specs.declared.Field.the-variants as field
 use Rattle.isa.specs.declared.Size.{Size}
 use Rattle.isa.specs.declared.Size.the-variants.{Byte, Word, Long}
-use Rattle.isa_values.specs.Condition.{both}
+use Rattle.base_facts.specs.Tests.{T-and}
 use Rattle.isa.specs.declared.Range.{Range}
 use Rattle.isa_spec.specs.Field.{isZero, between, ranges, narrowed, topOf}
 
@@ -29,8 +29,8 @@ lowFit (p ∷ ps) = ltb (mag (p .low)) (2 ^ 63) && lowFit ps
 
 elem-sfits : (l : List Range) → T (lowFit l) → (i : ℕ) → SFits w64 (getD l i (between (pos 0) (pos 0)) .low)
 elem-sfits [] h i = sfits-lit tt
-elem-sfits (p ∷ ps) h zero = sfits-lit {w = w64} {z = p .low} (both (ltb (mag (p .low)) (2 ^ 63)) (lowFit ps) h .0)
-elem-sfits (p ∷ ps) h (suc i) = elem-sfits ps (both (ltb (mag (p .low)) (2 ^ 63)) (lowFit ps) h .1) i
+elem-sfits (p ∷ ps) h zero = sfits-lit {w = w64} {z = p .low} (T-and (ltb (mag (p .low)) (2 ^ 63)) (lowFit ps) h .0)
+elem-sfits (p ∷ ps) h (suc i) = elem-sfits ps (T-and (ltb (mag (p .low)) (2 ^ 63)) (lowFit ps) h .1) i
 
 pub low-read : (i : ℕ) → toZ w64 (ofZ w64 (getD ranges i (between (pos 0) (pos 0)) .low)) ≡ getD ranges i (between (pos 0) (pos 0)) .low
 unfolding ranges

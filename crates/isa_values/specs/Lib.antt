@@ -1,5 +1,4 @@
 pub mod BitFieldOperation
-pub mod Condition
 pub mod DisplacementSize
 pub mod ExtensionWord
 pub mod Fields

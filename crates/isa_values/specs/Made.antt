@@ -15,13 +15,11 @@ use Rattle.isa.specs.declared.DisplacementSize.the-variants.{Null, Word, Long}
 use Rattle.isa.specs.declared.Indirection.{Indirection}
 use Rattle.isa.specs.declared.Indirection.the-variants.{None, Preindexed, Postindexed}
 use Rattle.isa_spec.specs.Code.{longBit, general, bit}
+use Rattle.base_facts.specs.Tests.{cond-lt}
+use Rattle.isa_facts.specs.Code.{bit-lt, general-lt, long-lt}
 use Rattle.isa_spec.specs.ExtensionWord.{isFull, baseSuppressed, indexSuppressed, baseSize, indirectionOf, outerSizeAs, outerSize}
 use Rattle.isa_values.specs.DisplacementSize.{displacementCode}
 use Rattle.isa_values.specs.ExtensionWord.{indexOperand, indexSize, scaleShift, scaleCode, indexBits, indirectionCode, fullWord}
-
-bit-small : (b : Bool) → bit b < 2
-bit-small true = omega arith
-bit-small false = omega arith
 
 bit-test : (b : Bool) → eqb (bit b) 1 ≡ b
 bit-test true = refl
@@ -37,23 +35,10 @@ kind-small None d = omega arith
 kind-small Preindexed d = omega (arith, size-small d)
 kind-small Postindexed d = omega (arith, size-small d)
 
-general-small : (r : RegisterOperand) → general r < 16
-general-small (Address n) = omega arith
-general-small (Data n) = omega arith
-
-long-small : (s : Size) → longBit s < 2
-long-small size.Byte = omega arith
-long-small size.Word = omega arith
-long-small size.Long = omega arith
-
-pick-small : (t : Bool) (m n k : ℕ) → m < k → n < k → cond t m n < k
-pick-small true m n k h j = h
-pick-small false m n k h j = j
-
 scale-small : (s : ℕ) → scaleCode s < 4
 scale-small s =
-    pick-small (eqb s 2) 1 _ 4 (omega arith)
-    (pick-small (eqb s 4) 2 _ 4 (omega arith) (pick-small (eqb s 8) 3 0 4 (omega arith) (omega arith)))
+    cond-lt (eqb s 2) 1 _ 4 (omega arith)
+    (cond-lt (eqb s 4) 2 _ 4 (omega arith) (cond-lt (eqb s 8) 3 0 4 (omega arith) (omega arith)))
 
 -- the fields of a full word
 record Fields (w g l k b i d t : ℕ) : Type 0 where
@@ -149,7 +134,7 @@ module _ (x : IndexRegister) (s : ℕ) (bs is : Bool) (bd : DisplacementSize) (i
   made : Fields (fullWord x s bs is bd i od) (general (x .register)) (longBit (x .size)) (scaleCode s) (bit bs) (bit is) (displacementCode bd) (indirectionCode i od)
   made =
       fields (general (x .register)) (longBit (x .size)) (scaleCode s) (bit bs) (bit is) (displacementCode bd) (indirectionCode i od)
-      (general-small (x .register)) (long-small (x .size)) (scale-small s) (bit-small bs) (bit-small is) (size-small bd) (kind-small i od)
+      (general-lt (x .register)) (long-lt (x .size)) (scale-small s) (bit-lt bs) (bit-lt is) (size-small bd) (kind-small i od)
 
   pub made-operand : indexOperand (fullWord x s bs is bd i od) ≡ lowered (x .register)
   made-operand = operand-read (x .register) (fullWord x s bs is bd i od) (made .address) (made .number)

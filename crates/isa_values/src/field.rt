@@ -1,7 +1,7 @@
 // The fields that hold a number.
 ghost use mathlib.Core.Path.{_≡_};
 ghost use Prim.Native.Nat.{_<_};
-ghost use Rattle.isa_spec.specs.Field.{numberOf, lowest, highest, topOf, holds};
+ghost use Rattle.isa_spec.specs.Field.{fieldNumber, lowest, highest, topOf, holds};
 use isa::Field;
 use isa::Range;
 use isa::Size;
@@ -71,7 +71,7 @@ const RANGES: [Range; 20] = [
 
 // The number of a field, 1 to 20.
 pub fn number(field: Field) -> u8
-    ensures { λ r. ⌜ (r ≡ numberOf field) × (0 < r) × (r < 21) ⌝ }
+    ensures { λ r. ⌜ (r ≡ fieldNumber field) × (0 < r) × (r < 21) ⌝ }
 {
     match field {
         Field::ShortBranch => 1,

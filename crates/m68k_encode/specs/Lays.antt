@@ -70,7 +70,7 @@ use Rattle.encode_spec.specs.Control.{branchParts, bccParts, dbccParts, sccPart
 use Rattle.encode_spec.specs.System.{statusParts, conditionCodeParts, vectorParts, moveuspParts, movecParts, movesParts, casParts, cas2Parts, rawParts, noOperandParts}
 use Rattle.encode_spec.specs.Instruction.{partsOf, registerParts, transferParts, pairParts, wordParts, unsizedRegisterParts, unsizedOneParts, unsizedPairParts, oneParts, branchesParts, linksParts, packsParts}
 use Rattle.isa_spec.specs.ExtensionWord.{isFull, baseSize, outerSize}
-use Rattle.encode_spec.specs.Item.{Item, Part, Verdict, noEncoding, dataVerdict, operation, word, check, range, fixed, countOf, laid, placed, failure}
+use Rattle.encode_spec.specs.Item.{Item, Part, Verdict, noEncoding, dataVerdict, operation, word, check, range, fixed, countOf, laid, wordAddress, failure}
 use Rattle.encode_spec.specs.Ea.{immediateWords, displacementItems, fullItems, scaledItems, baseDisplacement, eaItems, effective, single, withData, withAddress, fromData, eaField, isRegister, isImmediate, registerIn, immediateIn, memoryAlterable, dataModes}
 use Rattle.encode_facts.specs.Items.{count-append}
 
@@ -161,9 +161,9 @@ pub then : (j k m n : ℕ) (p : Part) (ps : List Part)
     → Lays m n ps → Lays (j + m) (k + n) (p ∷ ps)
 then j k m n p ps l u s h =
     record {
-      least = λ a. let r = placed a (countOf (p a)) in rw (count-append (p a) (laid ps r)) (omega (arith, l a, h .least r));
-      most = λ a. let r = placed a (countOf (p a)) in rw (count-append (p a) (laid ps r)) (omega (arith, u a, h .most r));
-      alike = λ a b. alike-append (p a) (p b) _ _ (s a b) (h .alike (placed a (countOf (p a))) (placed b (countOf (p b))));
+      least = λ a. let r = wordAddress a (countOf (p a)) in rw (count-append (p a) (laid ps r)) (omega (arith, l a, h .least r));
+      most = λ a. let r = wordAddress a (countOf (p a)) in rw (count-append (p a) (laid ps r)) (omega (arith, u a, h .most r));
+      alike = λ a b. alike-append (p a) (p b) _ _ (s a b) (h .alike (wordAddress a (countOf (p a))) (wordAddress b (countOf (p b))));
     }
 
 pub fixed-then : (m n : ℕ) (xs : List Item) (ps : List Part) → Lays m n ps → Lays (countOf xs + m) (countOf xs + n) (fixed xs ∷ ps)
@@ -198,13 +198,13 @@ displacement-alike displacement.Null z y f = tt
 displacement-alike displacement.Word z y f = tt
 displacement-alike displacement.Long z y f = tt
 
-pick-most : (b : Bool) (xs ys : List Item) (n : ℕ) → countOf xs ≤ n → countOf ys ≤ n → countOf (cond b xs ys) ≤ n
-pick-most true xs ys n p q = p
-pick-most false xs ys n p q = q
+cond-most : (b : Bool) (xs ys : List Item) (n : ℕ) → countOf xs ≤ n → countOf ys ≤ n → countOf (cond b xs ys) ≤ n
+cond-most true xs ys n p q = p
+cond-most false xs ys n p q = q
 
-pick-alike : (b : Bool) (xs ys us vs : List Item) → Alike xs us → Alike ys vs → Alike (cond b xs ys) (cond b us vs)
-pick-alike true xs ys us vs p q = p
-pick-alike false xs ys us vs p q = q
+cond-alike : (b : Bool) (xs ys us vs : List Item) → Alike xs us → Alike ys vs → Alike (cond b xs ys) (cond b us vs)
+cond-alike true xs ys us vs p q = p
+cond-alike false xs ys us vs p q = q
 
 pub ea-most : (o : Operand) (s : Size) (a : ℕ) → countOf (eaItems o s a) ≤ 5
 ea-most (Immediate v) s a = immediate-most v s
@@ -217,7 +217,7 @@ ea-most (IndirectIndex base z x) s a = lit≤ tt
 ea-most (PcDisplacement t) s a = lit≤ tt
 ea-most (PcIndex t x) s a = lit≤ tt
 ea-most (Extended base w z outer) s a =
-    pick-most (isFull w) (fullItems w (baseDisplacement base w z a) outer) (scaledItems base w (baseDisplacement base w z a)) 5
+    cond-most (isFull w) (fullItems w (baseDisplacement base w z a) outer) (scaledItems base w (baseDisplacement base w z a)) 5
     (full-most w (baseDisplacement base w z a) outer) (lit≤ tt)
 ea-most (Absolute v width.Word) s a = lit≤ tt
 ea-most (Absolute v width.Long) s a = lit≤ tt
@@ -233,7 +233,7 @@ ea-alike (IndirectIndex base z x) s a b = (refl, (refl, (refl, tt)))
 ea-alike (PcDisplacement t) s a b = tt
 ea-alike (PcIndex t x) s a b = (refl, (refl, tt))
 ea-alike (Extended base w z outer) s a b =
-    pick-alike (isFull w) _ _ _ _
+    cond-alike (isFull w) _ _ _ _
     (alike-append (displacementItems (baseSize w) (baseDisplacement base w z a) _) (displacementItems (baseSize w) (baseDisplacement base w z b) _) _ _
     (displacement-alike (baseSize w) _ _ _) (displacement-alike (outerSize w) _ _ _))
     tt
@@ -385,15 +385,15 @@ logical-lays line o d s =
     either 1 11 (isRegister d) (withData line (registerIn d) (sizeCode s) o s dataModes 57) (fromData line memoryAlterable 58 o d s)
     (upTo 1 6 tt tt (data-lays line (registerIn d) (sizeCode s) o s dataModes 57)) (upTo 1 6 tt tt (from-lays line memoryAlterable 58 o d s))
 
-counter-pick : (b c : Bool) (u v : Verdict) (f : Field) (z : ℤ) → countOf (cond b (check u ∷ []) (cond c (range f z ∷ []) (check v ∷ []))) ≡ 0
-counter-pick true c u v f z = refl
-counter-pick false true u v f z = refl
-counter-pick false false u v f z = refl
+counter-cond : (b c : Bool) (u v : Verdict) (f : Field) (z : ℤ) → countOf (cond b (check u ∷ []) (cond c (range f z ∷ []) (check v ∷ []))) ≡ 0
+counter-cond true c u v f z = refl
+counter-cond false true u v f z = refl
+counter-cond false false u v f z = refl
 
 shift-register-lays : (op : ShiftOperation) (o : Operand) (r : RegisterOperand) (d : ShiftDirection) (s : Size) → Lays 1 11 (shiftRegisterParts op o r d s)
 unfolding shiftRegisterParts
 shift-register-lays op o r d s =
-    let e : countOf (countItems o) ≡ 0 = counter-pick (isRegister o) (isImmediate o) (dataVerdict (registerIn o)) (noEncoding 63) field.Count (pos (immediateIn o)) in
+    let e : countOf (countItems o) ≡ 0 = counter-cond (isRegister o) (isImmediate o) (dataVerdict (registerIn o)) (noEncoding 63) field.Count (pos (immediateIn o)) in
     wider 1 11 (countOf (countItems o) + 1 + 0) (countOf (countItems o) + 1 + 0) _ (omega arith) (omega arith) (fixed-then 0 0 _ _ none)
 
 shift-memory-lays : (op : ShiftOperation) (o x : Operand) (d : ShiftDirection) (s : Size) → Lays 1 11 (shiftMemoryParts op o x d s)

@@ -13,20 +13,20 @@ use Rattle.isa.specs.declared.BranchOperation.the-variants.{BRA, BSR}
 use Rattle.isa.specs.declared.Condition.{Condition}
 use Rattle.isa.specs.declared.Instruction.{Instruction}
 use Rattle.isa.specs.declared.Instruction.the-variants.{Branch, Bcc}
-use Rattle.encode_spec.specs.Item.{fine, noEncoding, unless, placed}
+use Rattle.encode_spec.specs.Item.{fine, noEncoding, unless, wordAddress}
 use Rattle.isa_spec.specs.Code.{conditionCode}
 use Rattle.encode_spec.specs.Ea.{distance}
 use Rattle.encode_spec.specs.Control.{branchParts, bccParts}
 use Rattle.encode_spec.specs.Instruction.{branchesParts}
 use Rattle.encode_spec.specs.Encode.{wordsOf, refusalOf}
-use Rattle.isa_values.specs.Condition.{of-code, code-of}
+use Rattle.isa_facts.specs.Condition.{of-code, condition-lt}
 use Rattle.isa_spec.specs.Condition.{conditionOf}
 use Rattle.read_spec.specs.declared.Reading.the-variants as reading
 use Rattle.read_spec.specs.Number.{reach}
 use Rattle.read_spec.specs.Plain.{plain}
 use Rattle.read_spec.specs.Read.{readOf}
 use Rattle.read_operand_laws.specs.Facts.{reach-distance}
-use Rattle.encode_facts.specs.Items.{placed-lt, fine-both, unless-reason}
+use Rattle.encode_facts.specs.Items.{address-lt, fine-both, unless-reason}
 use Rattle.base_facts.specs.Tests.{leb-is}
 use Rattle.read_spec.specs.Accepted.{InstructionInTypes, Accepted, MinusOne, always, where-true, Accepts, minus-one, not-left-out}
 use Rattle.read_laws.specs.ReaderLaws.{complete, one, short-exactly}
@@ -39,15 +39,15 @@ abbrev codeOf : BranchOperation → ℕ
 codeOf BRA = 0
 codeOf BSR = 1
 
-branch-word : (a t : ℕ) (op : BranchOperation) → distance t (placed a 1) ≡ negsuc 0 → wordsOf (Branch op t Short) a ≡ wordFor (codeOf op) ∷ []
+branch-word : (a t : ℕ) (op : BranchOperation) → distance t (wordAddress a 1) ≡ negsuc 0 → wordsOf (Branch op t Short) a ≡ wordFor (codeOf op) ∷ []
 unfolding branchesParts branchParts
 branch-word a t BRA e = rw e
 branch-word a t BSR e = rw e
 
-bcc-word : (a t : ℕ) (c : Condition) → distance t (placed a 1) ≡ negsuc 0 → wordsOf (Bcc t c Short) a ≡ wordFor (conditionCode c) ∷ []
+bcc-word : (a t : ℕ) (c : Condition) → distance t (wordAddress a 1) ≡ negsuc 0 → wordsOf (Bcc t c Short) a ≡ wordFor (conditionCode c) ∷ []
 unfolding bccParts branchParts
 bcc-word a t c e =
-    let p : placed (placed a 0) 1 ≡ placed a 1 = omega arith in
+    let p : wordAddress (wordAddress a 0) 1 ≡ wordAddress a 1 = omega arith in
     rw (p, e)
 
 -- the long branch of the same condition begins with the same word
@@ -86,18 +86,15 @@ apart a i j e m h w =
     absurd (omega arith)
 
 -- two of them at an address have the same target
-same-target : (a t u : ℕ) → t < 2 ^ 32 → u < 2 ^ 32 → distance t (placed a 1) ≡ negsuc 0 → distance u (placed a 1) ≡ negsuc 0 → t ≡ u
+same-target : (a t u : ℕ) → t < 2 ^ 32 → u < 2 ^ 32 → distance t (wordAddress a 1) ≡ negsuc 0 → distance u (wordAddress a 1) ≡ negsuc 0 → t ≡ u
 same-target a t u ht hu e f =
-    sym (reach-distance t (placed a 1) ht (placed-lt a 1)) ∙ ap (λ (z : ℤ). reach (placed a 1) z) (e ∙ sym f) ∙ reach-distance u (placed a 1) hu (placed-lt a 1)
+    sym (reach-distance t (wordAddress a 1) ht (address-lt a 1)) ∙ ap (λ (z : ℤ). reach (wordAddress a 1) z) (e ∙ sym f) ∙ reach-distance u (wordAddress a 1) hu (address-lt a 1)
 
 head-is : (v w : ℕ) → v ∷ [] ≡ w ∷ [] → v ≡ w
 head-is v w e = cc
 
 same-code : (c d : ℕ) → c < 16 → d < 16 → wordFor c ≡ wordFor d → c ≡ d
 same-code c d hc hd e = omega (arith, e)
-
-code-lt : (c : Condition) → conditionCode c < 16
-code-lt c = omega (arith, ap conditionCode (of-code c), code-of (conditionCode c))
 
 both : (a : ℕ) (i j : Instruction) → InstructionInTypes i → InstructionInTypes j → refusalOf true i a ≡ fine → refusalOf true j a ≡ fine
     → MinusOne a i → MinusOne a j → wordsOf i a ≡ wordsOf j a → i ≡ j
@@ -106,15 +103,15 @@ both a i j s t e f (always BRA x h) (always BSR y g) w = absurd (omega (arith, h
 both a i j s t e f (always BSR x h) (always BRA y g) w = absurd (omega (arith, head-is (wordFor 1) (wordFor 0) (sym (branch-word a x BSR h) ∙ w ∙ branch-word a y BRA g)))
 both a i j s t e f (always BSR x h) (always BSR y g) w = ap (λ (n : ℕ). Branch BSR n Short) (same-target a x y s t h g)
 both a i j s t e f (always BRA x h) (where-true y d g) w =
-    absurd (omega (arith, same-code 0 (conditionCode d) (omega arith) (code-lt d) (head-is (wordFor 0) (wordFor (conditionCode d)) (sym (branch-word a x BRA h) ∙ w ∙ bcc-word a y d g)), leb-is 2 (conditionCode d) (bcc-fine a y d f)))
+    absurd (omega (arith, same-code 0 (conditionCode d) (omega arith) (condition-lt d) (head-is (wordFor 0) (wordFor (conditionCode d)) (sym (branch-word a x BRA h) ∙ w ∙ bcc-word a y d g)), leb-is 2 (conditionCode d) (bcc-fine a y d f)))
 both a i j s t e f (always BSR x h) (where-true y d g) w =
-    absurd (omega (arith, same-code 1 (conditionCode d) (omega arith) (code-lt d) (head-is (wordFor 1) (wordFor (conditionCode d)) (sym (branch-word a x BSR h) ∙ w ∙ bcc-word a y d g)), leb-is 2 (conditionCode d) (bcc-fine a y d f)))
+    absurd (omega (arith, same-code 1 (conditionCode d) (omega arith) (condition-lt d) (head-is (wordFor 1) (wordFor (conditionCode d)) (sym (branch-word a x BSR h) ∙ w ∙ bcc-word a y d g)), leb-is 2 (conditionCode d) (bcc-fine a y d f)))
 both a i j s t e f (where-true x c h) (always BRA y g) w =
-    absurd (omega (arith, same-code (conditionCode c) 0 (code-lt c) (omega arith) (head-is (wordFor (conditionCode c)) (wordFor 0) (sym (bcc-word a x c h) ∙ w ∙ branch-word a y BRA g)), leb-is 2 (conditionCode c) (bcc-fine a x c e)))
+    absurd (omega (arith, same-code (conditionCode c) 0 (condition-lt c) (omega arith) (head-is (wordFor (conditionCode c)) (wordFor 0) (sym (bcc-word a x c h) ∙ w ∙ branch-word a y BRA g)), leb-is 2 (conditionCode c) (bcc-fine a x c e)))
 both a i j s t e f (where-true x c h) (always BSR y g) w =
-    absurd (omega (arith, same-code (conditionCode c) 1 (code-lt c) (omega arith) (head-is (wordFor (conditionCode c)) (wordFor 1) (sym (bcc-word a x c h) ∙ w ∙ branch-word a y BSR g)), leb-is 2 (conditionCode c) (bcc-fine a x c e)))
+    absurd (omega (arith, same-code (conditionCode c) 1 (condition-lt c) (omega arith) (head-is (wordFor (conditionCode c)) (wordFor 1) (sym (bcc-word a x c h) ∙ w ∙ branch-word a y BSR g)), leb-is 2 (conditionCode c) (bcc-fine a x c e)))
 both a i j s t e f (where-true x c h) (where-true y d g) w =
-    let k = same-code (conditionCode c) (conditionCode d) (code-lt c) (code-lt d) (head-is (wordFor (conditionCode c)) (wordFor (conditionCode d)) (sym (bcc-word a x c h) ∙ w ∙ bcc-word a y d g)) in
+    let k = same-code (conditionCode c) (conditionCode d) (condition-lt c) (condition-lt d) (head-is (wordFor (conditionCode c)) (wordFor (conditionCode d)) (sym (bcc-word a x c h) ∙ w ∙ bcc-word a y d g)) in
     let q : c ≡ d = sym (of-code c) ∙ ap conditionOf k ∙ of-code d in
     ap (λ (n : ℕ). Bcc n c Short) (same-target a x y s t h g) ∙ ap (λ (x : Condition). Bcc y x Short) q
 

@@ -1,5 +1,5 @@
 -- A line by the numbers of its shape and its operation. Assumes nothing.
-use Prim.Native.Nat.{ℕ, zero, suc, _/_, _%_, _≤_, _<_}
+use Prim.Native.Nat.{ℕ, _/_, _%_, _<_}
 use mathlib.Core.Path.{_≡_, refl, sym, ap, _∙_}
 use mathlib.Core.Bool.{Bool, true, false, _&&_, cond}
 use mathlib.Core.List.{List, [], _∷_, map}
@@ -24,12 +24,8 @@ use Rattle.numeric_spec.specs.declared.Built.{Built}
 use Rattle.numeric_spec.specs.declared.Built.the-variants.{Instruction, NotInForm}
 use Rattle.numeric_build.specs.Row.{walk, nothing, rows, unpacked}
 use Rattle.numeric_build.specs.Build.{buildOf, entries, lineOf, shapeAtPlace, shapeAt}
+use Rattle.base_facts.specs.Lists.{inside}
 use Rattle.base_facts.specs.Tests.{below}
-
-getD-any : {A : Type 0} (xs : List A) (n : ℕ) (d e : A) → n < length xs → getD xs n d ≡ getD xs n e
-getD-any [] n d e h = absurd (omega arith)
-getD-any (x ∷ xs) zero d e h = refl
-getD-any (x ∷ xs) (suc n) d e h = getD-any xs n d e (omega arith)
 
 -- the tests, computed
 same-shapes : shapes ≡ map (λ e. shapeOf (e % 64) (e / 64)) entries
@@ -46,7 +42,7 @@ row-is n o h =
     let d = intoRegister (registerOperation o) in
     sym (List·getD-map rowOf (byNumber o) n d)
     ∙ ap (λ (rs : List (List ℕ)). getD rs n (rowOf d)) (same-rows o)
-    ∙ getD-any (map unpacked rows) n (rowOf d) (unpacked 0) h
+    ∙ inside (map unpacked rows) n (rowOf d) (unpacked 0) h
     ∙ List·getD-map unpacked rows n 0
 
 shape-below : (v : ℕ) → v < 99 → getD entries v 0 % 64 < 37

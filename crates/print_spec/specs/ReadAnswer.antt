@@ -3,17 +3,16 @@ use mathlib.Core.Bool.{cond, _&&_}
 use mathlib.Core.List.{List, [], _∷_, _++_}
 use Prim.Native.Nat.{ℕ}
 use lib.IntN.{ℤ, pos}
-use lib.ListN.{take}
 use Rattle.base_spec.specs.Written.{decimalOf, signedOf}
 use Rattle.base_spec.specs.Refused.{tab, refusedText, notInForm}
+use Rattle.base_spec.specs.Parts.{fields}
 use Rattle.base_spec.specs.Number.{numberOf}
 use Rattle.base_spec.specs.Numbers.{magnitudeOf}
 use Rattle.numeric_spec.specs.Form.{numbersOf}
 use Rattle.read_spec.specs.declared.Reading.{Reading}
 use Rattle.read_spec.specs.declared.Reading.the-variants.{Read, Short, Nothing}
 use Rattle.read_spec.specs.Read.{readOf, readingNumber}
-use Rattle.print_spec.specs.declared.Run.{Run}
-use Rattle.print_spec.specs.Run.{runOf, isAddress, allWords, wordsIn}
+use Rattle.print_spec.specs.Run.{isAddressField, allWords, fieldWords}
 
 -- each number, and a tab
 abbrev pub numbersText : List ℤ → List ℕ
@@ -33,15 +32,11 @@ readingText (Read i n) = readText (numbersOf i) n
 readingText Short = refusalText (readingNumber Short)
 readingText Nothing = refusalText (readingNumber Nothing)
 
--- for a run that is in the form
-unfoldable pub runText : Run → List ℕ
-runText r = readingText (readOf (take (r .count) (r .words)) (r .address))
+-- for the fields of a line: an address, then words
+abbrev pub answerTo : List (List ℕ) → List ℕ
+answerTo [] = notInForm
+answerTo (f ∷ fs) = cond (isAddressField (numberOf f) && allWords fs) (readingText (readOf (fieldWords fs) (magnitudeOf (numberOf f)))) notInForm
 
 -- for a line
 unfoldable pub readAnswerOf : List ℕ → List ℕ
-readAnswerOf line = let r = runOf line in cond (r .ok) (runText r) notInForm
-
--- the fields of a line: an address, then words
-abbrev pub answerTo : List (List ℕ) → List ℕ
-answerTo [] = notInForm
-answerTo (f ∷ fs) = cond (isAddress (numberOf f) && allWords fs) (readingText (readOf (wordsIn fs) (magnitudeOf (numberOf f)))) notInForm
+readAnswerOf line = answerTo (fields line)

@@ -1,15 +1,11 @@
 -- The run that a line writes: an address in decimal, then words of four hexadecimal digits, parted by tabs.
 use mathlib.Core.Bool.{Bool, true, false, cond, not, _&&_}
-use mathlib.Core.List.{List, [], _∷_, _++_, map}
-use Prim.Native.Nat.{ℕ, _+_, _*_, _-_, _^_, min}
+use mathlib.Core.List.{List, [], _∷_, map}
+use Prim.Native.Nat.{ℕ, _+_, _*_, _-_, _^_}
 use lib.Dec.{leb, ltb, eqb}
-use lib.ListN.{length, take, replicate}
+use lib.ListN.{length}
 use Rattle.base_spec.specs.declared.Number.{Number}
 use Rattle.base_spec.specs.declared.Number.the-variants.{Is, No}
-use Rattle.base_spec.specs.Parts.{fields}
-use Rattle.base_spec.specs.Number.{numberOf}
-use Rattle.base_spec.specs.Numbers.{magnitudeOf}
-use Rattle.print_spec.specs.declared.Run.{Run}
 
 abbrev pub within : ℕ → ℕ → ℕ → Bool
 within low high b = leb low b && leb b high
@@ -28,38 +24,20 @@ hexFrom a [] = a
 hexFrom a (b ∷ bs) = hexFrom (a * 16 + hexValue b) bs
 
 -- a field of four hexadecimal digits, and the word that they write
-abbrev pub isWord : List ℕ → Bool
-isWord f = eqb (length f) 4 && allHex f
+abbrev pub isWordField : List ℕ → Bool
+isWordField f = eqb (length f) 4 && allHex f
 
 abbrev pub wordIn : List ℕ → ℕ
 wordIn f = hexFrom 0 f
 
 abbrev pub allWords : List (List ℕ) → Bool
 allWords [] = true
-allWords (f ∷ fs) = isWord f && allWords fs
+allWords (f ∷ fs) = isWordField f && allWords fs
 
-abbrev pub wordsIn : List (List ℕ) → List ℕ
-wordsIn fs = map wordIn fs
+abbrev pub fieldWords : List (List ℕ) → List ℕ
+fieldWords fs = map wordIn fs
 
 -- a number from 0 to 2^32 - 1
-abbrev pub isAddress : Number → Bool
-isAddress (Is negative n) = not negative && ltb n (2 ^ 32)
-isAddress No = false
-
--- an address and the first 16 of the words ws, in 16 places; the others are 0
-unfoldable pub keptRun : ℕ → List ℕ → Run
-keptRun address ws =
-    record { ok = true; address = address; count = min 16 (length ws); words = take 16 ws ++ replicate (16 - length ws) 0 }
-
--- what is not in the form
-unfoldable pub noRun : Run
-noRun = record { ok = false; address = 0; count = 0; words = replicate 16 0 }
-
--- the run of fields: the first is the address, the others are the words
-abbrev pub runIn : List (List ℕ) → Run
-runIn [] = noRun
-runIn (f ∷ fs) = cond (isAddress (numberOf f) && allWords fs) (keptRun (magnitudeOf (numberOf f)) (wordsIn fs)) noRun
-
--- the run of a line
-unfoldable pub runOf : List ℕ → Run
-runOf line = runIn (fields line)
+abbrev pub isAddressField : Number → Bool
+isAddressField (Is negative n) = not negative && ltb n (2 ^ 32)
+isAddressField No = false

@@ -1,6 +1,6 @@
 -- Laws of what is printed. Assumes nothing.
 use mathlib.Core.Path.{_≡_, refl, sym, ap, _∙_}
-use mathlib.Core.Bool.{Bool, true, false, cond}
+use mathlib.Core.Bool.{true, false}
 use mathlib.Core.List.{List, [], _∷_, _++_, map, append-assoc, append-nil, map-append}
 use Prim.Native.Nat.{ℕ, zero, suc, _+_, _≤_, _<_}
 use native.Mathlib.Omega.{arith}
@@ -9,6 +9,7 @@ use lib.IntN.{ℤ, pos, negsuc, natAbs}
 use lib.ListN.{length, take, getD, List·getD-map}
 use lib.Seq.{take-suc, take-length}
 use Rattle.isa.specs.declared.Instruction.{Instruction}
+use Rattle.base_facts.specs.Tests.{cond-true, cond-false}
 use Rattle.base_spec.specs.Written.{decimalOf, signedOf}
 use Rattle.base_spec.specs.Refused.{tab, notInForm}
 use Rattle.numeric_spec.specs.declared.Numbers.{Numbers}
@@ -17,17 +18,11 @@ use Rattle.numeric_push.specs.Places.{isNegative, numbersFrom}
 use Rattle.base_facts.specs.Lists.{pad, getD-pad}
 use Rattle.numeric_spec.specs.Form.{formOf, numbersOf}
 use Rattle.numeric_facts.specs.Length.{form-length}
-use Rattle.print_spec.specs.declared.Run.{Run}
-use Rattle.print_spec.specs.Run.{runOf}
+use Rattle.read_runs.specs.declared.Run.{Run}
+use Rattle.read_runs.specs.Kept.{runOf, runText, keptAnswerOf}
 use Rattle.read_runs.specs.RunLaws.{run-count, run-places}
-use Rattle.print_spec.specs.ReadAnswer.{numbersText, readText, runText, readAnswerOf}
+use Rattle.print_spec.specs.ReadAnswer.{numbersText, readText}
 use Rattle.read_answers.specs.Put.{numberText, firstNumbers, putText}
-
-cond-true : (t : Bool) (a b : List ℕ) → t ≡ true → cond t a b ≡ a
-cond-true t a b e = rw e
-
-cond-false : (t : Bool) (a b : List ℕ) → t ≡ false → cond t a b ≡ b
-cond-false t a b e = rw e
 
 -- one number more
 pub first-next : (ns : Numbers) (i : ℕ) → firstNumbers ns (i + 1) ≡ firstNumbers ns i ++ numberText (getD (ns .negative) i false) (getD (ns .magnitude) i 0)
@@ -79,12 +74,12 @@ put-text i ns n e =
 
 -- ---- the form
 module _ (line : List ℕ) (r : Run) (e : r ≡ runOf line) where
-  pub answer-yes : r .ok ≡ true → readAnswerOf line ≡ runText r
-  unfolding readAnswerOf
+  pub answer-yes : r .ok ≡ true → keptAnswerOf line ≡ runText r
+  unfolding keptAnswerOf
   answer-yes h = cond-true (runOf line .ok) _ _ (rw (sym e) h) ∙ rw e
 
-  pub answer-no : r .ok ≡ false → readAnswerOf line ≡ notInForm
-  unfolding readAnswerOf
+  pub answer-no : r .ok ≡ false → keptAnswerOf line ≡ notInForm
+  unfolding keptAnswerOf
   answer-no h = cond-false (runOf line .ok) _ _ (rw (sym e) h)
 
   pub run-room : (r .count ≤ 16) × (r .count ≤ length (r .words))

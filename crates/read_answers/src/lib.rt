@@ -5,11 +5,12 @@ ghost use lib.ListN.{length};
 ghost use Rattle.base_spec.specs.Written.{placed};
 ghost use Rattle.base_text.specs.Wrote.{Wrote};
 ghost use Rattle.base_spec.specs.Lines.{Answered};
-ghost use Rattle.print_spec.specs.ReadAnswer.{refusalText, readingText, runText, readAnswerOf};
+ghost use Rattle.print_spec.specs.ReadAnswer.{refusalText, readingText};
+ghost use Rattle.read_runs.specs.Kept.{runText, keptAnswerOf};
 ghost use Rattle.read_answers.specs.Put.{signText, numberText, firstNumbers, putText};
 use base_spec::Step;
 use numeric_spec::Numbers;
-use print_spec::Run;
+use read_runs::Run;
 use read_spec::Reading;
 
 fn put_sign(out: &mut [u8], at: usize, negative: bool) -> usize
@@ -90,7 +91,7 @@ fn put_run(out: &mut [u8], at: usize, run: Run) -> usize
 // The answer to a line, from place `at` on; the next place.
 pub fn answer(line: &[u8], out: &mut [u8], at: usize) -> usize
     requires { ⌜ at + 398 ≤ length (now out) ⌝ }
-    ensures { λ r. ⌜ (r ≡ at + length (readAnswerOf (now (line .entry)))) × (now (out .exit) ≡ placed (now (out .entry)) at (readAnswerOf (now (line .entry)))) × (r ≤ at + 398) ⌝ }
+    ensures { λ r. ⌜ (r ≡ at + length (keptAnswerOf (now (line .entry)))) × (now (out .exit) ≡ placed (now (out .entry)) at (keptAnswerOf (now (line .entry)))) × (r ≤ at + 398) ⌝ }
 {
     let run = read_runs::read_run(line);
     if run.ok {
@@ -102,7 +103,7 @@ pub fn answer(line: &[u8], out: &mut [u8], at: usize) -> usize
 
 // The answers to the lines from a place on, while the buffer has room.
 pub fn answers(text: &[u8], from: usize, out: &mut [u8]) -> Step
-    ensures { λ r. ⌜ Answered readAnswerOf 512 (now (text .entry)) from (now (out .entry)) (now (out .exit)) r ⌝ }
+    ensures { λ r. ⌜ Answered keptAnswerOf 512 (now (text .entry)) from (now (out .entry)) (now (out .exit)) r ⌝ }
 {
     let mut next = from;
     let mut at: usize = 0;

@@ -10,9 +10,10 @@ use Rattle.base_spec.specs.Numbers.{magnitudeOf}
 use Rattle.base_spec.specs.Refused.{notInForm}
 use Rattle.read_spec.specs.Read.{readOf}
 use Rattle.read_laws.specs.Kept.{read-kept}
-use Rattle.print_spec.specs.Run.{isAddress, allWords, wordsIn, keptRun, noRun, runIn, runOf}
+use Rattle.print_spec.specs.Run.{isAddressField, allWords, fieldWords}
+use Rattle.read_runs.specs.Kept.{keptRun, noRun, runIn, runOf, runText, keptAnswerOf}
 use Rattle.read_runs.specs.RunLaws.{kept-words}
-use Rattle.print_spec.specs.ReadAnswer.{readingText, runText, readAnswerOf, answerTo}
+use Rattle.print_spec.specs.ReadAnswer.{readingText, readAnswerOf, answerTo}
 
 kept-address : (a : ℕ) (ws : List ℕ) → readOf (take 16 ws) (keptRun a ws .address) ≡ readOf ws a
 unfolding keptRun
@@ -37,8 +38,8 @@ text-if false a ws = no-text
 
 answer-if : (fs : List (List ℕ)) → cond (runIn fs .ok) (runText (runIn fs)) notInForm ≡ answerTo fs
 answer-if [] = no-text
-answer-if (f ∷ fs) = text-if (isAddress (numberOf f) && allWords fs) (magnitudeOf (numberOf f)) (wordsIn fs)
+answer-if (f ∷ fs) = text-if (isAddressField (numberOf f) && allWords fs) (magnitudeOf (numberOf f)) (fieldWords fs)
 
-pub answer-whole : (line : List ℕ) → readAnswerOf line ≡ answerTo (fields line)
-unfolding readAnswerOf runOf
+pub answer-whole : (line : List ℕ) → keptAnswerOf line ≡ readAnswerOf line
+unfolding keptAnswerOf runOf readAnswerOf
 answer-whole line = answer-if (fields line)

@@ -6,7 +6,6 @@ use mathlib.Core.List.{List, [], _∷_}
 use mathlib.Core.Logic.{inl, inr}
 use native.Mathlib.Omega.{arith}
 use lib.Dec.{T, eqb, ltb, ltb→lt, eqb→eq}
-use lib.ListN.{getD}
 use types.Run.{OneOf, miss}
 use denote.Enum.Declared.{tagOf}
 use borrow.Enum.Known.{lives-at}
@@ -24,7 +23,9 @@ use Rattle.encode_spec.specs.Ea.{modeOf}
 use Rattle.read_spec.proofs.Group.{the-type, enum}
 use Rattle.read_spec.specs.declared.Group.{Group}
 use Rattle.read_spec.specs.declared.Group.the-variants as group
-use Rattle.read_places.specs.Groups.{groups, groupNumber}
+use Rattle.base_facts.specs.Tests.{T-and, allIn}
+use Rattle.read_places.specs.Groups.{groupNumber}
+use Rattle.read_places.specs.GroupLaws.{same-group}
 use Rattle.read_spec.specs.Operation.{sizeAt}
 use Rattle.read_spec.specs.Decoded.{movepDecoded, dynamicBitMovepDecoded, cmpmTo, cmpmDecoded, logicCompareDecoded, decoded}
 use Rattle.read_spec.specs.Tree.{Tree, ret, fail}
@@ -145,9 +146,6 @@ pub compare-takes : (x opmode ea : ℕ) (o d : Operand) → cmpmTakes ea o d ≡
 compare-takes x opmode ea o d h = compare-is x opmode ea o d ∙ ap (λ t. tested t (compareInstruction x opmode ea o d)) h
 
 -- ---- groups by their numbers
-same-group : (s t : Group) → groupNumber s ≡ groupNumber t → s ≡ t
-same-group s t e = sym (numbered s .0) ∙ ap (λ n. getD groups n group.Unused) e ∙ numbered t .0
-
 -- all but Unused, DynamicBitMovep and LogicCompare
 abbrev others : List ℕ
 others =
@@ -159,26 +157,13 @@ others-take s ea o d k =
     rw (ne-eqb (groupNumber s) 0 (λ e. miss others 0 tt (is 0 e)), ne-eqb (groupNumber s) 3 (λ e. miss others 3 tt (is 3 e)), ne-eqb (groupNumber s) 27 (λ e. miss others 27 tt (is 27 e)))
   where
     is : (n : ℕ) → groupNumber s ≡ n → OneOf others n
-    is n e = subst (OneOf others) (numbered s .2 ∙ e) k
+    is n e = subst (OneOf others) (numbered s .1 ∙ e) k
 
--- what holds of each number of a list
-abbrev every : (ℕ → Bool) → List ℕ → Bool
-every p [] = true
-every p (k ∷ ks) = p k && every p ks
-
-and-left : (a b : Bool) → T (a && b) → T a
-and-left true b t = tt
-and-left false b t = t
-
-and-right : (a b : Bool) → T (a && b) → T b
-and-right true b t = t
-and-right false b t = absurd t
-
-each : (p : ℕ → Bool) (ks : List ℕ) (n : ℕ) → T (every p ks) → OneOf ks n → T (p n)
+each : (p : ℕ → Bool) (ks : List ℕ) (n : ℕ) → T (allIn p ks) → OneOf ks n → T (p n)
 each p [] n t h = absurd h
-each p (k ∷ []) n t e = subst (λ (m : ℕ). T (p m)) (sym e) (and-left (p k) true t)
-each p (k ∷ j ∷ ks) n t (inl e) = subst (λ (m : ℕ). T (p m)) (sym e) (and-left (p k) (every p (j ∷ ks)) t)
-each p (k ∷ j ∷ ks) n t (inr h) = each p (j ∷ ks) n (and-right (p k) (every p (j ∷ ks)) t) h
+each p (k ∷ []) n t e = subst (λ (m : ℕ). T (p m)) (sym e) (T-and (p k) true t .0)
+each p (k ∷ j ∷ ks) n t (inl e) = subst (λ (m : ℕ). T (p m)) (sym e) (T-and (p k) (allIn p (j ∷ ks)) t .0)
+each p (k ∷ j ∷ ks) n t (inr h) = each p (j ∷ ks) n (T-and (p k) (allIn p (j ∷ ks)) t .1) h
 
 -- the groups of lines 8 to F, and those of lines 0 to 7 with Unused
 abbrev highTags : List ℕ
@@ -190,14 +175,14 @@ lowTags =
 
 pub beyond : (s : Group) (ea : ℕ) (o d : Operand) → OneOf (0 ∷ highTags) (tagOf the-type s) → takes s ea o d ≡ true → 21 < groupNumber s
 beyond s ea o d (inl e) h = absurd (false≢true (subst (λ (t : Group). takes t ea o d ≡ true) (lives-at enum s 0 e .1) h))
-beyond s ea o d (inr k) h = subst (λ (n : ℕ). 21 < n) (numbered s .2) (ltb→lt 21 (tagOf the-type s) (each (ltb 21) highTags (tagOf the-type s) tt k))
+beyond s ea o d (inr k) h = subst (λ (n : ℕ). 21 < n) (numbered s .1) (ltb→lt 21 (tagOf the-type s) (each (ltb 21) highTags (tagOf the-type s) tt k))
 
 -- of lines 8 to F and none of the others but LineF
 pub last : (s : Group) → OneOf lowTags (tagOf the-type s) → 21 < groupNumber s → s ≡ group.LineF
 last s k l = go (ltb (tagOf the-type s) 22) refl (each (λ n. ltb n 22 || eqb n 34) lowTags (tagOf the-type s) tt k)
   where
     go : (t : Bool) → ltb (tagOf the-type s) 22 ≡ t → T (t || eqb (tagOf the-type s) 34) → s ≡ group.LineF
-    go true e h = absurd (omega (arith, ltb-true (tagOf the-type s) 22 e, numbered s .2, l))
+    go true e h = absurd (omega (arith, ltb-true (tagOf the-type s) 22 e, numbered s .1, l))
     go false e h = lives-at enum s 34 (eqb→eq (tagOf the-type s) 34 h) .1
 
 module _ (a line x opmode ea v : ℕ) (o d : Operand) where

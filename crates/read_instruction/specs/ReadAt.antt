@@ -7,7 +7,7 @@ use native.Mathlib.Numerals.{add-one}
 use lib.ListN.{getD, length, drop, drop-of-length-le}
 use lib.Seq.{drop-cons}
 use Rattle.isa.specs.declared.Instruction.{Instruction}
-use Rattle.encode_spec.specs.Item.{placed}
+use Rattle.encode_spec.specs.Item.{wordAddress}
 use Rattle.base_facts.specs.Tests.{Lt, less, past, lt?}
 use Rattle.read_spec.specs.declared.Group.{Group}
 use Rattle.read_spec.specs.declared.Tail.{Tail}
@@ -53,11 +53,11 @@ module _ {A : Type 0} (f : A → Tree Instruction) (a : ℕ) where
   then-read : (t : Tree A) (ws : List ℕ) (n : ℕ) (r : Reading) → After (runAt t a ws n) r → r ≡ readingOf (run (bind t f) a n (drop n ws))
   then-read (ret y) ws n r h = h (drop n ws)
   then-read fail ws n r h = h
-  then-read (more k) ws n r h = go (lt? n (length ws)) (then-read (k (placed a n) (getD ws n 0)) ws (n + 1) r)
+  then-read (more k) ws n r h = go (lt? n (length ws)) (then-read (k (wordAddress a n) (getD ws n 0)) ws (n + 1) r)
     where
-      go : Lt n (length ws) → (After (runAt (k (placed a n) (getD ws n 0)) a ws (n + 1)) r → r ≡ readingOf (run (bind (k (placed a n) (getD ws n 0)) f) a (n + 1) (drop (n + 1) ws))) → r ≡ readingOf (run (bind (more k) f) a n (drop n ws))
+      go : Lt n (length ws) → (After (runAt (k (wordAddress a n) (getD ws n 0)) a ws (n + 1)) r → r ≡ readingOf (run (bind (k (wordAddress a n) (getD ws n 0)) f) a (n + 1) (drop (n + 1) ws))) → r ≡ readingOf (run (bind (more k) f) a n (drop n ws))
       go (less p e) i =
-          let g : After (runAt (k (placed a n) (getD ws n 0)) a ws (n + 1)) r = rw e at h in
+          let g : After (runAt (k (wordAddress a n) (getD ws n 0)) a ws (n + 1)) r = rw e at h in
           let d : drop n ws ≡ getD ws n 0 ∷ drop (n + 1) ws = rw add-one (drop-cons ws n 0 p) in
           rw d (i g)
       go (past p e) i =

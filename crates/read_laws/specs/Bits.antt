@@ -18,7 +18,7 @@ use Rattle.isa.specs.declared.ConditionCodeOperation.the-variants.{ANDItoCCR, O
 use Rattle.isa.specs.declared.Operand.{Operand}
 use Rattle.isa.specs.declared.Instruction.the-variants.{ImmediateInto, ConditionCode, Status, UnsizedPair, Transfer}
 use Rattle.isa_spec.specs.Field.{topOf, holds}
-use Rattle.encode_spec.specs.Item.{fine, failure, operation, wordsIn, countOf, placed, Item, Part, malformed, unless, word, range, dataRegister, dataVerdict, laid, noEncoding}
+use Rattle.encode_spec.specs.Item.{fine, failure, operation, wordsIn, countOf, wordAddress, Item, Part, malformed, unless, word, range, dataRegister, dataVerdict, laid, noEncoding}
 use Rattle.isa_spec.specs.Code.{sizeCode, registerBits, isByte, longBit, toMemory}
 use Rattle.encode_spec.specs.Ea.{dataAlterable, dataNotImmediate, eaField, typed, immediateWords, immediateItems, dataModes, isTyped, withData, eaItems}
 use Rattle.encode_spec.specs.Arithmetic.{immediateKind, immediateModes, immediateReason, immediateParts}
@@ -30,7 +30,7 @@ use Rattle.read_spec.specs.declared.Tail.{Tail}
 use Rattle.read_spec.specs.Layout.{one, alone}
 use Rattle.read_spec.specs.Layouts.{immediateSpecifier, dynamicBitMovepLayout, layoutOf}
 use Rattle.read_spec.specs.Tree.{ret, Tree, fail}
-use Rattle.read_spec.specs.Decoded.{wordOf, movepDecoded}
+use Rattle.read_spec.specs.Decoded.{wordOf, movepDecoded, statusDecoded}
 use Rattle.read_spec.specs.Map.{groupAt, map}
 use Rattle.read_spec.specs.Operation.{sizeAt, immediateAt, toStatus, conditionCodeAt, statusAt, bitAt, toMemoryAt}
 use Rattle.read_operand_laws.specs.TailStands.{specifierWords, SpecifierStands, TailStands, tailWords}
@@ -70,7 +70,7 @@ immediate-words v Byte h = let e : v % 256 ≡ v = omega arith in rw e
 immediate-words v Word h = let e : v % 65536 ≡ v = omega arith in rw e
 immediate-words v Long h = refl
 
-immediate-at : (a v : ℕ) (s : Size) → placed (placed a 0) (countOf (immediateItems v s) + 1) ≡ behind a (immediateSpecifier s) v
+immediate-at : (a v : ℕ) (s : Size) → wordAddress (wordAddress a 0) (countOf (immediateItems v s) + 1) ≡ behind a (immediateSpecifier s) v
 immediate-at a v Byte = omega arith
 immediate-at a v Word = omega arith
 immediate-at a v Long = omega arith
@@ -90,7 +90,7 @@ immediate-form : (a : ℕ) (op : ImmediateOperation) (v : ℕ) (o : Operand) (s 
 unfolding immediateParts
 immediate-form a op v o s =
     form-as
-    (form-is [] [] (immediateItems v s) (immediateReason op) (placed (placed a 0) (countOf (immediateItems v s) + 1)) refl (immediate-at a v s) refl
+    (form-is [] [] (immediateItems v s) (immediateReason op) (wordAddress (wordAddress a 0) (countOf (immediateItems v s) + 1)) refl (immediate-at a v s) refl
     (λ c. immediate-words v s (immediate-lt v s c)))
     (immediate-lt v s) (lt-immediate v s)
 
@@ -184,17 +184,14 @@ status-fields x opmode ea n =
     let d = and-true (eqb ea 60) (ltb opmode 2) (m .0) in
     (eqb-eq ea 60 (d .0), ltb-is opmode 2 (d .1), m .1)
 
-abbrev toStatusOf : ℕ → ℕ → ℕ → Instruction
-toStatusOf x opmode v = cond (eqb opmode 0) (ConditionCode (conditionCodeAt x) (v % 256)) (Status (statusAt x) (v % 65536))
-
 -- the codes that have forms to CCR and SR
 to-status-encodes : (a x opmode v : ℕ) → x < 8 → opmode < 2 → ltb x 2 || eqb x 5 ≡ true → SpecifierStands (immediateSpecifier (sizeAt opmode)) v
-    → Encodes a (toStatusOf x opmode v) (wordOf 0 x opmode 60 ∷ specifierWords (immediateSpecifier (sizeAt opmode)) v)
+    → Encodes a (statusDecoded x opmode v) (wordOf 0 x opmode 60 ∷ specifierWords (immediateSpecifier (sizeAt opmode)) v)
 to-status-encodes a x opmode v hx ho t =
     let test = equal (conditionCodeCode (conditionCodeAt x)) x ∷ equal (statusCode (statusAt x)) x ∷ no (isStop (statusAt x)) ∷ [] in
     let (c, (d, (n, z))) = says test (rw t at (facts-below 8 (λ x. yes (implies (ltb x 2 || eqb x 5)
     (known (equal (conditionCodeCode (conditionCodeAt x)) x ∷ equal (statusCode (statusAt x)) x ∷ no (isStop (statusAt x)) ∷ []))) ∷ []) refl x hx .0)) in
-    each (λ o. SpecifierStands (immediateSpecifier (sizeAt o)) v → Encodes a (toStatusOf x o v)
+    each (λ o. SpecifierStands (immediateSpecifier (sizeAt o)) v → Encodes a (statusDecoded x o v)
     (wordOf 0 x o 60 ∷ specifierWords (immediateSpecifier (sizeAt o)) v))
     (0 ∷ 1 ∷ []) (
       λ s. let q = eqb-eq (v / 256) 0 (s .1) in let m : v % 256 ≡ v = omega arith in rw m
@@ -210,7 +207,7 @@ immediate-into-sound a line x opmode ea hl hx ho he e f h p i r =
     ∷ equal (cond (eqb x 6) dataNotImmediate dataAlterable) (immediateModes (immediateAt x)) ∷ equal l 0 ∷ []) refl line x opmode e in
     let s = sizeAt opmode in
     let v = f .value in
-    let j = toStatusOf x opmode v in
+    let j = statusDecoded x opmode v in
     let k = ImmediateInto (immediateAt x) v (f .source) s in
     either-encodes a i j k (wordOf line x opmode ea) (toStatus x opmode ea) (alone (immediateSpecifier s))
     (one (immediateSpecifier s) s ea (cond (eqb x 6) dataNotImmediate dataAlterable)) f h r
@@ -241,7 +238,7 @@ unfolding bitParts staticParts
 static-form a k h v d =
     let back : Passing (typed (Immediate v) ∷ staticItems v) → v < 256 = λ c. ltb-is v 256 (sym (bit-number-holds v) ∙ c .1 .0) in
     form-as
-    (form-is (typed (Immediate v) ∷ []) [] (staticItems v) (staticReason k) (placed (placed a 0) 2) (items-are a k h (Immediate v) d) (omega arith) refl
+    (form-is (typed (Immediate v) ∷ []) [] (staticItems v) (staticReason k) (wordAddress (wordAddress a 0) 2) (items-are a k h (Immediate v) d) (omega arith) refl
     (λ c. let l = back c in let z : v % 256 ≡ v = omega arith in rw z))
     back (λ l. (refl, (bit-number-holds v ∙ ltb-true v 256 l, tt)))
 
@@ -256,7 +253,7 @@ dynamic-form : (a k : ℕ) → k < 4 → (r : RegisterOperand) (d : Operand) (v 
     (Passing (typed (Register r) ∷ dataRegister r ∷ []))
 unfolding bitParts dynamicParts withData
 dynamic-form a k h r d v =
-    form-is (typed (Register r) ∷ []) [] (dataRegister r ∷ []) (dynamicReason k) (placed (placed a 0) 1) (items-are a k h (Register r) d) (omega arith)
+    form-is (typed (Register r) ∷ []) [] (dataRegister r ∷ []) (dynamicReason k) (wordAddress (wordAddress a 0) 1) (items-are a k h (Register r) d) (omega arith)
     refl (λ c. refl)
 
 -- MOVEP stands where these have no mode

@@ -5,14 +5,14 @@ use mathlib.Core.Bool.{true, not, _&&_, false, cond}
 use native.Mathlib.Omega.{arith}
 use lib.IntN.{ℤ, pos, negsuc}
 use Rattle.base_spec.specs.Signed.{signed32, bitsOf, difference}
-use Rattle.encode_spec.specs.Item.{placed, noEncoding, wordsIn, laid, range, allow}
+use Rattle.encode_spec.specs.Item.{wordAddress, noEncoding, wordsIn, laid, range, allow}
 use Rattle.encode_spec.specs.Ea.{distance, alterable, dataAlterable, byteOfAddress, eaField, single}
 use Rattle.read_spec.specs.Number.{signed16, reach, signed8}
 use Rattle.read_spec.specs.Decoded.{extended, quickDecoded, wordOf, branchTo, branchDecoded}
 use Rattle.read_operand_laws.specs.Facts.{fits, fits-wider, as-fits32, signed16-low, signed32-low, low-signed32, signed16-fits, distance-reach, reach-distance, count-holds, reach-lt, low-signed16, word-branch-holds, low, low8, short-branch-holds, signed8-fits, low-signed8, signed8-low}
-use Rattle.encode_facts.specs.Items.{placed-placed, placed-lt, unless-reason, true-unless, lt-number}
+use Rattle.encode_facts.specs.Items.{address-address, address-lt, unless-reason, true-unless, lt-number}
 use Rattle.isa.specs.declared.Condition.{Condition}
-use Rattle.isa_values.specs.Condition.{of-code, code-of}
+use Rattle.isa_facts.specs.Condition.{of-code, code-of, condition-lt}
 use Rattle.isa_spec.specs.Condition.{conditionOf}
 use Rattle.isa_spec.specs.Code.{conditionCode, sizeCode, isByte}
 use mathlib.Core.List.{List, _∷_, []}
@@ -119,16 +119,16 @@ within : (v : ℕ) → v < 65536 → v % 65536 ≡ v
 within v h = omega arith
 
 -- a distance of fewer bits, from the word after an operation word
-pub near : (a h : ℕ) (z : ℤ) → h ≤ 2 ^ 31 → fits h z ≡ true → distance (reach (placed a 1) z) (placed a 1) ≡ z
-near a h z l e = distance-reach (placed a 1) z (placed-lt a 1) (as-fits32 z (fits-wider h (2 ^ 31) z l e))
+pub near : (a h : ℕ) (z : ℤ) → h ≤ 2 ^ 31 → fits h z ≡ true → distance (reach (wordAddress a 1) z) (wordAddress a 1) ≡ z
+near a h z l e = distance-reach (wordAddress a 1) z (address-lt a 1) (as-fits32 z (fits-wider h (2 ^ 31) z l e))
 
-pub word-reach : (a v : ℕ) → v < 65536 → distance (reach (placed a 1) (signed16 (v % 65536))) (placed a 1) ≡ signed16 v
+pub word-reach : (a v : ℕ) → v < 65536 → distance (reach (wordAddress a 1) (signed16 (v % 65536))) (wordAddress a 1) ≡ signed16 v
 word-reach a v h = rw (within v h) (near a (2 ^ 15) (signed16 v) (omega arith) (signed16-fits v h))
 
-pub reach-word : (a t : ℕ) → t < 2 ^ 32 → fits (2 ^ 15) (distance t (placed a 1)) ≡ true
-    → reach (placed a 1) (signed16 (bitsOf (distance t (placed a 1)) % 65536 % 65536)) ≡ t
+pub reach-word : (a t : ℕ) → t < 2 ^ 32 → fits (2 ^ 15) (distance t (wordAddress a 1)) ≡ true
+    → reach (wordAddress a 1) (signed16 (bitsOf (distance t (wordAddress a 1)) % 65536 % 65536)) ≡ t
 reach-word a t l h =
-    rw (again (bitsOf (distance t (placed a 1))), signed16-low (distance t (placed a 1)) h) (reach-distance t (placed a 1) l (placed-lt a 1))
+    rw (again (bitsOf (distance t (wordAddress a 1))), signed16-low (distance t (wordAddress a 1)) h) (reach-distance t (wordAddress a 1) l (address-lt a 1))
 
 pub word-extended : (v : ℕ) → v < 65536 → signed32 (extended (v % 65536)) ≡ signed16 v
 word-extended v h =
@@ -138,11 +138,6 @@ pub extended-word : (d : ℕ) → d < 2 ^ 32 → fits (2 ^ 15) (signed32 d) ≡ 
 extended-word d l h = rw (again (bitsOf (signed32 d)), signed16-low (signed32 d) h) (low-signed32 d l)
 
 -- ---- Scc DBcc TRAPcc: the condition in bits 11 to 8
-condition-lt : (c : Condition) → conditionCode c < 16
-condition-lt c =
-    let e : conditionCode c ≡ conditionCode c % 16 = sym (ap conditionCode (of-code c)) ∙ code-of (conditionCode c) in
-    omega (arith, e)
-
 abbrev high : Condition → ℕ
 high c = conditionCode c / 2
 
@@ -172,15 +167,15 @@ scc-reads a o c (n, e, l) =
     (rw (t, u), refl, rw (t, u, condition-back c)))
 
 dbcc-encodes : (a n v : ℕ) (c : Condition) → n < 8 → v < 65536
-    → Encodes a (DBcc (Data n) (reach (placed a 1) (signed16 (v % 65536))) c) (wordOf 5 (high c) (opmodeOf c) (8 + n) ∷ v ∷ [])
+    → Encodes a (DBcc (Data n) (reach (wordAddress a 1) (signed16 (v % 65536))) c) (wordOf 5 (high c) (opmodeOf c) (8 + n) ∷ v ∷ [])
 unfolding dbccParts
 dbcc-encodes a n v c h g =
     let e : n % 8 ≡ n = omega arith in
     let z = signed16 v in
-    let t = reach (placed a 1) (signed16 (v % 65536)) in
+    let t = reach (wordAddress a 1) (signed16 (v % 65536)) in
     let i = DBcc (Data n) t c in (
       (
-        reach-lt (placed a 1) (signed16 (v % 65536)),
+        reach-lt (wordAddress a 1) (signed16 (v % 65536)),
         passed (itemsOf i a) (
           lt-number n h,
           (rw (word-reach a v g) (word-branch-holds z ∙ signed16-fits v g), tt),
@@ -191,9 +186,9 @@ dbcc-encodes a n v c h g =
       rw (word-reach a v g, e, low-signed16 v g),
     )
 
-dbcc-at : (a n t : ℕ) (c : Condition) → n < 8 → t < 2 ^ 32 → fits (2 ^ 15) (distance t (placed a 1)) ≡ true → Reads a (DBcc (Data n) t c)
+dbcc-at : (a n t : ℕ) (c : Condition) → n < 8 → t < 2 ^ 32 → fits (2 ^ 15) (distance t (wordAddress a 1)) ≡ true → Reads a (DBcc (Data n) t c)
 dbcc-at a n t c h l g =
-    let v = bitsOf (distance t (placed a 1)) % 65536 in
+    let v = bitsOf (distance t (wordAddress a 1)) % 65536 in
     let q : (8 + n) / 8 ≡ 1 = omega arith in
     let u : (8 + n) % 8 ≡ n = omega arith in
     let e = reach-word a t l g in
@@ -205,7 +200,7 @@ unfolding dbccParts
 dbcc-reads a r t c h =
     let (d, (g, z)) = checked a (DBcc r t c) h in
     let (n, l, q) = data-is r d in
-    rw q (dbcc-at a n t c l (h .0) (sym (word-branch-holds (distance t (placed a 1))) ∙ g))
+    rw q (dbcc-at a n t c l (h .0) (sym (word-branch-holds (distance t (wordAddress a 1))) ∙ g))
 
 trapcc-encodes : (a : ℕ) (c : Condition) (x : TrapOperand) → TrapInTypes x
     → Encodes a (TRAPcc c x) (wordOf 5 (high c) (opmodeOf c) (56 + trapOpmode x) ∷ wordsIn (trapItems x))
@@ -245,7 +240,7 @@ conditional-sound a line x opmode ea hl hx ho he e f h p i r =
     let q : conditionCode c ≡ k % 16 = code-of k in
     let w : wordOf 5 (high c) (opmodeOf c) 0 ≡ wordOf line x opmode 0 = omega arith in
     let v = f .value in
-    let j = DBcc (Data (ea % 8)) (reach (placed a 1) (signed16 (v % 65536))) c in
+    let j = DBcc (Data (ea % 8)) (reach (wordAddress a 1) (signed16 (v % 65536))) c in
     let t = TRAPcc c (trapAt ea v) in
     let s = Scc (f .source) c in
     let b = leb 58 ea && leb ea 60 in
@@ -281,7 +276,7 @@ byte-lt t p branch.Long = omega arith
 
 words-as : (a c t : ℕ) (s : BranchSize)
     → wordsIn (laid (branchParts c t s) a)
-    ≡ wordOf 6 (c / 2) (4 * (c % 2) + byteOf t (placed a 1) s / 64) (byteOf t (placed a 1) s % 64) ∷ specifierWords (kindOf s) (valueOf t (placed a 1) s)
+    ≡ wordOf 6 (c / 2) (4 * (c % 2) + byteOf t (wordAddress a 1) s / 64) (byteOf t (wordAddress a 1) s % 64) ∷ specifierWords (kindOf s) (valueOf t (wordAddress a 1) s)
 unfolding branchParts
 words-as a c t branch.Short = ap (λ (w : ℕ). w ∷ []) (omega arith)
 words-as a c t branch.Word = refl
@@ -305,35 +300,35 @@ Held branch.Short z = holds field.ShortBranch z ≡ true
 Held branch.Word z = fits (2 ^ 15) z ≡ true
 Held branch.Long z = Unit {0}
 
-held-back : (a c t : ℕ) (s : BranchSize) → Passing (laid (branchParts c t s) a) → Held s (distance t (placed a 1))
+held-back : (a c t : ℕ) (s : BranchSize) → Passing (laid (branchParts c t s) a) → Held s (distance t (wordAddress a 1))
 unfolding branchParts
 held-back a c t branch.Short p = p .0
-held-back a c t branch.Word p = sym (word-branch-holds (distance t (placed a 1))) ∙ p .0
+held-back a c t branch.Word p = sym (word-branch-holds (distance t (wordAddress a 1))) ∙ p .0
 held-back a c t branch.Long p = tt
 
-held-there : (a c t : ℕ) (s : BranchSize) → Held s (distance t (placed a 1)) → Passing (laid (branchParts c t s) a)
+held-there : (a c t : ℕ) (s : BranchSize) → Held s (distance t (wordAddress a 1)) → Passing (laid (branchParts c t s) a)
 unfolding branchParts
 held-there a c t branch.Short h = (h, tt)
-held-there a c t branch.Word h = (word-branch-holds (distance t (placed a 1)) ∙ h, tt)
+held-there a c t branch.Word h = (word-branch-holds (distance t (wordAddress a 1)) ∙ h, tt)
 held-there a c t branch.Long h = tt
 
-layout-as : (a t : ℕ) (s : BranchSize) → t < 2 ^ 32 → Held s (distance t (placed a 1)) → branchLeftOut t s a ≡ false
-    → (branchLayout (byteOf t (placed a 1) s) ≡ alone (kindOf s)) × SpecifierStands (kindOf s) (valueOf t (placed a 1) s)
-    × ((k : ℕ) → branchDecoded a k (byteOf t (placed a 1) s) (valueOf t (placed a 1) s) ≡ branchTo k t s)
+layout-as : (a t : ℕ) (s : BranchSize) → t < 2 ^ 32 → Held s (distance t (wordAddress a 1)) → branchLeftOut t s a ≡ false
+    → (branchLayout (byteOf t (wordAddress a 1) s) ≡ alone (kindOf s)) × SpecifierStands (kindOf s) (valueOf t (wordAddress a 1) s)
+    × ((k : ℕ) → branchDecoded a k (byteOf t (wordAddress a 1) s) (valueOf t (wordAddress a 1) s) ≡ branchTo k t s)
 layout-as a t branch.Short l h m =
-    let b = short-byte (distance t (placed a 1)) h m in
-    let r : reach (placed a 1) (signed8 (bitsOf (distance t (placed a 1)) % 256)) ≡ t = ap (reach (placed a 1)) (signed8-low (distance t (placed a 1)) (b .0))
-    ∙ reach-distance t (placed a 1) l (placed-lt a 1) in
+    let b = short-byte (distance t (wordAddress a 1)) h m in
+    let r : reach (wordAddress a 1) (signed8 (bitsOf (distance t (wordAddress a 1)) % 256)) ≡ t = ap (reach (wordAddress a 1)) (signed8-low (distance t (wordAddress a 1)) (b .0))
+    ∙ reach-distance t (wordAddress a 1) l (address-lt a 1) in
     rw (b .1, b .2, r) (refl, refl, λ k. refl)
 layout-as a t branch.Word l h m = (refl, (omega arith, refl), λ k. rw (reach-word a t l h))
-layout-as a t branch.Long l h m = (refl, (omega arith, refl, refl), λ k. rw (reach-distance t (placed a 1) l (placed-lt a 1)))
+layout-as a t branch.Long l h m = (refl, (omega arith, refl, refl), λ k. rw (reach-distance t (wordAddress a 1) l (address-lt a 1)))
 
 -- a part before a branch that lays down no words does not move it
-from-there : (a c t : ℕ) (s : BranchSize) → laid (branchParts c t s) (placed a 0) ≡ laid (branchParts c t s) a
+from-there : (a c t : ℕ) (s : BranchSize) → laid (branchParts c t s) (wordAddress a 0) ≡ laid (branchParts c t s) a
 unfolding branchParts
-from-there a c t branch.Short = rw (placed-placed a 0 1)
-from-there a c t branch.Word = rw (placed-placed a 0 1)
-from-there a c t branch.Long = rw (placed-placed a 0 1)
+from-there a c t branch.Short = rw (address-address a 0 1)
+from-there a c t branch.Word = rw (address-address a 0 1)
+from-there a c t branch.Long = rw (address-address a 0 1)
 
 bcc-to : (k t : ℕ) (s : BranchSize) → 2 ≤ k → branchTo k t s ≡ Bcc t (conditionOf k) s
 bcc-to k t s h = rw (eqb-not k 0 (omega arith), eqb-not k 1 (omega arith))
@@ -341,7 +336,7 @@ bcc-to k t s h = rw (eqb-not k 0 (omega arith), eqb-not k 1 (omega arith))
 abbrev branchWords : ℕ → ℕ → BranchSize → ℕ → List ℕ
 branchWords k t s a = wordsIn (laid (branchParts k t s) a)
 
-bcc-encodes : (a t : ℕ) (c : Condition) (s : BranchSize) → 2 ≤ conditionCode c → t < 2 ^ 32 → Held s (distance t (placed a 1)) → branchLeftOut t s a ≡ false
+bcc-encodes : (a t : ℕ) (c : Condition) (s : BranchSize) → 2 ≤ conditionCode c → t < 2 ^ 32 → Held s (distance t (wordAddress a 1)) → branchLeftOut t s a ≡ false
     → Encodes a (Bcc t c s) (branchWords (conditionCode c) t s a)
 unfolding bccParts
 bcc-encodes a t c s g l h m =
@@ -349,9 +344,9 @@ bcc-encodes a t c s g l h m =
     let e = passed (itemsOf (Bcc t c s) a) (true-unless (leb 2 k) (noEncoding 36) (leb-true 2 k g), rw (from-there a k t s) (held-there a k t s h)) in
     ((l, e, m), refl, ap wordsIn (from-there a k t s))
 
-branch-encodes : (a k t : ℕ) (s : BranchSize) → k < 16 → t < 2 ^ 32 → Held s (distance t (placed a 1)) → branchLeftOut t s a ≡ false
-    → Encodes a (branchTo k t s) (wordOf 6 (k / 2) (4 * (k % 2) + byteOf t (placed a 1) s / 64) (byteOf t (placed a 1) s % 64) ∷ specifierWords (kindOf s)
-    (valueOf t (placed a 1) s))
+branch-encodes : (a k t : ℕ) (s : BranchSize) → k < 16 → t < 2 ^ 32 → Held s (distance t (wordAddress a 1)) → branchLeftOut t s a ≡ false
+    → Encodes a (branchTo k t s) (wordOf 6 (k / 2) (4 * (k % 2) + byteOf t (wordAddress a 1) s / 64) (byteOf t (wordAddress a 1) s % 64) ∷ specifierWords (kindOf s)
+    (valueOf t (wordAddress a 1) s))
 unfolding branchesParts
 branch-encodes a k t s hk l h m = rw (← words-as a k t s) (go (eq? k 0) (eq? k 1))
   where
@@ -371,11 +366,11 @@ branch-at : (x opmode : ℕ) → x < 8 → opmode < 8 → At group.Branch 6 x op
 unfolding groupAt map
 branch-at x opmode hx ho = at-line group.Branch 6 (λ o. true) refl x opmode hx ho refl
 
-reads-as : (a c t : ℕ) (s : BranchSize) → c < 16 → t < 2 ^ 32 → Held s (distance t (placed a 1)) → branchLeftOut t s a ≡ false → Reads a (branchTo c t s)
+reads-as : (a c t : ℕ) (s : BranchSize) → c < 16 → t < 2 ^ 32 → Held s (distance t (wordAddress a 1)) → branchLeftOut t s a ≡ false → Reads a (branchTo c t s)
 reads-as a c t s hc l h m =
-    let b = byteOf t (placed a 1) s in
-    let v = valueOf t (placed a 1) s in
-    let n : b < 256 = byte-lt t (placed a 1) s in
+    let b = byteOf t (wordAddress a 1) s in
+    let v = valueOf t (wordAddress a 1) s in
+    let n : b < 256 = byte-lt t (wordAddress a 1) s in
     let y = layout-as a t s l h m in
     let k : c / 2 * 2 + (4 * (c % 2) + b / 64) / 4 ≡ c = omega arith in
     let q : (4 * (c % 2) + b / 64) % 4 * 64 + b % 64 ≡ b = omega arith in
@@ -400,17 +395,17 @@ bcc-reads a t c s h =
 -- what a byte and a value name
 abbrev Jump : ℕ → ℕ → ℕ → ℕ → BranchSize → Type 0
 Jump a byte v t s =
-    (t < 2 ^ 32) × Held s (distance t (placed a 1)) × (branchLeftOut t s a ≡ false) × (byteOf t (placed a 1) s ≡ byte) × (valueOf t (placed a 1) s ≡ v)
+    (t < 2 ^ 32) × Held s (distance t (wordAddress a 1)) × (branchLeftOut t s a ≡ false) × (byteOf t (wordAddress a 1) s ≡ byte) × (valueOf t (wordAddress a 1) s ≡ v)
 
-jump-word : (a v : ℕ) → v < 65536 → Jump a 0 v (reach (placed a 1) (signed16 (v % 65536))) branch.Word
+jump-word : (a v : ℕ) → v < 65536 → Jump a 0 v (reach (wordAddress a 1) (signed16 (v % 65536))) branch.Word
 jump-word a v h =
-    rw (word-reach a v h) (reach-lt (placed a 1) (signed16 (v % 65536)), signed16-fits v h, refl, refl, low-signed16 v h)
+    rw (word-reach a v h) (reach-lt (wordAddress a 1) (signed16 (v % 65536)), signed16-fits v h, refl, refl, low-signed16 v h)
 
-jump-long : (a v : ℕ) → v < 2 ^ 32 → Jump a 255 v (reach (placed a 1) (signed32 v)) branch.Long
+jump-long : (a v : ℕ) → v < 2 ^ 32 → Jump a 255 v (reach (wordAddress a 1) (signed32 v)) branch.Long
 jump-long a v h =
     let z = bitsOf (signed32 v) in
-    let d : difference (reach (placed a 1) (signed32 v)) (placed a 1) ≡ z % 2 ^ 32 = omega arith in
-    (reach-lt (placed a 1) (signed32 v), tt, refl, refl, d ∙ low-signed32 v h)
+    let d : difference (reach (wordAddress a 1) (signed32 v)) (wordAddress a 1) ≡ z % 2 ^ 32 = omega arith in
+    (reach-lt (wordAddress a 1) (signed32 v), tt, refl, refl, d ∙ low-signed32 v h)
 
 short-holds : (byte : ℕ) → byte < 256 → (byte ≡ 0 → ⊥) → (byte ≡ 255 → ⊥)
     → (holds field.ShortBranch (signed8 byte) ≡ true) × (isMinusOne (signed8 byte) ≡ false)
@@ -422,11 +417,11 @@ short-holds byte h n m =
     go (Lt.less l e) = rw (e, eqb-not byte 0 n) (refl, refl)
     go (Lt.past l e) = rw e (refl, eqb-not (255 - byte) 0 (λ q. m (omega (arith, q, h))))
 
-jump-short : (a byte : ℕ) → byte < 256 → (byte ≡ 0 → ⊥) → (byte ≡ 255 → ⊥) → Jump a byte 0 (reach (placed a 1) (signed8 byte)) branch.Short
+jump-short : (a byte : ℕ) → byte < 256 → (byte ≡ 0 → ⊥) → (byte ≡ 255 → ⊥) → Jump a byte 0 (reach (wordAddress a 1) (signed8 byte)) branch.Short
 jump-short a byte h n m =
     let d = near a (2 ^ 7) (signed8 byte) (omega arith) (signed8-fits byte h) in
     let s = short-holds byte h n m in
-    rw d (reach-lt (placed a 1) (signed8 byte), s .0, s .1, low-signed8 byte h, refl)
+    rw d (reach-lt (wordAddress a 1) (signed8 byte), s .0, s .1, low-signed8 byte h, refl)
 
 jump-encodes : (a k byte t : ℕ) (s : BranchSize) (f : Tail) → k < 16 → TailStands a (alone (kindOf s)) f → Jump a byte (f .value) t s
     → Encodes a (branchTo k t s) (wordOf 6 (k / 2) (4 * (k % 2) + byte / 64) (byte % 64) ∷ tailWords a (alone (kindOf s)) f)

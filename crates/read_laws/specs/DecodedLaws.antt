@@ -139,7 +139,7 @@ decoding group.Bounds = always (λ a line x opmode ea v o d. tt)
 decoding group.CAS = always (λ a line x opmode ea v o d. tt)
 decoding group.MOVE = always (λ a line x opmode ea v o d. tt)
 decoding group.OneOperand = always (λ a line x opmode ea v o d. tt)
-decoding group.UnsizedOne = always (λ a line x opmode ea v o d. tt)
+decoding group.UnsizedOneIllegal = always (λ a line x opmode ea v o d. tt)
 decoding group.NbcdLink = always (λ a line x opmode ea v o d. tt)
 decoding group.PeaSwapBkpt = always (λ a line x opmode ea v o d. tt)
 decoding group.MovemExt = always (λ a line x opmode ea v o d. tt)
@@ -166,9 +166,9 @@ decoding group.BitField = always (λ a line x opmode ea v o d. tt)
 decoding group.LineA = always (λ a line x opmode ea v o d. tt)
 decoding group.LineF = always (λ a line x opmode ea v o d. tt)
 
-flat-pick : (b : Bool) (t u : Tree Instruction) → Flat t → Flat u → Flat (cond b t u)
-flat-pick true t u p q = p
-flat-pick false t u p q = q
+flat-cond : (b : Bool) (t u : Tree Instruction) → Flat t → Flat u → Flat (cond b t u)
+flat-cond true t u p q = p
+flat-cond false t u p q = q
 
 pub decoded-flat : (a : ℕ) (s : Group) (line x opmode ea v : ℕ) (o d : Operand) → Flat (decoded a s line x opmode ea v o d)
 decoded-flat a s line x opmode ea v o d = go (decoding s)
@@ -176,12 +176,12 @@ decoded-flat a s line x opmode ea v o d = go (decoding s)
     go : Decoding s → Flat (decoded a s line x opmode ea v o d)
     go (always l) = live-flat (decoded a s line x opmode ea v o d) (l a line x opmode ea v o d)
     go (unused e) = rw e tt
-    go (dynamic e) = rw e (flat-pick (eqb (ea / 8) 1) (movepDecoded x opmode o) _ (movep-flat x opmode o (kind? o)) tt)
-    go (compare e) = rw e (flat-pick (eqb (ea / 8) 1) (cmpmDecoded (sizeAt (opmode - 4)) o d) _ (cmpm-flat (sizeAt (opmode - 4)) o d (kind? o)) tt)
+    go (dynamic e) = rw e (flat-cond (eqb (ea / 8) 1) (movepDecoded x opmode o) _ (movep-flat x opmode o (kind? o)) tt)
+    go (compare e) = rw e (flat-cond (eqb (ea / 8) 1) (cmpmDecoded (sizeAt (opmode - 4)) o d) _ (cmpm-flat (sizeAt (opmode - 4)) o d (kind? o)) tt)
 
-live-pick : (b : Bool) (t u : Tree Instruction) → (b ≡ true → Live t) → (b ≡ false → Live u) → Live (cond b t u)
-live-pick true t u p q = p refl
-live-pick false t u p q = q refl
+live-cond : (b : Bool) (t u : Tree Instruction) → (b ≡ true → Live t) → (b ≡ false → Live u) → Live (cond b t u)
+live-cond true t u p q = p refl
+live-cond false t u p q = q refl
 
 pub decoded-live : (a : ℕ) (s : Group) (line x opmode ea : ℕ) (f : Tail) → x < 8 → TailStands a (layoutOf s line x opmode ea) f
     → Live (decoded a s line x opmode ea (f .value) (f .source) (f .destination))
@@ -195,11 +195,11 @@ decoded-live a s line x opmode ea f hx h = go (decoding s)
     go (unused e) = absurd (false≢true (rw e at h .0))
     go (dynamic e) =
         let g : TailStands a (layoutOf group.DynamicBitMovep line x opmode ea) f = rw e at h in
-        rw e (live-pick (eqb (ea / 8) 1) (movepDecoded x opmode (f .source)) _
+        rw e (live-cond (eqb (ea / 8) 1) (movepDecoded x opmode (f .source)) _
         (λ b. movep-live x opmode (f .source) (mode-is Word _ _ (f .source) (rw b at g .2) ∙ mode 40 (ea % 8) refl (omega arith))
         (kind? (f .source))) (λ b. tt))
     go (compare e) =
         let g : TailStands a (layoutOf group.LogicCompare line x opmode ea) f = rw e at h in
-        rw e (live-pick (eqb (ea / 8) 1) (cmpmDecoded (sizeAt (opmode - 4)) (f .source) (f .destination)) _
+        rw e (live-cond (eqb (ea / 8) 1) (cmpmDecoded (sizeAt (opmode - 4)) (f .source) (f .destination)) _
         (λ b. cmpm-live _ (f .source) (f .destination) (mode-is Byte _ _ (f .source) (rw b at g .2) ∙ mode 24 (ea % 8) refl (omega arith))
         (mode-is Byte _ _ (f .destination) (rw b at g .3) ∙ mode 24 x refl hx)) (λ b. tt))

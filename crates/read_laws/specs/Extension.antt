@@ -28,7 +28,7 @@ use Rattle.encode_facts.specs.Items.{unless-reason, number-lt, lt-number, true-
 use Rattle.base_facts.specs.Tests.{Eq, eq?, and-true, eqb-eq, below, true-and, true-not-false, eqb-is}
 use Rattle.read_laws.specs.Statements.{Reads, Sound, Encodes}
 use Rattle.read_spec.specs.Accepted.{Accepted}
-use Rattle.read_operand_laws.specs.IndexLaws.{general-lt}
+use Rattle.isa_facts.specs.Code.{general-lt}
 use Rattle.read_laws.specs.Operands.{general-of, of-general, generalWord, word-fields, fields-word}
 use Rattle.isa.specs.declared.TargetDirection.{TargetDirection}
 use Rattle.isa.specs.declared.TargetDirection.the-variants.{ToMemory, FromMemory}

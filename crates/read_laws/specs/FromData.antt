@@ -27,7 +27,7 @@ use Rattle.read_spec.specs.Tree.{Tree, ret}
 use Rattle.read_spec.specs.Plain.{plainOperand, plain}
 use Rattle.read_spec.specs.Map.{groupAt, map}
 use Rattle.read_spec.specs.Operand.{permitted, modeAt}
-use Rattle.read_spec.specs.Operation.{sizeAt, pairAt, eitherAt, extendAt}
+use Rattle.read_spec.specs.Operation.{sizeAt, pairAt, eitherAt, extendAt, decimalAt, packAt}
 use Rattle.read_spec.specs.Layout.{one, alone, two}
 use Rattle.read_spec.specs.Layouts.{layoutOf, isExchange}
 use Rattle.read_spec.specs.Decoded.{dataOperand, decoded, wordOf, exchanged, cmpmDecoded}
@@ -40,7 +40,6 @@ use Rattle.encode_spec.specs.Encode.{refusalOf, itemsOf, wordsOf}
 use Rattle.read_spec.specs.LeftOut.{leftOut}
 use Rattle.isa.specs.declared.PairOperation.the-variants.{ADDX, SUBX, OR, AND, ADD, SUB, CMPM, EOR}
 use Rattle.read_spec.specs.declared.Group.the-variants as group
-use Rattle.isa.specs.declared.UnsizedPairOperation.{UnsizedPairOperation}
 use Rattle.isa.specs.declared.UnsizedPairOperation.the-variants.{ABCD, SBCD}
 use Rattle.isa.specs.declared.PackOperation.{PackOperation}
 use Rattle.isa.specs.declared.PackOperation.the-variants.{PACK, UNPK}
@@ -268,9 +267,6 @@ decimal-at line t x = at-among group.LogicDecimal decimalLines (4 ∷ []) refl l
 decimal-slot : (line : ℕ) → among decimalLines line ≡ true → Slot group.LogicDecimal (pairAt line) line memoryAlterable Byte
 decimal-slot line t = (decimal-at line t, (λ x ea m. rw (memory-ea ea m)), (λ a x ea v o d m. rw (memory-ea ea m)))
 
-abbrev decimalAt : ℕ → UnsizedPairOperation
-decimalAt line = cond (eqb line 8) SBCD ABCD
-
 decimal-joins : (a : ℕ) (line : ℕ) → among decimalLines line ≡ true → Joins a (UnsizedPair (decimalAt line)) 62 line 4 []
 unfolding unsizedPairParts extendedParts
 decimal-joins a =
@@ -307,9 +303,6 @@ pack-at opmode t x = at-among group.LogicPack (8 ∷ []) opmodes refl 8 opmode x
 
 pack-slot : (s : Size) → among opmodes (4 + sizeCode s) ≡ true → Slot group.LogicPack OR 8 memoryAlterable s
 pack-slot s t = (pack-at (4 + sizeCode s) t, (λ x ea m. rw (upper-size s, memory-ea ea m)), (λ a x ea v o d m. rw (upper-size s, memory-ea ea m)))
-
-abbrev packAt : ℕ → PackOperation
-packAt opmode = cond (eqb opmode 5) PACK UNPK
 
 pack-joins : (a adjustment : ℕ) → adjustment < 65536 → (opmode : ℕ) → among opmodes opmode ≡ true
     → Joins a (λ o d. Pack (packAt opmode) o d adjustment) 48 8 opmode (adjustment ∷ [])

@@ -12,7 +12,7 @@ use Rattle.isa.specs.declared.RegisterOperand.the-variants.{Address, Data}
 use Rattle.isa.specs.declared.Operand.{Operand}
 use Rattle.isa.specs.declared.RegisterOperation.the-variants.{ADDA, SUBA, CMPA, CMP}
 use Rattle.isa.specs.declared.Instruction.the-variants.{IntoRegister, WordIntoData, Pair}
-use Rattle.encode_spec.specs.Item.{fine, noEncoding, placed, dataVerdict, allow, addressRegister, dataRegister}
+use Rattle.encode_spec.specs.Item.{fine, noEncoding, wordAddress, dataVerdict, allow, addressRegister, dataRegister}
 use Rattle.isa_spec.specs.Code.{isByte, longBit, registerBits, sizeCode}
 use Rattle.encode_spec.specs.Ea.{everyMode, dataModes, withData, byteOfAddress, typed, withAddress}
 use Rattle.encode_spec.specs.Arithmetic.{intoAddressParts, signedBit, intoDataParts, arithmeticParts}
@@ -21,7 +21,7 @@ use Rattle.read_spec.specs.declared.Group.the-variants as group
 use Rattle.read_spec.specs.declared.Specifier.the-variants as specifier
 use Rattle.read_spec.specs.Plain.{plain, plainOperand}
 use Rattle.read_spec.specs.Map.{groupAt, map}
-use Rattle.read_spec.specs.Operation.{addressAt, signAt, sizeAt, pairAt}
+use Rattle.read_spec.specs.Operation.{addressAt, signAt, sizeAt, pairAt, longAt, wordAt}
 use Rattle.read_spec.specs.Decoded.{wordOf}
 use Rattle.encode_facts.specs.Items.{lt-number, unless-reason, true-unless}
 use Rattle.isa.specs.declared.Sign.{Sign}
@@ -62,10 +62,7 @@ address-form a o r s v =
       (form-behind [] pre (addressRegister r ∷ []) 40 refl refl refl, (form-behind [] pre (addressRegister r ∷ []) 44 refl refl refl, tt)),
     )
 
-abbrev sizeOf : ℕ → Size
-sizeOf opmode = cond (eqb opmode 7) Long Word
-
-address-code : (s : Size) → not (isByte s) ≡ true → (among (3 ∷ 7 ∷ []) (addressOpmode s) ≡ true) × (sizeOf (addressOpmode s) ≡ s)
+address-code : (s : Size) → not (isByte s) ≡ true → (among (3 ∷ 7 ∷ []) (addressOpmode s) ≡ true) × (longAt (addressOpmode s) ≡ s)
 address-code Byte z = absurd (false≢true z)
 address-code Word z = (refl, refl)
 address-code Long z = (refl, refl)
@@ -91,9 +88,9 @@ cmpa-reads = into-address-reads 11 refl
 pub into-address-sound : Sound group.IntoAddress
 unfolding map
 into-address-sound a line x opmode ea hl hx ho he e f h p i r =
-    let (t, (k, (z, u))) = in-group group.IntoAddress (λ l x o. yes (among addressLines l) ∷ equal (addressOpmode (sizeOf o)) o ∷ yes (not (isByte (sizeOf o)))
+    let (t, (k, (z, u))) = in-group group.IntoAddress (λ l x o. yes (among addressLines l) ∷ equal (addressOpmode (longAt o)) o ∷ yes (not (isByte (longAt o)))
     ∷ []) refl line x opmode e in
-    let s = sizeOf opmode in
+    let s = longAt opmode in
     decoded-as a i (IntoRegister (addressAt line) (f .source) (Address x) s) _ _ _ r (omega (arith, k))
     (laying-encodes ea f (address-form a (f .source) (Address x) s (f .value) line t) (true-unless (not (isByte s)) (noEncoding 61) z, (lt-number x hx, tt))
     h p (λ n. n) refl (λ e. rw e))
@@ -112,12 +109,9 @@ unfolding wordParts withData
 word-form a DIVx o r sign v = form-bare (dataRegister r ∷ []) 29 refl refl
 word-form a MULx o r sign v = form-bare (dataRegister r ∷ []) 28 refl refl
 
-abbrev operationAt : ℕ → WordOperation
-operationAt line = cond (eqb line 8) DIVx MULx
-
 abbrev WordCode : WordOperation → Sign → Type 0
 WordCode op sign =
-    (operationAt (lineOf op) ≡ op) × (signAt (signOpmode sign / 4) ≡ sign) × ((n : ℕ) → n < 8 → At group.WordIntoData (lineOf op) n (signOpmode sign))
+    (wordAt (lineOf op) ≡ op) × (signAt (signOpmode sign / 4) ≡ sign) × ((n : ℕ) → n < 8 → At group.WordIntoData (lineOf op) n (signOpmode sign))
 
 word-code : (op : WordOperation) (sign : Sign) → WordCode op sign
 unfolding groupAt map
@@ -135,10 +129,10 @@ word-into-data-reads a op o r sign (n, e, l) =
 pub word-into-data-sound : Sound group.WordIntoData
 unfolding map
 word-into-data-sound a line x opmode ea hl hx ho he e f h p i r =
-    let (w, u) = in-group group.WordIntoData (λ l x o. equal (wordOf (lineOf (operationAt l)) x (signOpmode (signAt (o / 4))) 0) (wordOf l x o 0) ∷ []) refl
+    let (w, u) = in-group group.WordIntoData (λ l x o. equal (wordOf (lineOf (wordAt l)) x (signOpmode (signAt (o / 4))) 0) (wordOf l x o 0) ∷ []) refl
     line x opmode e in
-    decoded-as a i (WordIntoData (operationAt line) (f .source) (Data x) (signAt (opmode / 4))) _ _ _ r (omega (arith, w))
-    (laying-encodes ea f (word-form a (operationAt line) (f .source) (Data x) (signAt (opmode / 4)) (f .value)) (lt-number x hx, tt)
+    decoded-as a i (WordIntoData (wordAt line) (f .source) (Data x) (signAt (opmode / 4))) _ _ _ r (omega (arith, w))
+    (laying-encodes ea f (word-form a (wordAt line) (f .source) (Data x) (signAt (opmode / 4)) (f .value)) (lt-number x hx, tt)
     h p (λ n. n) refl (λ e. rw e))
 
 -- ---- <ea>,Dn of OR, SUB, CMP, AND and ADD, by their line
@@ -171,8 +165,8 @@ module _ (a : ℕ) (o : Operand) (r : RegisterOperand) (s : Size) (v : ℕ) wher
       let second = typed (Register r) in
       let byte = allow (not (byteOfAddress s o)) 7 in
       let xs = dataRegister r ∷ [] in
-      let near = placed (placed a 0) 1 in
-      let far = placed (placed (placed a 0) 0) 1 in
+      let near = wordAddress (wordAddress a 0) 1 in
+      let far = wordAddress (wordAddress (wordAddress a 0) 0) 1 in
       let logical : (line : ℕ) → itemsOf (intoOf line o r s) a ≡ formItems [] (second ∷ []) line (registerBits r) (sizeCode s) xs o s dataModes 57 near
       → IntoForm a o r s v dataModes line = λ line q.
       form-as (form-is [] (second ∷ []) xs 57 near q (omega arith) refl (λ c. refl)) (λ c. c .1 .0) (λ d. (refl, (d, tt))) in

@@ -15,7 +15,7 @@ use Rattle.isa.specs.declared.Operand.{Operand}
 use Rattle.isa.specs.declared.Operand.the-variants.{Immediate, Register, Indirect, PostIndirect, PreIndirect, IndirectDisplacement, IndirectIndex, PcDisplacement, PcIndex, Extended, Absolute}
 use Rattle.isa.specs.declared.Instruction.{Instruction}
 use Rattle.isa_spec.specs.Field.{holds}
-use Rattle.encode_spec.specs.Item.{Item, word, check, range, fine, malformed, noEncoding, unless, ranged, operation, failure, wordsIn, placed}
+use Rattle.encode_spec.specs.Item.{Item, word, check, range, fine, malformed, noEncoding, unless, ranged, operation, failure, wordsIn, wordAddress}
 use Rattle.isa_spec.specs.Code.{isByte}
 use Rattle.encode_spec.specs.Ea.{isTyped, typed, permits, byteOfAddress, modeOf, eaField, eaItems, effective}
 use Rattle.encode_spec.specs.Encode.{itemsOf, wordsOf, refusalOf}
@@ -115,7 +115,7 @@ tailOf v o = record { value = v; source = o; destination = missing }
 
 -- where the operand stands
 abbrev pub behind : ℕ → Specifier → ℕ → ℕ
-behind a k v = placed a (1 + length (specifierWords k v))
+behind a k v = wordAddress a (1 + length (specifierWords k v))
 
 -- ---- one operand behind a specifier
 abbrev One : ℕ → Specifier → Size → ℕ → ℕ → Tail → Type 0
@@ -182,9 +182,9 @@ module _ {a : ℕ} {i : Instruction} {line x opmode : ℕ} {k : Specifier} {s : 
       }
 
   -- with one extension word, and what is checked before it
-  pub form-word : (xs : List Item) (reason : ℕ) → itemsOf i a ≡ formItems [] [] line x opmode xs o s modes reason (placed (placed a 0) 2)
+  pub form-word : (xs : List Item) (reason : ℕ) → itemsOf i a ≡ formItems [] [] line x opmode xs o s modes reason (wordAddress (wordAddress a 0) 2)
       → specifierWords k v ≡ v ∷ [] → wordsIn xs ≡ v ∷ [] → Laying a i line x opmode k s modes v o (Passing xs)
-  form-word xs reason q e w = form-is [] [] xs reason (placed (placed a 0) 2) q (rw e (omega arith)) refl (λ c. w ∙ sym e)
+  form-word xs reason q e w = form-is [] [] xs reason (wordAddress (wordAddress a 0) 2) q (rw e (omega arith)) refl (λ c. w ∙ sym e)
 
   -- by other words for what is checked
   pub form-as : {C D : Type 0} → Laying a i line x opmode k s modes v o C → (C → D) → (D → C) → Laying a i line x opmode k s modes v o D
@@ -206,14 +206,14 @@ module _ {a : ℕ} {i : Instruction} {line x opmode : ℕ} {k : Specifier} {s : 
 
 -- without a specifier, and with checks before the operation word
 module _ {a : ℕ} {i : Instruction} {line x opmode : ℕ} {s : Size} {modes v : ℕ} {o : Operand} where
-  pub form-bare : (xs : List Item) (reason : ℕ) → itemsOf i a ≡ formItems [] [] line x opmode xs o s modes reason (placed (placed a 0) 1)
+  pub form-bare : (xs : List Item) (reason : ℕ) → itemsOf i a ≡ formItems [] [] line x opmode xs o s modes reason (wordAddress (wordAddress a 0) 1)
       → wordsIn xs ≡ [] → Laying a i line x opmode specifier.Nothing s modes v o (Passing xs)
-  form-bare xs reason q w = form-is [] [] xs reason (placed (placed a 0) 1) q (omega arith) refl (λ c. w)
+  form-bare xs reason q w = form-is [] [] xs reason (wordAddress (wordAddress a 0) 1) q (omega arith) refl (λ c. w)
 
   pub form-behind : (front pre xs : List Item) (reason : ℕ)
-      → itemsOf i a ≡ formItems front pre line x opmode xs o s modes reason (placed (placed (placed a 0) 0) 1)
+      → itemsOf i a ≡ formItems front pre line x opmode xs o s modes reason (wordAddress (wordAddress (wordAddress a 0) 0) 1)
       → wordsIn front ++ wordsIn pre ≡ [] → wordsIn xs ≡ [] → Laying a i line x opmode specifier.Nothing s modes v o (Passing (front ++ (pre ++ xs)))
-  form-behind front pre xs reason q e w = form-is front pre xs reason (placed (placed (placed a 0) 0) 1) q (omega arith) e (λ c. w)
+  form-behind front pre xs reason q e w = form-is front pre xs reason (wordAddress (wordAddress (wordAddress a 0) 0) 1) q (omega arith) e (λ c. w)
 
 -- what encodes is what is formed, and its word is the operation word
 pub decoded-as : (a : ℕ) (i j : Instruction) (w u : ℕ) (ws : List ℕ) → _≡_ {A = Tree Instruction} (ret j) (ret i) → u ≡ w → Encodes a j (u ∷ ws)

@@ -1,61 +1,20 @@
 -- The operation code map: what a group says of the fields of its words, by induction over the rows; which group fields are in; and the sizes.
 use Prim.Native.Nat.{ℕ, suc, _+_, _-_, _<_, _≤_}
-use mathlib.Core.Path.{_≡_, refl, ap, sym, _∙_}
+use mathlib.Core.Path.{_≡_, refl, ap}
 use mathlib.Core.Bool.{Bool, true, false, _&&_, cond}
 use mathlib.Core.List.{List, [], _∷_}
 use native.Mathlib.Omega.{arith}
 use lib.Dec.{eqb, ltb, leb}
-use lib.ListN.{getD}
 use Rattle.isa.specs.declared.Size.{Size}
 use Rattle.isa.specs.declared.Size.the-variants.{Byte, Word, Long}
 use Rattle.isa_spec.specs.Code.{sizeCode}
 use Rattle.read_spec.specs.declared.Group.{Group}
-use Rattle.read_spec.specs.declared.Group.the-variants as group
 use Rattle.read_spec.specs.Map.{Row, row, map, inRow, groupIn, firstOf, groupAt}
-use Rattle.read_places.specs.Groups.{groupNumber, groups}
+use Rattle.read_places.specs.Groups.{groupNumber}
+use Rattle.read_places.specs.GroupLaws.{same-group}
 use Rattle.read_spec.specs.Operation.{sizeAt}
-use Rattle.base_facts.specs.Tests.{all, below, and-true, eqb-eq, eqb-is, ltb-is, leb-is}
-use Rattle.read_laws.specs.Tests.{Fact, known, Known, says, implies, among, allIn, each-test}
-
-pub number-group : (s : Group) → getD groups (groupNumber s) group.Unused ≡ s
-number-group group.Unused = refl
-number-group group.ImmediateInto = refl
-number-group group.StaticBit = refl
-number-group group.DynamicBitMovep = refl
-number-group group.MOVES = refl
-number-group group.Bounds = refl
-number-group group.CAS = refl
-number-group group.MOVE = refl
-number-group group.OneOperand = refl
-number-group group.UnsizedOne = refl
-number-group group.NbcdLink = refl
-number-group group.PeaSwapBkpt = refl
-number-group group.MovemExt = refl
-number-group group.MULL = refl
-number-group group.DIVL = refl
-number-group group.System = refl
-number-group group.LeaExtb = refl
-number-group group.CHK = refl
-number-group group.Quick = refl
-number-group group.Conditional = refl
-number-group group.Branch = refl
-number-group group.MOVEQ = refl
-number-group group.IntoData = refl
-number-group group.ArithmeticExtended = refl
-number-group group.LogicDecimal = refl
-number-group group.LogicPack = refl
-number-group group.LogicExchange = refl
-number-group group.LogicCompare = refl
-number-group group.WordIntoData = refl
-number-group group.IntoAddress = refl
-number-group group.ShiftRegister = refl
-number-group group.ShiftMemory = refl
-number-group group.BitField = refl
-number-group group.LineA = refl
-number-group group.LineF = refl
-
-same-group : (s t : Group) → groupNumber s ≡ groupNumber t → s ≡ t
-same-group s t e = sym (number-group s) ∙ ap (λ (n : ℕ). getD groups n group.Unused) e ∙ number-group t
+use Rattle.base_facts.specs.Tests.{all, allIn, below, and-true, eqb-eq, eqb-is, ltb-is, leb-is}
+use Rattle.read_laws.specs.Tests.{Fact, known, Known, says, implies, among, each-test}
 
 -- the upper ten bits of an operation word of a group
 abbrev pub At : Group → ℕ → ℕ → ℕ → Type 0

@@ -145,16 +145,16 @@ unsized-one-reads a NBCD o (n, e, l) =
     laying-reads (unsized-form a NBCD o 0) (at-code group.NbcdLink 4 4 0 refl) e n (λ c m.
     let t = modes-say dataAlterable (λ ea. no (eqb (ea / 8) 1) ∷ []) refl (eaField o) m .0 in
     (rw t, refl, rw t))
-unsized-one-reads a JSR o (n, e, l) = laying-reads (unsized-form a JSR o 0) (at-code group.UnsizedOne 4 7 2 refl) e n (λ c m. (refl, refl, refl))
-unsized-one-reads a JMP o (n, e, l) = laying-reads (unsized-form a JMP o 0) (at-code group.UnsizedOne 4 7 3 refl) e n (λ c m. (refl, refl, refl))
+unsized-one-reads a JSR o (n, e, l) = laying-reads (unsized-form a JSR o 0) (at-code group.UnsizedOneIllegal 4 7 2 refl) e n (λ c m. (refl, refl, refl))
+unsized-one-reads a JMP o (n, e, l) = laying-reads (unsized-form a JMP o 0) (at-code group.UnsizedOneIllegal 4 7 3 refl) e n (λ c m. (refl, refl, refl))
 unsized-one-reads a TAS o (n, e, l) =
-    laying-reads (unsized-form a TAS o 0) (at-code group.UnsizedOne 4 5 3 refl) e n (λ c m.
+    laying-reads (unsized-form a TAS o 0) (at-code group.UnsizedOneIllegal 4 5 3 refl) e n (λ c m.
     let t = modes-say dataAlterable (λ ea. no (eqb ea 60) ∷ []) refl (eaField o) m .0 in
     (rw t, refl, rw t))
-unsized-one-reads a MOVEtoCCR o (n, e, l) = laying-reads (unsized-form a MOVEtoCCR o 0) (at-code group.UnsizedOne 4 2 3 refl) e n (λ c m. (refl, refl, refl))
-unsized-one-reads a MOVEfromCCR o (n, e, l) = laying-reads (unsized-form a MOVEfromCCR o 0) (at-code group.UnsizedOne 4 1 3 refl) e n (λ c m. (refl, refl, refl))
-unsized-one-reads a MOVEtoSR o (n, e, l) = laying-reads (unsized-form a MOVEtoSR o 0) (at-code group.UnsizedOne 4 3 3 refl) e n (λ c m. (refl, refl, refl))
-unsized-one-reads a MOVEfromSR o (n, e, l) = laying-reads (unsized-form a MOVEfromSR o 0) (at-code group.UnsizedOne 4 0 3 refl) e n (λ c m. (refl, refl, refl))
+unsized-one-reads a MOVEtoCCR o (n, e, l) = laying-reads (unsized-form a MOVEtoCCR o 0) (at-code group.UnsizedOneIllegal 4 2 3 refl) e n (λ c m. (refl, refl, refl))
+unsized-one-reads a MOVEfromCCR o (n, e, l) = laying-reads (unsized-form a MOVEfromCCR o 0) (at-code group.UnsizedOneIllegal 4 1 3 refl) e n (λ c m. (refl, refl, refl))
+unsized-one-reads a MOVEtoSR o (n, e, l) = laying-reads (unsized-form a MOVEtoSR o 0) (at-code group.UnsizedOneIllegal 4 3 3 refl) e n (λ c m. (refl, refl, refl))
+unsized-one-reads a MOVEfromSR o (n, e, l) = laying-reads (unsized-form a MOVEfromSR o 0) (at-code group.UnsizedOneIllegal 4 0 3 refl) e n (λ c m. (refl, refl, refl))
 
 unsized-encodes : (a ea : ℕ) (op : UnsizedOneOperation) (f : Tail) → TailStands a (unsizedLayout op ea) f → plainTail f ≡ f
     → Encodes a (UnsizedOne op (f .source)) (wordOf 4 (codeOf op) (opmodeOf op) ea ∷ tailWords a (unsizedLayout op ea) f)
@@ -167,12 +167,12 @@ illegal-encodes a = ((tt, refl, refl), refl, refl)
 
 pub illegal-reads : (a : ℕ) → Accepted a (NoOperand ILLEGAL) → Reads a (NoOperand ILLEGAL)
 unfolding groupAt map
-illegal-reads a h = alone-reads a (NoOperand ILLEGAL) 60 specifier.Nothing 0 (at-code group.UnsizedOne 4 5 3 refl) (omega arith) refl refl refl (illegal-encodes a)
+illegal-reads a h = alone-reads a (NoOperand ILLEGAL) 60 specifier.Nothing 0 (at-code group.UnsizedOneIllegal 4 5 3 refl) (omega arith) refl refl refl (illegal-encodes a)
 
-pub unsized-one-sound : Sound group.UnsizedOne
+pub unsized-one-sound : Sound group.UnsizedOneIllegal
 unfolding map
 unsized-one-sound a line x opmode ea hl hx ho he e f h p i r =
-    let (w, (t, u)) = in-group group.UnsizedOne (λ l x o. equal (wordOf 4 (codeOf (unsizedAt x o)) (opmodeOf (unsizedAt x o)) 0) (wordOf l x o 0)
+    let (w, (t, u)) = in-group group.UnsizedOneIllegal (λ l x o. equal (wordOf 4 (codeOf (unsizedAt x o)) (opmodeOf (unsizedAt x o)) 0) (wordOf l x o 0)
     ∷ yes (implies (eqb x 5) (eqb (wordOf l x o 0) (wordOf 4 5 3 0))) ∷ []) refl line x opmode e in
     let op = unsizedAt x opmode in
     either-encodes a i (NoOperand ILLEGAL) (UnsizedOne op (f .source)) (wordOf line x opmode ea) (eqb x 5 && eqb ea 60) bare (unsizedLayout op ea) f h r

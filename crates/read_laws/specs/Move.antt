@@ -15,7 +15,7 @@ use Rattle.isa.specs.declared.PairOperation.the-variants.{MOVE}
 use Rattle.isa.specs.declared.Operand.{Operand}
 use Rattle.isa.specs.declared.Operand.the-variants.{Immediate, Register, Indirect, PostIndirect, PreIndirect, IndirectDisplacement, IndirectIndex, PcDisplacement, PcIndex, Extended, Absolute}
 use Rattle.isa.specs.declared.Instruction.the-variants.{Pair, IntoRegister}
-use Rattle.encode_spec.specs.Item.{Item, fine, malformed, noEncoding, addressRegister, allow, wordsIn, countOf, placed}
+use Rattle.encode_spec.specs.Item.{Item, fine, malformed, noEncoding, addressRegister, allow, wordsIn, countOf, wordAddress}
 use Rattle.isa_spec.specs.Code.{moveCode, isByte, registerBits}
 use Rattle.encode_spec.specs.Ea.{everyMode, dataModes, dataAlterable, byteOfAddress, permits, isTyped, modeField, registerField, eaField, eaItems, effective, withAddress}
 use Rattle.encode_spec.specs.Movement.{moveParts, moveaParts}
@@ -44,18 +44,18 @@ use Rattle.read_laws.specs.Operands.{address-bits}
 
 -- ---- the two operands of MOVE
 abbrev destinationPlace : ℕ → Operand → Size → ℕ
-destinationPlace a o s = placed a (1 + countOf (eaItems o s (placed a 1)))
+destinationPlace a o s = wordAddress a (1 + countOf (eaItems o s (wordAddress a 1)))
 
 abbrev Moved : ℕ → Operand → Operand → Size → Type 0
-Moved a o d s = (isTyped o ≡ true) × (isTyped d ≡ true) × Fitting s (placed a 1) (readableModes s) o × Fitting s (destinationPlace a o s) dataAlterable d
+Moved a o d s = (isTyped o ≡ true) × (isTyped d ≡ true) × Fitting s (wordAddress a 1) (readableModes s) o × Fitting s (destinationPlace a o s) dataAlterable d
 
 module _ (a : ℕ) (o d : Operand) (s : Size) where
   -- where the encoder lays them
   abbrev from : ℕ
-  from = placed (placed a 0) 1
+  from = wordAddress (wordAddress a 0) 1
 
   abbrev to : ℕ
-  to = placed from (countOf (eaItems o s from))
+  to = wordAddress from (countOf (eaItems o s from))
 
   abbrev source : List Item
   source = effective o s everyMode 8 from
@@ -63,7 +63,7 @@ module _ (a : ℕ) (o d : Operand) (s : Size) where
   abbrev destination : List Item
   destination = effective d s dataAlterable 9 to ++ []
 
-  from-is : from ≡ placed a 1
+  from-is : from ≡ wordAddress a 1
   from-is = omega arith
 
   to-is : to ≡ destinationPlace a o s
@@ -99,7 +99,7 @@ module _ (a : ℕ) (o d : Operand) (s : Size) where
       )
 
   move-words : wordsOf (Pair MOVE o d s) a
-      ≡ wordOf (moveCode s) (registerField d) (modeField d) (eaField o) ∷ (wordsIn (eaItems o s (placed a 1)) ++ wordsIn (eaItems d s (destinationPlace a o s)))
+      ≡ wordOf (moveCode s) (registerField d) (modeField d) (eaField o) ∷ (wordsIn (eaItems o s (wordAddress a 1)) ++ wordsIn (eaItems d s (destinationPlace a o s)))
   unfolding pairParts moveParts
   move-words =
       ap (λ (ws : List ℕ). wordOf (moveCode s) (registerField d) (modeField d) (eaField o) ∷ ws)
@@ -141,7 +141,7 @@ move-at =
 pub move-reads : (a : ℕ) (o d : Operand) (s : Size) → Accepted a (Pair MOVE o d s) → Reads a (Pair MOVE o d s)
 move-reads a o d s h =
     let (t, u, g, k) = move-back a o d s h in
-    let p : Stands s (placed a 1) (eaField o) o = (g .1, t, h .0 .0, refl) in
+    let p : Stands s (wordAddress a 1) (eaField o) o = (g .1, t, h .0 .0, refl) in
     let q : Stands s (destinationPlace a o s) (eaField d) d = (k .1, u, h .0 .1, refl) in
     let r = register-lt d in
     let n : permitted dataAlterable (eaField d) ≡ true = sym (permits-is dataAlterable s (destinationPlace a o s) (eaField d) d q) ∙ k .0 in
@@ -152,8 +152,8 @@ move-reads a o d s h =
     let y : moveLayout (moveSize (moveCode s)) (registerField d) (modeField d) (eaField o) ≡ two specifier.Nothing s (eaField o) (readableModes s) (eaField d)
     dataAlterable = rw (move-size s .0, m) in
     reads group.MOVE (moveCode s) (registerField d) (modeField d) (eaField o) (record { value = 0; source = o; destination = d }) hl hx ho
-    (stands-lt s (placed a 1) (eaField o) o p) e
-    (rw y (true-and _ _ (sym (permits-is (readableModes s) s (placed a 1) (eaField o) o p) ∙ g .0) n, refl, p, q))
+    (stands-lt s (wordAddress a 1) (eaField o) o p) e
+    (rw y (true-and _ _ (sym (permits-is (readableModes s) s (wordAddress a 1) (eaField o) o p) ∙ g .0) n, refl, p, q))
     (rw (m, move-size s .0)) (rw y (move-words a o d s))
 
 -- ---- MOVEA
@@ -188,7 +188,7 @@ move-encodes a x opmode ea s f hx (c, v, q, k) p =
     let o = f .source in
     let d = f .destination in
     let b = and-true (permitted (readableModes s) ea) (permitted dataAlterable (opmode * 8 + x)) c in
-    let g : Fitting s (placed a 1) (readableModes s) o = (permits-is (readableModes s) s (placed a 1) ea o q ∙ b .0, q .0) in
+    let g : Fitting s (wordAddress a 1) (readableModes s) o = (permits-is (readableModes s) s (wordAddress a 1) ea o q ∙ b .0, q .0) in
     let h : Fitting s (destinationPlace a o s) dataAlterable d = (permits-is dataAlterable s (destinationPlace a o s) (opmode * 8 + x) d k ∙ b .1, k .0) in
     let l = register-lt d in
     let e : modeField d * 8 + registerField d ≡ opmode * 8 + x = k .3 in

@@ -17,7 +17,7 @@ use Rattle.encode_spec.specs.Ea.{isRegister, isImmediate, modeOf, registerNumbe
 use Rattle.encode_facts.specs.Items.{number-lt, reason-not}
 use Rattle.read_spec.specs.Operand.{generalOf}
 use Rattle.read_spec.specs.declared.Specifier.the-variants as specifier
-use Rattle.read_operand_laws.specs.IndexLaws.{general-lt}
+use Rattle.isa_facts.specs.Code.{general-lt}
 use Rattle.read_operand_laws.specs.TailStands.{SpecifierStands}
 use Rattle.base_facts.specs.Tests.{Lt, lt?, eqb-eq, ltb-true, ltb-not, eqb-is}
 

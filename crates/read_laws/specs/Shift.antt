@@ -27,10 +27,11 @@ use Rattle.read_spec.specs.declared.Group.the-variants as group
 use Rattle.read_spec.specs.declared.Specifier.the-variants as specifier
 use Rattle.read_spec.specs.Tree.{ret}
 use Rattle.read_spec.specs.Map.{groupAt, map}
-use Rattle.read_spec.specs.Operation.{sizeAt, shiftAt, directionAt, shiftCount, countAt, bitFieldAt, valueAt}
+use Rattle.read_spec.specs.Operation.{sizeAt, shiftAt, directionAt, shiftCount, countAt, bitFieldAt, valueAt, fieldIn}
 use Rattle.read_spec.specs.Decoded.{dataOperand, shiftDecoded, wordOf}
 use Rattle.read_operand_laws.specs.Facts.{count-holds}
 use Rattle.encode_facts.specs.Items.{lt-number, reason-not, number-lt, unless-range, true-unless, unless-reason}
+use Rattle.isa_facts.specs.Code.{bit-lt}
 use Rattle.base_facts.specs.Tests.{below, and-true, true-and, ltb-is, eqb-eq, eqb-is}
 use Rattle.isa_spec.specs.Field.{holds}
 use Rattle.read_laws.specs.Control.{count-eight}
@@ -134,10 +135,6 @@ opmode-is Right Long = (refl, refl, refl)
 opmode-is Left Byte = (refl, refl, refl)
 opmode-is Left Word = (refl, refl, refl)
 opmode-is Left Long = (refl, refl, refl)
-
-bit-lt : (b : Bool) → bit b < 2
-bit-lt true = omega arith
-bit-lt false = omega arith
 
 register-is : (op : ShiftOperation) (count : Operand) (n : ℕ) (direction : ShiftDirection) (s : Size) → Count count → n < 8
     → shiftDecoded (countBits count) (opmodeOf direction s) (shiftField op count n) ≡ Shift op count (dataOperand n) direction s
@@ -316,10 +313,7 @@ bf-reads a op o f r (n, e, l) =
     let w = word-fields f r (d .2) in
     (rw c, word-stands f r (d .2), rw (c, w .1, w .2, w .3, value-bits (f .offset) (d .0), value-bits (f .width) (d .1))))
 
-abbrev fieldAt : ℕ → BitField
-fieldAt v = record { offset = valueAt (v / 64 % 64); width = valueAt (v % 64) }
-
-field-in : (v : ℕ) → valid specifier.BitField v ≡ true → Holding (fieldAt v) (v / 4096 % 8) × (wordIn (fieldAt v) (v / 4096 % 8) ≡ v)
+field-in : (v : ℕ) → valid specifier.BitField v ≡ true → Holding (fieldIn v) (v / 4096 % 8) × (wordIn (fieldIn v) (v / 4096 % 8) ≡ v)
 field-in v e =
     let t = and-true (eqb (v / 32768) 0 && valuePart (v / 64 % 64)) _ e in
     let u = and-true (eqb (v / 32768) 0) _ (t .0) in
@@ -337,5 +331,5 @@ bit-field-sound a line x opmode ea hl hx ho he e f h p i r =
     let op = operationAt x opmode in
     let d = field-in (f .value) (h .1 .1) in
     let n = f .value / 4096 % 8 in
-    decoded-as a i (BF op (f .source) (fieldAt (f .value)) n) _ _ _ r (omega (arith, w))
-    (laying-encodes ea f (field-form a op (f .source) (fieldAt (f .value)) n (f .value) (d .1)) (d .0) h p (λ n. n) refl (λ e. rw e))
+    decoded-as a i (BF op (f .source) (fieldIn (f .value)) n) _ _ _ r (omega (arith, w))
+    (laying-encodes ea f (field-form a op (f .source) (fieldIn (f .value)) n (f .value) (d .1)) (d .0) h p (λ n. n) refl (λ e. rw e))

@@ -41,7 +41,7 @@ use Rattle.encode_facts.specs.Items.{number-lt, lt-number, unless-malformed, tr
 use Rattle.read_laws.specs.Statements.{Reads, Encodes, Sound, reads}
 use Rattle.read_spec.specs.Accepted.{Accepted}
 use Rattle.read_laws.specs.Control.{word-extended, extended-word}
-use Rattle.read_operand_laws.specs.IndexLaws.{general-lt}
+use Rattle.isa_facts.specs.Code.{general-lt}
 use Rattle.read_laws.specs.Operands.{general-of, of-general, address-is}
 use Rattle.isa.specs.declared.RawOperation.{RawOperation}
 use Rattle.isa.specs.declared.RawOperation.the-variants.{LINEA, LINEF, IllegalWord}
@@ -216,11 +216,11 @@ pub moveusp-reads : (a : ℕ) (to : Bool) (r : RegisterOperand) → Accepted a (
 unfolding moveuspParts
 moveusp-reads a to r h =
     let (n, l, q) = address-is r (checked a (MOVEUSP to r) h .0) in
-    rw q (named-reads (MOVEUSP to (Address n)) 0 (pick-lt to n l) (moveusp-named a to n l) refl refl)
+    rw q (named-reads (MOVEUSP to (Address n)) 0 (cond-lt to n l) (moveusp-named a to n l) refl refl)
   where
-    pick-lt : (b : Bool) (n : ℕ) → n < 8 → cond b 32 40 + n < 64
-    pick-lt true n h = omega arith
-    pick-lt false n h = omega arith
+    cond-lt : (b : Bool) (n : ℕ) → n < 8 → cond b 32 40 + n < 64
+    cond-lt true n h = omega arith
+    cond-lt false n h = omega arith
 
 pub plain-reads : (a : ℕ) (op : NoOperandOperation) → isIllegal op ≡ false → Accepted a (NoOperand op) → Reads a (NoOperand op)
 plain-reads a op n h =

@@ -6,7 +6,7 @@ use mathlib.Core.List.{List, [], _∷_}
 use native.Mathlib.Omega.{arith}
 use lib.Dec.{eqb}
 use Rattle.read_spec.specs.Operand.{permitted}
-use Rattle.base_facts.specs.Tests.{Eq, eq?, all, below, and-true, eqb-eq}
+use Rattle.base_facts.specs.Tests.{Eq, eq?, all, allIn, below, and-true, eqb-eq}
 use Rattle.read_operand_laws.specs.OperandLaws.{permitted-lt}
 
 -- two numbers are equal, a test holds, or it fails
@@ -64,10 +64,6 @@ modes-say modes fs t ea m =
 abbrev pub among : List ℕ → ℕ → Bool
 among [] n = false
 among (m ∷ ms) n = eqb n m || among ms n
-
-abbrev pub allIn : (ℕ → Bool) → List ℕ → Bool
-allIn f [] = true
-allIn f (m ∷ ms) = f m && allIn f ms
 
 abbrev pub Each : (ℕ → Type 0) → List ℕ → Type 0
 Each P [] = Unit {0}

@@ -28,7 +28,7 @@ use Rattle.base_facts.specs.Tests.{ltb-is}
 use Rattle.read_operand_laws.specs.TreeLaws.{words-append}
 use Rattle.read_spec.specs.Accepted.{Words}
 use Rattle.read_operand_laws.specs.Stands.{Stands}
-use Rattle.read_operand_laws.specs.IndexLaws.{general-lt, long-lt}
+use Rattle.isa_facts.specs.Code.{general-lt, long-lt}
 use Rattle.read_operand_laws.specs.TailStands.{specifierWords, SpecifierStands, sourceAt, destinationAt, TailStands, tailWords}
 
 displacement-words : (k : DisplacementSize) (z : ℤ) (f : Field) → Words (wordsIn (displacementItems k z f))
@@ -46,9 +46,9 @@ immediate-lt Byte v e = omega (arith, ltb-is v 256 (sym (immediate-holds Byte v)
 immediate-lt Word v e = omega (arith, ltb-is v 65536 (sym (immediate-holds Word v) ∙ range-holds (field.Immediate Word) (pos v) e))
 immediate-lt Long v e = omega (arith, ltb-is v 4294967296 (sym (immediate-holds Long v) ∙ range-holds (field.Immediate Long) (pos v) e))
 
-pick-words : (b : Bool) (xs ys : List Item) → Words (wordsIn xs) → Words (wordsIn ys) → Words (wordsIn (cond b xs ys))
-pick-words true xs ys p q = p
-pick-words false xs ys p q = q
+cond-words : (b : Bool) (xs ys : List Item) → Words (wordsIn xs) → Words (wordsIn ys) → Words (wordsIn (cond b xs ys))
+cond-words true xs ys p q = p
+cond-words false xs ys p q = q
 
 full-words : (w : ℕ) (z outer : ℤ) → w < 65536 → Words (wordsIn (fullItems w z outer))
 full-words w z outer h = (
@@ -70,7 +70,7 @@ operand-words s at ea (IndirectIndex base z x) h = (omega (arith, general-lt (x 
 operand-words s at ea (PcDisplacement t) h = (omega arith, tt)
 operand-words s at ea (PcIndex t x) h = (omega (arith, general-lt (x .register), long-lt (x .size)), tt)
 operand-words s at ea (Extended base w z outer) h =
-    pick-words (isFull w) (fullItems w (baseDisplacement base w z at) outer) (scaledItems base w (baseDisplacement base w z at))
+    cond-words (isFull w) (fullItems w (baseDisplacement base w z at) outer) (scaledItems base w (baseDisplacement base w z at))
     (full-words w (baseDisplacement base w z at) outer (h .2 .0)) (omega (arith, h .2 .0), tt)
 operand-words s at ea (Absolute a width.Word) h = (omega arith, tt)
 operand-words s at ea (Absolute a width.Long) h = (omega arith, (omega arith, tt))

@@ -6,7 +6,7 @@ ghost use Prim.Native.Nat.{_<_};
 ghost use Rattle.isa.specs.declared.Size.the-variants.{Long, Word};
 ghost use Rattle.encode_spec.specs.Bits.{staticModes};
 ghost use Rattle.read_spec.specs.Layout.{two, one, alone, bare, noLayout};
-ghost use Rattle.read_spec.specs.Layouts.{readableModes, immediateSpecifier, immediateLayout, dynamicBitMovepLayout, casLayout, moveaLayout, moveLayout, oneLayout, unsizedModes, unsizedSize, unsizedLayout, unsizedOneLayout, nbcdLinkLayout, peaSwapBkptLayout, movemExtLayout, systemSpecifier, systemLayout, leaExtbLayout, quickLayout, trapSpecifier, conditionalLayout, branchLayout, intoDataLayout, fromDataLayout, logicExchangeLayout, logicCompareLayout, bitFieldLayout, layoutOf};
+ghost use Rattle.read_spec.specs.Layouts.{readableModes, immediateSpecifier, immediateLayout, dynamicBitMovepLayout, casLayout, moveaLayout, moveLayout, oneLayout, unsizedModes, unsizedSize, unsizedLayout, unsizedOneIllegalLayout, nbcdLinkLayout, peaSwapBkptLayout, movemExtLayout, systemSpecifier, systemLayout, leaExtbLayout, quickLayout, trapSpecifier, conditionalLayout, branchLayout, intoDataLayout, fromDataLayout, logicExchangeLayout, logicCompareLayout, bitFieldLayout, layoutOf};
 use isa::BitFieldOperation;
 use isa::Size;
 use isa::UnsizedOneOperation;
@@ -256,7 +256,7 @@ fn unsized_layout(operation: UnsizedOneOperation, ea: u8) -> Layout
 
 // ILLEGAL stands where TAS would have an immediate operand.
 fn unsized_one_layout(x: u8, opmode: u8, ea: u8) -> Layout
-    ensures { λ r. ⌜ r ≡ unsizedOneLayout x opmode ea ⌝ }
+    ensures { λ r. ⌜ r ≡ unsizedOneIllegalLayout x opmode ea ⌝ }
 {
     if (x == 5) & (ea == 60) {
         bare()
@@ -449,7 +449,7 @@ pub fn layout(group: Group, line: u8, x: u8, opmode: u8, ea: u8) -> Layout
         Group::CAS => cas_layout(x, ea),
         Group::MOVE => move_layout(move_size(line), x, opmode, ea),
         Group::OneOperand => one_layout(size_at(opmode), x, ea),
-        Group::UnsizedOne => unsized_one_layout(x, opmode, ea),
+        Group::UnsizedOneIllegal => unsized_one_layout(x, opmode, ea),
         Group::NbcdLink => nbcd_link_layout(ea),
         Group::PeaSwapBkpt => pea_swap_bkpt_layout(ea),
         Group::MovemExt => movem_ext_layout(x, opmode, ea),

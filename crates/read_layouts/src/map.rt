@@ -15,7 +15,7 @@ const GROUPS: [Group; 35] = [
     Group::CAS,
     Group::MOVE,
     Group::OneOperand,
-    Group::UnsizedOne,
+    Group::UnsizedOneIllegal,
     Group::NbcdLink,
     Group::PeaSwapBkpt,
     Group::MovemExt,

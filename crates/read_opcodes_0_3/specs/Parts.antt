@@ -6,13 +6,9 @@ use Rattle.isa.specs.declared.RegisterOperand.the-variants.{Data}
 use Rattle.isa.specs.declared.Operand.{Operand}
 use Rattle.isa.specs.declared.TransferOperation.the-variants.{MOVEP}
 use Rattle.isa.specs.declared.Instruction.{Instruction}
-use Rattle.isa.specs.declared.Instruction.the-variants.{Status, ConditionCode, Transfer, UnsizedPair}
-use Rattle.read_spec.specs.Operation.{conditionCodeAt, statusAt, bitAt, sizeAt, toMemoryAt}
+use Rattle.isa.specs.declared.Instruction.the-variants.{Transfer, UnsizedPair}
+use Rattle.read_spec.specs.Operation.{bitAt, sizeAt, toMemoryAt}
 use Rattle.read_spec.specs.Decoded.{dataOperand}
-
--- ORI, ANDI and EORI to CCR, and to SR
-abbrev pub statusDecoded : ℕ → ℕ → ℕ → Instruction
-statusDecoded x opmode v = cond (eqb opmode 0) (ConditionCode (conditionCodeAt x) (v % 256)) (Status (statusAt x) (v % 65536))
 
 -- MOVEP of any operand
 abbrev pub movep : ℕ → ℕ → Operand → Instruction

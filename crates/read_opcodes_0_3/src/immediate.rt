@@ -2,9 +2,9 @@
 ghost use mathlib.Core.Path.{_≡_};
 ghost use Rattle.isa.specs.declared.Instruction.the-variants.{UnsizedPair};
 ghost use Rattle.isa.specs.declared.Operand.the-variants.{Immediate};
-ghost use Rattle.read_spec.specs.Decoded.{immediateDecoded, boundsDecoded, movesDecoded, cas2Decoded, casDecoded};
+ghost use Rattle.read_spec.specs.Decoded.{statusDecoded, immediateDecoded, boundsDecoded, movesDecoded, cas2Decoded, casDecoded};
 ghost use Rattle.read_spec.specs.Operation.{bitAt};
-ghost use Rattle.read_opcodes_0_3.specs.Parts.{statusDecoded, dynamicInstruction};
+ghost use Rattle.read_opcodes_0_3.specs.Parts.{dynamicInstruction};
 use isa::Instruction;
 use isa::Operand;
 use isa::RegisterOperand;

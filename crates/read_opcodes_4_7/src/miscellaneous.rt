@@ -2,9 +2,8 @@
 ghost use mathlib.Core.Path.{_≡_};
 ghost use Rattle.isa.specs.declared.Instruction.the-variants.{OneOperand, UnsizedIntoRegister};
 ghost use Rattle.isa.specs.declared.RegisterOperand.the-variants.{Data};
-ghost use Rattle.read_spec.specs.Decoded.{unsizedOneDecoded, nbcdLinkDecoded, peaSwapBkptDecoded, movemExtDecoded, mullDecoded, divlDecoded, leaExtbDecoded};
-ghost use Rattle.read_spec.specs.Operation.{oneAt, sizeAt};
-ghost use Rattle.read_values.specs.Named.{chkAt};
+ghost use Rattle.read_spec.specs.Decoded.{unsizedOneIllegalDecoded, nbcdLinkDecoded, peaSwapBkptDecoded, movemExtDecoded, mullDecoded, divlDecoded, leaExtbDecoded};
+ghost use Rattle.read_spec.specs.Operation.{sizeAt, oneAt, chkAt};
 use isa::Instruction;
 use isa::LinkOperation;
 use isa::NoOperandOperation;
@@ -34,7 +33,7 @@ pub fn one_operand(x: u8, opmode: u8, source: Operand) -> Instruction
 
 // MOVE from and to SR and CCR, JSR, JMP, TAS and ILLEGAL.
 pub fn unsized_one(x: u8, opmode: u8, ea: u8, source: Operand) -> Instruction
-    ensures { λ r. ⌜ r ≡ unsizedOneDecoded x opmode ea source ⌝ }
+    ensures { λ r. ⌜ r ≡ unsizedOneIllegalDecoded x opmode ea source ⌝ }
 {
     if (x == 5) & (ea == 60) {
         return Instruction::NoOperand(NoOperandOperation::ILLEGAL);

@@ -1,11 +1,10 @@
 // Lines 8, 9, B, C and D.
 ghost use mathlib.Core.Path.{_≡_};
-ghost use Rattle.read_values.specs.Named.{longAt};
 ghost use Rattle.read_opcodes_8_f.specs.Parts.{compareInstruction};
 ghost use Rattle.isa.specs.declared.Instruction.the-variants.{IntoRegister, Pair};
 ghost use Rattle.isa.specs.declared.RegisterOperand.the-variants.{Address};
 ghost use Rattle.read_spec.specs.Decoded.{dataOperand, intoDataDecoded, arithmeticDecoded, logicDecimalDecoded, logicPackDecoded, exchanged, logicExchangeDecoded, wordDecoded};
-ghost use Rattle.read_spec.specs.Operation.{addressAt};
+ghost use Rattle.read_spec.specs.Operation.{longAt, addressAt};
 use isa::Instruction;
 use isa::Operand;
 use isa::PairOperation;

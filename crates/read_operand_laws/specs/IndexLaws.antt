@@ -18,20 +18,21 @@ use Rattle.isa.specs.declared.Field.{Field}
 use Rattle.isa.specs.declared.Field.the-variants as field
 use Rattle.isa_spec.specs.Field.{holds}
 use Rattle.isa_spec.specs.Code.{numberOfRegister, general, longBit}
-use Rattle.encode_spec.specs.Item.{Item, fine, failure, ranged, numberVerdict, wordsIn, countOf, placed}
+use Rattle.encode_spec.specs.Item.{Item, fine, failure, ranged, numberVerdict, wordsIn, countOf, wordAddress}
 use Rattle.isa_spec.specs.ExtensionWord.{isFull, baseSize, outerSize, isCanonical}
 use Rattle.encode_spec.specs.Ea.{indexSizeVerdict, briefItems, displacementItems, fromPc, fullItems, briefField, scaledItems, extendedItems, extendedModeField, extendedRegisterField, eaField, eaItems, isTyped}
 use Rattle.base_spec.specs.Signed.{bitsOf}
 use Rattle.read_spec.specs.Number.{signed8, reach}
-use Rattle.read_spec.specs.Operand.{generalOf, indexOf, displacementTree, landed, fullTree, indexOperand, scaledOperand, briefOperand, indexedTree}
+use Rattle.read_spec.specs.Operand.{generalOf, indexOf, displacementTree, landed, outerTree, baseTree, fullTree, indexOperand, scaledOperand, briefOperand, indexedTree}
 use Rattle.read_spec.specs.Plain.{plainIndex, plainBrief, plainOperand}
-use Rattle.read_spec.specs.Tree.{Tree, ret, got, run, bind}
+use Rattle.read_spec.specs.Tree.{Tree, ret, got, run}
 use Rattle.read_operand_laws.specs.Stands.{Stands}
 use Rattle.read_spec.specs.Accepted.{Fits32, InTypes, Words}
 use Rattle.read_operand_laws.specs.Facts.{fits, fits-wider, as-fits32, low-signed8, signed8-low, signed8-fits, reach-distance, distance-reach, reach-lt, pc-index-holds, index-displacement-holds, base-displacement-holds, outer-displacement-holds}
-use Rattle.encode_facts.specs.Items.{fine-both, both-fine, reason-not, range-holds, holds-range, number-lt, lt-number, failure-append, words-in-append, count-append, placed-lt}
+use Rattle.encode_facts.specs.Items.{fine-both, both-fine, reason-not, range-holds, holds-range, number-lt, lt-number, failure-append, words-in-append, count-append, address-lt}
 use Rattle.read_operand_laws.specs.TreeLaws.{rest-words, Alive, Clean, got-subst, short-no, guard-true, guard-then, guard-clean, bind-got, bind-then, bind-alive, bind-clean}
 use Rattle.read_operand_laws.specs.DisplacementLaws.{got-is, displacement-complete, displacement-sound, displacement-clean, based, landed-based, based-fits, based-landed, landed-fits}
+use Rattle.isa_facts.specs.Code.{general-lt, long-lt}
 use Rattle.base_facts.specs.Tests.{Lt, less, past, lt?, Eq, same, other, eq?, ltb-true, ltb-not, leb-true, eqb-is, eqb-not, and-yes, cond-true, cond-false, true-and, true-not-false}
 
 -- ---- the index of a brief word
@@ -41,15 +42,6 @@ briefWord x low = general (x .register) * 4096 + longBit (x .size) * 2048 + low
 -- a brief word of scale 1, its displacement's byte and its index
 abbrev pub Brief : ℕ → ℕ → IndexRegister → Type 0
 Brief w low x = (isFull w ≡ false) × (eqb (w / 512 % 4) 0 ≡ true) × (w % 256 ≡ low) × (indexOf w ≡ x)
-
-pub general-lt : (r : RegisterOperand) → general r < 16
-general-lt (Address n) = omega arith
-general-lt (Data n) = omega arith
-
-pub long-lt : (s : Size) → longBit s < 2
-long-lt Byte = omega arith
-long-lt Word = omega arith
-long-lt Long = omega arith
 
 general-of : (r : RegisterOperand) → numberVerdict (numberOfRegister r) ≡ fine → generalOf (general r) ≡ r
 general-of (Address n) e =
@@ -116,12 +108,6 @@ index-sound w h e f =
     (g .0, b .0, rw (g .1, b .1) (upper w e f))
 
 -- ---- an extension word of a full format
-abbrev outerPart : ℕ → ℕ → ℕ → ℤ → Tree Operand
-outerPart base at w z = bind (displacementTree (outerSize w)) (λ outer. ret (Extended base w (landed (fromPc base w) at z) outer))
-
-abbrev fullPart : ℕ → ℕ → ℕ → Tree Operand
-fullPart base at w = bind (displacementTree (baseSize w)) (λ z. outerPart base at w z)
-
 abbrev baseItems : ℕ → ℤ → List Item
 baseItems w z = displacementItems (baseSize w) z field.BaseDisplacement
 
@@ -129,12 +115,12 @@ abbrev outerItems : ℕ → ℤ → List Item
 outerItems w z = displacementItems (outerSize w) z field.OuterDisplacement
 
 full-complete : (base a n w : ℕ) (z outer : ℤ) → isFull w ≡ true → isCanonical w ≡ true → Fits32 z → Fits32 outer
-    → failure true (fullItems w (based (fromPc base w) (placed a n) z) outer) ≡ fine
+    → failure true (fullItems w (based (fromPc base w) (wordAddress a n) z) outer) ≡ fine
     → (r : List ℕ)
-    → run (indexedTree base) a n (wordsIn (fullItems w (based (fromPc base w) (placed a n) z) outer) ++ r)
-    ≡ got (Extended base w z outer) (n + countOf (fullItems w (based (fromPc base w) (placed a n) z) outer)) r
+    → run (indexedTree base) a n (wordsIn (fullItems w (based (fromPc base w) (wordAddress a n) z) outer) ++ r)
+    ≡ got (Extended base w z outer) (n + countOf (fullItems w (based (fromPc base w) (wordAddress a n) z) outer)) r
 full-complete base a n w z outer f c t u e r =
-    let at = placed a n in
+    let at = wordAddress a n in
     let y = based (fromPc base w) at z in
     let v = fine-both (failure true (baseItems w y)) (failure true (outerItems w outer)) (sym (failure-append true (baseItems w y) (outerItems w outer)) ∙ e) in
     let ws : List ℕ = wordsIn (baseItems w y) ++ (wordsIn (outerItems w outer) ++ r) in
@@ -142,14 +128,14 @@ full-complete base a n w z outer f c t u e r =
     ap (λ (l : List ℕ). l ++ r) (words-in-append (baseItems w y) (outerItems w outer)) ∙ append-assoc (wordsIn (baseItems w y)) (wordsIn (outerItems w outer)) r in
     let counted = count-append (baseItems w y) (outerItems w outer) in
     ap (λ (l : List ℕ). run (indexedTree base) a n (w ∷ l)) split
-    ∙ ap (λ (k : Tree Operand). run k a (n + 1) ws) (cond-true (isFull w) (fullTree base at w) (ret (briefOperand base at w)) f ∙ guard-true (isCanonical w) (fullPart base at w) c)
-    ∙ bind-got (displacementTree (baseSize w)) (λ y. outerPart base at w y) a (n + 1) ws y (n + 1 + countOf (baseItems w y)) (wordsIn (outerItems w outer) ++ r)
+    ∙ ap (λ (k : Tree Operand). run k a (n + 1) ws) (cond-true (isFull w) (fullTree base at w) (ret (briefOperand base at w)) f ∙ guard-true (isCanonical w) (baseTree base at w) c)
+    ∙ bind-got (displacementTree (baseSize w)) (outerTree base at w) a (n + 1) ws y (n + 1 + countOf (baseItems w y)) (wordsIn (outerItems w outer) ++ r)
     (displacement-complete (baseSize w) field.BaseDisplacement base-displacement-holds y (based-fits (fromPc base w) at z t) (v .0) a (n + 1) (wordsIn (outerItems w outer) ++ r))
     ∙ bind-got (displacementTree (outerSize w)) (λ outer. ret (Extended base w (landed (fromPc base w) at y) outer)) a (n + 1 + countOf (baseItems w y))
     (wordsIn (outerItems w outer) ++ r) outer
     (n + 1 + countOf (baseItems w y) + countOf (outerItems w outer)) r
     (displacement-complete (outerSize w) field.OuterDisplacement outer-displacement-holds outer u (v .1) a (n + 1 + countOf (baseItems w y)) r)
-    ∙ got-is r (ap (λ (x : ℤ). Extended base w x outer) (landed-based (fromPc base w) at z (placed-lt a n) t)) (omega (arith, counted))
+    ∙ got-is r (ap (λ (x : ℤ). Extended base w x outer) (landed-based (fromPc base w) at z (address-lt a n) t)) (omega (arith, counted))
 
 -- ---- one of a brief format
 brief-pc : (base w : ℕ) → isFull w ≡ false → fromPc base w ≡ eqb base 8
@@ -162,28 +148,28 @@ brief-holds base z = go (eqb base 8)
     go true = pc-index-holds z
     go false = index-displacement-holds z
 
-pick-plain : (pc : Bool) (base at : ℕ) (x : IndexRegister) (z : ℤ) → at < 2 ^ 32
+cond-plain : (pc : Bool) (base at : ℕ) (x : IndexRegister) (z : ℤ) → at < 2 ^ 32
     → cond pc (PcIndex (reach at (based pc at z)) x) (IndirectIndex (Address base) (based pc at z) x)
     ≡ cond pc (PcIndex (bitsOf z % 2 ^ 32) x) (IndirectIndex (Address base) z x)
-pick-plain true base at x z h = ap (λ (t : ℕ). PcIndex t x) (reach-distance (bitsOf z % 2 ^ 32) at (omega arith) h)
-pick-plain false base at x z h = refl
+cond-plain true base at x z h = ap (λ (t : ℕ). PcIndex t x) (reach-distance (bitsOf z % 2 ^ 32) at (omega arith) h)
+cond-plain false base at x z h = refl
 
 brief-plain : (base at w v : ℕ) (z : ℤ) → at < 2 ^ 32 → Fits32 z → v / 512 ≡ w / 512 → v / 2048 ≡ w / 2048 → v / 4096 ≡ w / 4096
     → signed8 (v % 256) ≡ based (eqb base 8) at z
     → briefOperand base at v ≡ plainBrief base w z
 brief-plain base at w v z h t p q u s =
-    rw (p, q, u, s) (rw (pick-plain (eqb base 8) base at (indexOf w) z h, landed-based (eqb base 8) at z h t))
+    rw (p, q, u, s) (rw (cond-plain (eqb base 8) base at (indexOf w) z h, landed-based (eqb base 8) at z h t))
 
-pub brief-step : (base a n w : ℕ) (r : List ℕ) → isFull w ≡ false → run (indexedTree base) a n (w ∷ r) ≡ got (briefOperand base (placed a n) w) (n + 1) r
+pub brief-step : (base a n w : ℕ) (r : List ℕ) → isFull w ≡ false → run (indexedTree base) a n (w ∷ r) ≡ got (briefOperand base (wordAddress a n) w) (n + 1) r
 brief-step base a n w r f =
-    ap (λ (k : Tree Operand). run k a (n + 1) r) (cond-false (isFull w) (fullTree base (placed a n) w) (ret (briefOperand base (placed a n) w)) f)
+    ap (λ (k : Tree Operand). run k a (n + 1) r) (cond-false (isFull w) (fullTree base (wordAddress a n) w) (ret (briefOperand base (wordAddress a n) w)) f)
 
 scaled-complete : (base a n w : ℕ) (z : ℤ) → isFull w ≡ false → Fits32 z
-    → failure true (scaledItems base w (based (eqb base 8) (placed a n) z)) ≡ fine
+    → failure true (scaledItems base w (based (eqb base 8) (wordAddress a n) z)) ≡ fine
     → (r : List ℕ)
-    → run (indexedTree base) a n (wordsIn (scaledItems base w (based (eqb base 8) (placed a n) z)) ++ r) ≡ got (plainBrief base w z) (n + 1) r
+    → run (indexedTree base) a n (wordsIn (scaledItems base w (based (eqb base 8) (wordAddress a n) z)) ++ r) ≡ got (plainBrief base w z) (n + 1) r
 scaled-complete base a n w z f t e r =
-    let y = based (eqb base 8) (placed a n) z in
+    let y = based (eqb base 8) (wordAddress a n) z in
     let h : fits (2 ^ 7) y ≡ true = sym (brief-holds base y) ∙ range-holds (briefField base) y (fine-both (ranged true (briefField base) y) fine e .0) in
     let v : ℕ = w / 256 * 256 + bitsOf y % 256 in
     let p : v / 256 ≡ w / 256 = omega arith in
@@ -192,17 +178,17 @@ scaled-complete base a n w z f t e r =
     let p8 : v / 2048 ≡ w / 2048 = sym (div-div-eq-div-mul v 256 8) ∙ ap (λ (k : ℕ). k / 8) p ∙ div-div-eq-div-mul w 256 8 in
     let p16 : v / 4096 ≡ w / 4096 = sym (div-div-eq-div-mul v 256 16) ∙ ap (λ (k : ℕ). k / 16) p ∙ div-div-eq-div-mul w 256 16 in
     brief-step base a n v r (ap (λ (k : ℕ). eqb (k % 2) 1) p ∙ f)
-    ∙ got-is r (brief-plain base (placed a n) w v z (placed-lt a n) t p2 p8 p16 (ap signed8 m ∙ signed8-low y h)) refl
+    ∙ got-is r (brief-plain base (wordAddress a n) w v z (address-lt a n) t p2 p8 p16 (ap signed8 m ∙ signed8-low y h)) refl
 
 pub extended-complete : (base a n w : ℕ) (z outer : ℤ) → isCanonical w ≡ true → Fits32 z → Fits32 outer
-    → failure true (extendedItems base w z outer (placed a n)) ≡ fine
+    → failure true (extendedItems base w z outer (wordAddress a n)) ≡ fine
     → (r : List ℕ)
-    → run (indexedTree base) a n (wordsIn (extendedItems base w z outer (placed a n)) ++ r)
-    ≡ got (plainOperand (Extended base w z outer)) (n + countOf (extendedItems base w z outer (placed a n))) r
+    → run (indexedTree base) a n (wordsIn (extendedItems base w z outer (wordAddress a n)) ++ r)
+    ≡ got (plainOperand (Extended base w z outer)) (n + countOf (extendedItems base w z outer (wordAddress a n))) r
 extended-complete base a n w z outer c t u e r = go (isFull w) refl
   where
     at : ℕ
-    at = placed a n
+    at = wordAddress a n
 
     Reads : List Item → Type 0
     Reads xs = failure true xs ≡ fine → run (indexedTree base) a n (wordsIn xs ++ r) ≡ got (plainOperand (Extended base w z outer)) (n + countOf xs) r
@@ -227,14 +213,14 @@ extended-complete base a n w z outer c t u e r = go (isFull w) refl
 -- ---- what is read stands, and is written so
 abbrev pub OperandSound : Size → ℕ → ℕ → ℕ → List ℕ → Operand → ℕ → List ℕ → Type 0
 OperandSound s a n ea ws o m r =
-    Stands s (placed a n) ea o
+    Stands s (wordAddress a n) ea o
     × (plainOperand o ≡ o)
-    × (ws ≡ wordsIn (eaItems o s (placed a n)) ++ r)
-    × (m ≡ n + countOf (eaItems o s (placed a n)))
+    × (ws ≡ wordsIn (eaItems o s (wordAddress a n)) ++ r)
+    × (m ≡ n + countOf (eaItems o s (wordAddress a n)))
 
 -- by the items that the operand comes to
 pub sound-by : (s : Size) (a n ea : ℕ) (ws : List ℕ) (o : Operand) (m : ℕ) (r : List ℕ) (xs : List Item)
-    → eaItems o s (placed a n) ≡ xs
+    → eaItems o s (wordAddress a n) ≡ xs
     → failure true xs ≡ fine
     → isTyped o ≡ true
     → InTypes o
@@ -258,12 +244,12 @@ cut us vs ws s r p q = p ∙ ap (λ (l : List ℕ). us ++ l) q ∙ sym (append-a
 
 full-sound : (s : Size) (base a n w : ℕ) (ws : List ℕ) → base ≤ 8 → w < 65536 → Words ws → isFull w ≡ true
     → (o : Operand) (m : ℕ) (r : List ℕ)
-    → run (fullTree base (placed a n) w) a (n + 1) ws ≡ got o m r
+    → run (fullTree base (wordAddress a n) w) a (n + 1) ws ≡ got o m r
     → OperandSound s a n (extendedField base) (w ∷ ws) o m r
 full-sound s base a n w ws hb hw h f o m r e =
-    let at = placed a n in
-    let g = guard-then (isCanonical w) (fullPart base at w) a (n + 1) ws o m r e in
-    bind-then (displacementTree (baseSize w)) (λ z. outerPart base at w z) a (n + 1) ws o m r (g .1) (λ z j s1 e1 f1.
+    let at = wordAddress a n in
+    let g = guard-then (isCanonical w) (baseTree base at w) a (n + 1) ws o m r e in
+    bind-then (displacementTree (baseSize w)) (outerTree base at w) a (n + 1) ws o m r (g .1) (λ z j s1 e1 f1.
     bind-then (displacementTree (outerSize w)) (λ outer. ret (Extended base w (landed (fromPc base w) at z) outer)) a j s1 o m r f1 (λ outer k s2 e2 f2.
     let d = displacement-sound (baseSize w) field.BaseDisplacement base-displacement-holds a (n + 1) ws h z j s1 e1 in
     let h1 : Words s1 = rest-words (wordsIn (baseItems w z)) s1 (subst Words (d .2) h) in
@@ -271,7 +257,7 @@ full-sound s base a n w ws hb hw h f o m r e =
     let y = landed (fromPc base w) at z in
     let items : extendedItems base w y outer at ≡ fullItems w z outer =
     cond-true (isFull w) (fullItems w (based (fromPc base w) at y) outer) (scaledItems base w (based (fromPc base w) at y)) f
-    ∙ ap (λ (x : ℤ). fullItems w x outer) (based-landed (fromPc base w) at z (placed-lt a n) (d .0)) in
+    ∙ ap (λ (x : ℤ). fullItems w x outer) (based-landed (fromPc base w) at z (address-lt a n) (d .0)) in
     let counted = count-append (baseItems w z) (outerItems w outer) in
     got-subst (OperandSound s a n (extendedField base) (w ∷ ws)) f2
     (sound-by s a n (extendedField base) (w ∷ ws) (Extended base w y outer) k s2 (fullItems w z outer) items
@@ -304,9 +290,9 @@ module _ (s : Size) (a n w : ℕ) (ws : List ℕ) (hw : w < 65536) (even : w / 2
   offset-32 = as-fits32 offset (fits-wider (2 ^ 7) (2 ^ 31) offset (omega arith) offset-fits)
 
   scaled-sound : (base : ℕ) → base ≤ 8 → eqb (w / 512 % 4) 0 ≡ false
-      → OperandSound s a n (extendedField base) (w ∷ ws) (scaledOperand base (placed a n) w offset) (n + 1) ws
+      → OperandSound s a n (extendedField base) (w ∷ ws) (scaledOperand base (wordAddress a n) w offset) (n + 1) ws
   scaled-sound base hb g =
-      let at = placed a n in
+      let at = wordAddress a n in
       let v : ℕ = w / 512 * 512 in
       let y = landed (eqb base 8) at offset in
       let p : v / 256 ≡ w / 256 = omega (arith, div-div-eq-div-mul w 256 2) in
@@ -315,7 +301,7 @@ module _ (s : Size) (a n w : ℕ) (ws : List ℕ) (hw : w < 65536) (even : w / 2
       let items : extendedItems base v y (pos 0) at ≡ scaledItems base v offset =
       cond-false (isFull v) (fullItems v (based (fromPc base v) at y) (pos 0)) (scaledItems base v (based (fromPc base v) at y)) f
       ∙ ap (λ (b : Bool). scaledItems base v (based b at y)) (brief-pc base v f)
-      ∙ ap (λ (x : ℤ). scaledItems base v x) (based-landed (eqb base 8) at offset (placed-lt a n) offset-32) in
+      ∙ ap (λ (x : ℤ). scaledItems base v x) (based-landed (eqb base 8) at offset (address-lt a n) offset-32) in
       sound-by s a n (extendedField base) (w ∷ ws) (Extended base v y (pos 0)) (n + 1) ws (scaledItems base v offset) items
       (both-fine (ranged true (briefField base) offset) fine (holds-range (briefField base) offset (brief-holds base offset ∙ offset-fits)) refl)
       (true-and (leb base 8) (isCanonical v) (leb-true base 8 hb) (rw f))
@@ -332,12 +318,12 @@ module _ (s : Size) (a n w : ℕ) (ws : List ℕ) (hw : w < 65536) (even : w / 2
       byte-word w (general (indexOf w .register) * 4096 + longBit (indexOf w .size) * 2048) (bitsOf offset % 256) (index-sound w hw even g .2)
       (low-signed8 (w % 256) (omega arith))
 
-  pc-index-sound : w / 512 % 4 ≡ 0 → OperandSound s a n 59 (w ∷ ws) (PcIndex (reach (placed a n) offset) (indexOf w)) (n + 1) ws
+  pc-index-sound : w / 512 % 4 ≡ 0 → OperandSound s a n 59 (w ∷ ws) (PcIndex (reach (wordAddress a n) offset) (indexOf w)) (n + 1) ws
   pc-index-sound g =
-      let at = placed a n in
+      let at = wordAddress a n in
       let i = index-sound w hw even g in
       sound-by s a n 59 (w ∷ ws) (PcIndex (reach at offset) (indexOf w)) (n + 1) ws (briefItems (indexOf w) offset field.PcIndex)
-      (ap (λ (x : ℤ). briefItems (indexOf w) x field.PcIndex) (distance-reach at offset (placed-lt a n) offset-32))
+      (ap (λ (x : ℤ). briefItems (indexOf w) x field.PcIndex) (distance-reach at offset (address-lt a n) offset-32))
       (brief-fine (indexOf w) offset field.PcIndex (pc-index-holds offset ∙ offset-fits) (i .0) (i .1))
       refl
       (reach-lt at offset)
@@ -350,7 +336,7 @@ module _ (s : Size) (a n w : ℕ) (ws : List ℕ) (hw : w < 65536) (even : w / 2
       → OperandSound s a n (48 + base % 8) (w ∷ ws) (IndirectIndex (Address base) offset (indexOf w)) (n + 1) ws
   address-index-sound base hb g =
       let i = index-sound w hw even g in
-      sound-by s a n (48 + base % 8) (w ∷ ws) (IndirectIndex (Address base) offset (indexOf w)) (n + 1) ws (eaItems (IndirectIndex (Address base) offset (indexOf w)) s (placed a n))
+      sound-by s a n (48 + base % 8) (w ∷ ws) (IndirectIndex (Address base) offset (indexOf w)) (n + 1) ws (eaItems (IndirectIndex (Address base) offset (indexOf w)) s (wordAddress a n))
       refl
       (both-fine (numberVerdict base) (failure true (briefItems (indexOf w) offset field.IndexDisplacement)) (lt-number base hb)
       (brief-fine (indexOf w) offset field.IndexDisplacement (index-displacement-holds offset ∙ offset-fits) (i .0) (i .1)))
@@ -362,11 +348,11 @@ module _ (s : Size) (a n w : ℕ) (ws : List ℕ) (hw : w < 65536) (even : w / 2
       refl
 
 brief-sound : (s : Size) (base a n w : ℕ) (ws : List ℕ) → base ≤ 8 → w < 65536 → isFull w ≡ false
-    → OperandSound s a n (extendedField base) (w ∷ ws) (briefOperand base (placed a n) w) (n + 1) ws
+    → OperandSound s a n (extendedField base) (w ∷ ws) (briefOperand base (wordAddress a n) w) (n + 1) ws
 brief-sound s base a n w ws hb hw f = go (eq? (w / 256 % 2) 1) (eq? (w / 512 % 4) 0)
   where
     at : ℕ
-    at = placed a n
+    at = wordAddress a n
 
     z : ℤ
     z = signed8 (w % 256)
@@ -398,7 +384,7 @@ indexed-sound s base a n hb [] h o m r e = short-no e
 indexed-sound s base a n hb (w ∷ ws) h o m r e = go (isFull w) refl
   where
     at : ℕ
-    at = placed a n
+    at = wordAddress a n
 
     read : run (cond (isFull w) (fullTree base at w) (ret (briefOperand base at w))) a (n + 1) ws ≡ got o m r
     read = e
@@ -415,18 +401,18 @@ indexed-sound s base a n hb (w ∷ ws) h o m r e = go (isFull w) refl
 -- ---- zeros complete it
 full-clean : (base at w : ℕ) → Clean (fullTree base at w)
 full-clean base at w =
-    guard-clean (isCanonical w) (fullPart base at w) (λ c.
-    bind-clean (displacementTree (baseSize w)) (λ z. outerPart base at w z) (displacement-clean (baseSize w) .1)
+    guard-clean (isCanonical w) (baseTree base at w) (λ c.
+    bind-clean (displacementTree (baseSize w)) (outerTree base at w) (displacement-clean (baseSize w) .1)
     (λ z. bind-alive (displacementTree (outerSize w)) (λ outer. ret (Extended base w (landed (fromPc base w) at z) outer)) (displacement-clean (outerSize w) .0) (λ outer. tt))
     (λ z. bind-clean (displacementTree (outerSize w)) (λ outer. ret (Extended base w (landed (fromPc base w) at z) outer)) (displacement-clean (outerSize w) .1)
     (λ outer. tt) (λ outer. tt)))
 
-pick-clean : (b : Bool) (t : Tree Operand) (o : Operand) → Clean t → Clean (cond b t (ret o))
-pick-clean true t o c = c
-pick-clean false t o c = tt
+cond-clean : (b : Bool) (t : Tree Operand) (o : Operand) → Clean t → Clean (cond b t (ret o))
+cond-clean true t o c = c
+cond-clean false t o c = tt
 
 pub indexed-alive : (base : ℕ) → Alive (indexedTree base)
 indexed-alive base = λ at. tt
 
 pub indexed-clean : (base : ℕ) → Clean (indexedTree base)
-indexed-clean base = (λ at. tt, λ at w. pick-clean (isFull w) (fullTree base at w) (briefOperand base at w) (full-clean base at w))
+indexed-clean base = (λ at. tt, λ at w. cond-clean (isFull w) (fullTree base at w) (briefOperand base at w) (full-clean base at w))

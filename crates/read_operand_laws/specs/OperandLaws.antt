@@ -1,7 +1,7 @@
 -- The effective address: what stands is read in its plain form, and what is read stands and is plain.
 use Prim.Native.Nat.{ℕ, zero, suc, _+_, _*_, _-_, _/_, _%_, _^_, _<_, _≤_}
 use mathlib.Core.Path.{_≡_, refl, ap, sym, _∙_, subst}
-use mathlib.Core.Bool.{Bool, true, false, cond}
+use mathlib.Core.Bool.{true, cond}
 use mathlib.Core.List.{List, [], _∷_, _++_}
 use native.Mathlib.Omega.{arith}
 use lib.Dec.{ltb, leb, eqb}
@@ -17,7 +17,7 @@ use Rattle.isa.specs.declared.Field.{Field}
 use Rattle.isa.specs.declared.Field.the-variants as field
 use Rattle.isa_spec.specs.Field.{holds, topOf}
 use Rattle.isa_spec.specs.Code.{numberOfRegister}
-use Rattle.encode_spec.specs.Item.{fine, register, failure, orElse, ranged, numberVerdict, wordsIn, countOf, placed}
+use Rattle.encode_spec.specs.Item.{fine, register, failure, orElse, ranged, numberVerdict, wordsIn, countOf, wordAddress}
 use Rattle.isa_spec.specs.ExtensionWord.{isCanonical}
 use Rattle.encode_spec.specs.Ea.{distance, indexSizeVerdict, briefItems, wordItems, immediateWords, immediateItems, extendedMode, extendedItems, absoluteItems, modeOf, permits, eaField, eaItems, isTyped}
 use Rattle.base_spec.specs.Signed.{signed32, signed64, bitsOf}
@@ -28,11 +28,11 @@ use Rattle.read_spec.specs.Tree.{Tree, ret, got, run}
 use Rattle.read_operand_laws.specs.Stands.{Stands}
 use Rattle.read_spec.specs.Accepted.{InTypes, Words}
 use Rattle.read_operand_laws.specs.Facts.{fits, fits-wider, as-fits32, signed8-low, signed16-low, low-signed16, signed16-fits, signed32-low, low-signed32, reach-distance, distance-reach, reach-lt, immediate-holds, displacement-holds, index-displacement-holds, pc-displacement-holds, pc-index-holds, short-address-holds, long-address-holds}
-use Rattle.encode_facts.specs.Items.{fine-both, both-fine, reason-not, range-holds, holds-range, number-lt, lt-number, placed-lt}
+use Rattle.encode_facts.specs.Items.{fine-both, both-fine, reason-not, range-holds, holds-range, number-lt, lt-number, address-lt}
 use Rattle.read_operand_laws.specs.TreeLaws.{Alive, Clean, got-subst, short-no, none-no, guard-true, guard-then, guard-clean, bind-got, bind-then, bind-alive, bind-clean}
 use Rattle.read_operand_laws.specs.DisplacementLaws.{got-is}
 use Rattle.read_operand_laws.specs.IndexLaws.{briefWord, Brief, index-complete, brief-step, extended-complete, extendedField, OperandSound, sound-by, indexed-sound, indexed-alive, indexed-clean}
-use Rattle.base_facts.specs.Tests.{Lt, less, past, lt?, ltb-true, ltb-is, leb-is, eqb-not, and-true, cond-true, cond-false}
+use Rattle.base_facts.specs.Tests.{Lt, less, past, lt?, ltb-true, ltb-is, leb-is, eqb-not, and-true, cond-true, cond-false, cond-lt}
 
 -- ---- immediates
 immediate-lt : (s : Size) (v : ℕ) → failure true (immediateItems v s) ≡ fine → v < suc (topOf s)
@@ -113,7 +113,7 @@ extended-tree s base h = go (lt? base 8)
 -- ---- complete
 abbrev Complete : Size → ℕ → ℕ → List ℕ → Operand → Type 0
 Complete s a n r o =
-    run (operandTree s (eaField o)) a n (wordsIn (eaItems o s (placed a n)) ++ r) ≡ got (plainOperand o) (n + countOf (eaItems o s (placed a n))) r
+    run (operandTree s (eaField o)) a n (wordsIn (eaItems o s (wordAddress a n)) ++ r) ≡ got (plainOperand o) (n + countOf (eaItems o s (wordAddress a n))) r
 
 -- along a tree and what it reads
 by-tree : (s : Size) (a n : ℕ) (r ws : List ℕ) (ea : ℕ) (t : Tree Operand) (o p : Operand) (m j : ℕ)
@@ -144,11 +144,11 @@ brief-at base at w l x z b e =
 brief-complete : (base a n : ℕ) (r : List ℕ) (x : IndexRegister) (z : ℤ) → fits (2 ^ 7) z ≡ true
     → numberVerdict (numberOfRegister (x .register)) ≡ fine
     → indexSizeVerdict (x .size) ≡ fine
-    → run (indexedTree base) a n (briefWord x (bitsOf z % 256) ∷ r) ≡ got (indexed base (placed a n) z x) (n + 1) r
+    → run (indexedTree base) a n (briefWord x (bitsOf z % 256) ∷ r) ≡ got (indexed base (wordAddress a n) z x) (n + 1) r
 brief-complete base a n r x z h e f =
     let l : ℕ = bitsOf z % 256 in
     let b = index-complete x l e f (omega arith) in
-    brief-step base a n (briefWord x l) r (b .0) ∙ got-is r (brief-at base (placed a n) (briefWord x l) l x z b (signed8-low z h)) refl
+    brief-step base a n (briefWord x l) r (b .0) ∙ got-is r (brief-at base (wordAddress a n) (briefWord x l) l x z b (signed8-low z h)) refl
 
 -- a brief word's checks
 abbrev Kept : Field → ℤ → IndexRegister → Type 0
@@ -170,7 +170,7 @@ short-address v h f =
     let e : v % 65536 ≡ bitsOf y % 65536 = omega arith in
     ap (λ (z : ℤ). bitsOf z % 2 ^ 32) (ap signed16 e ∙ signed16-low y f) ∙ q ∙ p
 
-at-field : (s : Size) (a n : ℕ) (o : Operand) → failure true (eaItems o s (placed a n)) ≡ fine → isTyped o ≡ true → InTypes o
+at-field : (s : Size) (a n : ℕ) (o : Operand) → failure true (eaItems o s (wordAddress a n)) ≡ fine → isTyped o ≡ true → InTypes o
     → (r : List ℕ)
     → Complete s a n r o
 at-field s a n (Immediate v) e i t r =
@@ -194,24 +194,24 @@ at-field s a n (IndirectIndex (Address k) z x) e i t r =
     let l = number-lt k (p .0) in
     let c = brief-kept field.IndexDisplacement z x (p .1) in
     let j : k % 8 ≡ k = omega arith in
-    by-tree s a n r (briefWord x (bitsOf z % 256) ∷ r) (6 * 8 + k % 8) (indexedTree k) (indexed k (placed a n) z x) (IndirectIndex (Address k) z x) (n + 1) (n + 1)
+    by-tree s a n r (briefWord x (bitsOf z % 256) ∷ r) (6 * 8 + k % 8) (indexedTree k) (indexed k (wordAddress a n) z x) (IndirectIndex (Address k) z x) (n + 1) (n + 1)
     (field-tree s 6 (k % 8) (omega arith) ∙ ap (modeTree s 6) j)
     (brief-complete k a n r x z (sym (index-displacement-holds z) ∙ c .0) (c .1) (c .2))
-    (cond-false (eqb k 8) (PcIndex (reach (placed a n) z) x) (IndirectIndex (Address k) z x) (eqb-not k 8 (omega arith))) refl
+    (cond-false (eqb k 8) (PcIndex (reach (wordAddress a n) z) x) (IndirectIndex (Address k) z x) (eqb-not k 8 (omega arith))) refl
 at-field s a n (IndirectIndex (Data k) z x) e i t r = reason-not 2 e
 at-field s a n (PcDisplacement d) e i t r =
-    let at = placed a n in
+    let at = wordAddress a n in
     let z = distance d at in
     let h : fits (2 ^ 15) z ≡ true = sym (pc-displacement-holds z) ∙ range-holds field.PcDisplacement z (fine-both (ranged true field.PcDisplacement z) fine e .0) in
-    got-is r (ap PcDisplacement (ap (reach at) (signed16-low z h) ∙ reach-distance d at t (placed-lt a n))) refl
+    got-is r (ap PcDisplacement (ap (reach at) (signed16-low z h) ∙ reach-distance d at t (address-lt a n))) refl
 at-field s a n (PcIndex d x) e i t r =
-    let at = placed a n in
+    let at = wordAddress a n in
     let z = distance d at in
     let c = brief-kept field.PcIndex z x e in
-    brief-complete 8 a n r x z (sym (pc-index-holds z) ∙ c .0) (c .1) (c .2) ∙ got-is r (ap (λ (y : ℕ). PcIndex y x) (reach-distance d at t (placed-lt a n))) refl
+    brief-complete 8 a n r x z (sym (pc-index-holds z) ∙ c .0) (c .1) (c .2) ∙ got-is r (ap (λ (y : ℕ). PcIndex y x) (reach-distance d at t (address-lt a n))) refl
 at-field s a n (Extended base w z outer) e i t r =
     let c = and-true (leb base 8) (isCanonical w) i in
-    ap (λ (u : Tree Operand). run u a n (wordsIn (extendedItems base w z outer (placed a n)) ++ r)) (extended-tree s base (leb-is base 8 (c .0)))
+    ap (λ (u : Tree Operand). run u a n (wordsIn (extendedItems base w z outer (wordAddress a n)) ++ r)) (extended-tree s base (leb-is base 8 (c .0)))
     ∙ extended-complete base a n w z outer (c .1) (t .1) (t .2) e r
 at-field s a n (Absolute v width.Word) e i t r =
     let p = fine-both (ranged true field.LongAddress (signed64 v)) _ e in
@@ -224,11 +224,11 @@ at-field s a n (Absolute v width.Long) e i t r =
     let l : v < 2 ^ 32 = ltb-is v (2 ^ 32) (sym (long-address-holds v) ∙ range-holds field.LongAddress (signed64 v) (p .0)) in
     got-is r (ap (λ (x : ℕ). Absolute x width.Long) (omega arith)) (omega arith)
 
-pub operand-complete : (s : Size) (a n ea : ℕ) (o : Operand) → Stands s (placed a n) ea o
+pub operand-complete : (s : Size) (a n ea : ℕ) (o : Operand) → Stands s (wordAddress a n) ea o
     → (r : List ℕ)
-    → run (operandTree s ea) a n (wordsIn (eaItems o s (placed a n)) ++ r) ≡ got (plainOperand o) (n + countOf (eaItems o s (placed a n))) r
+    → run (operandTree s ea) a n (wordsIn (eaItems o s (wordAddress a n)) ++ r) ≡ got (plainOperand o) (n + countOf (eaItems o s (wordAddress a n))) r
 operand-complete s a n ea o h r =
-    subst (λ (k : ℕ). run (operandTree s k) a n (wordsIn (eaItems o s (placed a n)) ++ r) ≡ got (plainOperand o) (n + countOf (eaItems o s (placed a n))) r)
+    subst (λ (k : ℕ). run (operandTree s k) a n (wordsIn (eaItems o s (wordAddress a n)) ++ r) ≡ got (plainOperand o) (n + countOf (eaItems o s (wordAddress a n))) r)
     (h .3) (at-field s a n o (h .0) (h .1) (h .2) r)
 
 -- ---- sound
@@ -236,7 +236,7 @@ word-fine : (f : Field) (z : ℤ) → holds f z ≡ true → orElse (ranged true
 word-fine f z h = both-fine (ranged true f z) fine (holds-range f z h) refl
 
 -- a register number alone
-alone-sound : (s : Size) (a n m k : ℕ) (ws : List ℕ) (o : Operand) → k < 8 → eaItems o s (placed a n) ≡ register k ∷ [] → isTyped o ≡ true → InTypes o
+alone-sound : (s : Size) (a n m k : ℕ) (ws : List ℕ) (o : Operand) → k < 8 → eaItems o s (wordAddress a n) ≡ register k ∷ [] → isTyped o ≡ true → InTypes o
     → eaField o ≡ m * 8 + k
     → plainOperand o ≡ o
     → OperandSound s a n (m * 8 + k) ws o n ws
@@ -250,7 +250,7 @@ displacement-sound s a n k hk [] h o m r e = short-no e
 displacement-sound s a n k hk (w ∷ ws) h o m r e =
     let z = signed16 w in
     got-subst (OperandSound s a n (5 * 8 + k) (w ∷ ws)) e
-    (sound-by s a n (5 * 8 + k) (w ∷ ws) (IndirectDisplacement z (Address k)) (n + 1) ws (eaItems (IndirectDisplacement z (Address k)) s (placed a n)) refl
+    (sound-by s a n (5 * 8 + k) (w ∷ ws) (IndirectDisplacement z (Address k)) (n + 1) ws (eaItems (IndirectDisplacement z (Address k)) s (wordAddress a n)) refl
     (both-fine (numberVerdict k) (orElse (ranged true field.Displacement z) fine) (lt-number k hk) (word-fine field.Displacement z (displacement-holds z ∙ signed16-fits w (h .0))))
     refl tt (omega arith) refl
     (ap (λ (x : ℕ). x ∷ ws) (sym (low-signed16 w (h .0))))
@@ -301,10 +301,10 @@ special-sound s a n (suc zero) (w ∷ u ∷ ws) h o m r e =
     (omega arith))
 special-sound s a n (suc (suc zero)) [] h o m r e = short-no e
 special-sound s a n (suc (suc zero)) (w ∷ ws) h o m r e =
-    let at = placed a n in
+    let at = wordAddress a n in
     let z = signed16 w in
     let f = signed16-fits w (h .0) in
-    let back : distance (reach at z) at ≡ z = distance-reach at z (placed-lt a n) (as-fits32 z (fits-wider (2 ^ 15) (2 ^ 31) z (omega arith) f)) in
+    let back : distance (reach at z) at ≡ z = distance-reach at z (address-lt a n) (as-fits32 z (fits-wider (2 ^ 15) (2 ^ 31) z (omega arith) f)) in
     got-subst (OperandSound s a n 58 (w ∷ ws)) e
     (sound-by s a n 58 (w ∷ ws) (PcDisplacement (reach at z)) (n + 1) ws (wordItems field.PcDisplacement z) (ap (wordItems field.PcDisplacement) back)
     (word-fine field.PcDisplacement z (pc-displacement-holds z ∙ f))
@@ -342,10 +342,10 @@ mode-sound s a n (suc (suc (suc (suc (suc (suc (suc (suc j)))))))) k hk ws h o m
 
 pub operand-sound : (s : Size) (a n ea : ℕ) → ea < 64 → (ws : List ℕ) → Words ws → (o : Operand) (m : ℕ) (r : List ℕ)
     → run (operandTree s ea) a n ws ≡ got o m r
-    → Stands s (placed a n) ea o
+    → Stands s (wordAddress a n) ea o
     × (plainOperand o ≡ o)
-    × (ws ≡ wordsIn (eaItems o s (placed a n)) ++ r)
-    × (m ≡ n + countOf (eaItems o s (placed a n)))
+    × (ws ≡ wordsIn (eaItems o s (wordAddress a n)) ++ r)
+    × (m ≡ n + countOf (eaItems o s (wordAddress a n)))
 operand-sound s a n ea l ws h o m r e =
     let p : ea / 8 * 8 + ea % 8 ≡ ea = omega arith in
     subst (λ (k : ℕ). OperandSound s a n k ws o m r) p (mode-sound s a n (ea / 8) (ea % 8) (omega arith) ws h o m r e)
@@ -432,10 +432,6 @@ mode-field (Extended base w z outer) i = go (lt? base 8)
 mode-field (Absolute v width.Word) i = refl
 mode-field (Absolute v width.Long) i = refl
 
-pick-lt : (b : Bool) (m n k : ℕ) → m < k → n < k → cond b m n < k
-pick-lt true m n k h g = h
-pick-lt false m n k h g = g
-
 pub mode-lt : (o : Operand) → modeOf o < 12
 mode-lt (Immediate v) = omega arith
 mode-lt (Register (Address k)) = omega arith
@@ -447,7 +443,7 @@ mode-lt (IndirectDisplacement z base) = omega arith
 mode-lt (IndirectIndex base z x) = omega arith
 mode-lt (PcDisplacement t) = omega arith
 mode-lt (PcIndex t x) = omega arith
-mode-lt (Extended base w z outer) = pick-lt (eqb base 8) 10 6 12 (omega arith) (omega arith)
+mode-lt (Extended base w z outer) = cond-lt (eqb base 8) 10 6 12 (omega arith) (omega arith)
 mode-lt (Absolute v width.Word) = omega arith
 mode-lt (Absolute v width.Long) = omega arith
 
@@ -469,8 +465,8 @@ field-lt (IndirectIndex base z x) = omega arith
 field-lt (PcDisplacement t) = omega arith
 field-lt (PcIndex t x) = omega arith
 field-lt (Extended base w z outer) =
-    let p = pick-lt (ltb base 8) 6 7 8 (omega arith) (omega arith) in
-    let q = pick-lt (ltb base 8) (base % 8) 3 8 (omega arith) (omega arith) in
+    let p = cond-lt (ltb base 8) 6 7 8 (omega arith) (omega arith) in
+    let q = cond-lt (ltb base 8) (base % 8) 3 8 (omega arith) (omega arith) in
     omega (arith, p, q)
 field-lt (Absolute v width.Word) = omega arith
 field-lt (Absolute v width.Long) = omega arith

@@ -6,7 +6,7 @@ use mathlib.Core.List.{List, [], _∷_, _++_, append-assoc}
 use native.Mathlib.Omega.{arith}
 use lib.ListN.{length, length-append}
 use Rattle.isa.specs.declared.Operand.{Operand}
-use Rattle.encode_spec.specs.Item.{Item, wordsIn, countOf, placed}
+use Rattle.encode_spec.specs.Item.{Item, wordsIn, countOf, wordAddress}
 use Rattle.encode_spec.specs.Ea.{eaItems}
 use Rattle.read_spec.specs.declared.Specifier.{Specifier}
 use Rattle.read_spec.specs.declared.Specifier.the-variants as specifier
@@ -190,12 +190,12 @@ tail-sound a l ws h f m r e =
     let g1 : run (operandPart l v) a n s1 ≡ got f m r = subst (λ (k : ℕ). run (operandPart l v) a k s1 ≡ got f m r) (c .2) f1 in
     bind-then (operandTree s (l .source)) (λ o. lastPart l v o) a n s1 f m r g1 (λ o j s2 e2 f2.
     let x = operand-sound s a n (l .source) hs s1 h1 o j s2 e2 in
-    let xs = eaItems o s (placed a n) in
+    let xs = eaItems o s (wordAddress a n) in
     let h2 : Words s2 = rest-words (wordsIn xs) s2 (subst Words (x .2) h1) in
     let g2 : run (lastPart l v o) a (n + countOf xs) s2 ≡ got f m r = subst (λ (k : ℕ). run (lastPart l v o) a k s2 ≡ got f m r) (x .3) f2 in
     bind-then (operandTree s (l .destination)) (λ d. ret (made v o d)) a (n + countOf xs) s2 f m r g2 (λ d k s3 e3 f3.
     let y = operand-sound s a (n + countOf xs) (l .destination) hd s2 h2 d k s3 e3 in
-    let ys = eaItems d s (placed a (n + countOf xs)) in
+    let ys = eaItems d s (wordAddress a (n + countOf xs)) in
     got-subst (FieldsSound a l ws) f3 (
       (g .0, c .0, x .0, y .0),
       made-is v (x .1) (y .1),

@@ -4,7 +4,7 @@ use mathlib.Core.Path.{_≡_}
 use mathlib.Core.Bool.{true}
 use mathlib.Core.List.{List, [], _∷_, _++_}
 use lib.ListN.{length}
-use Rattle.encode_spec.specs.Item.{wordsIn, countOf, placed}
+use Rattle.encode_spec.specs.Item.{wordsIn, countOf, wordAddress}
 use Rattle.encode_spec.specs.Ea.{eaItems}
 use Rattle.read_spec.specs.declared.Specifier.{Specifier}
 use Rattle.read_spec.specs.declared.Specifier.the-variants as specifier
@@ -47,11 +47,11 @@ SpecifierStands specifier.CompareTwo v = TwoStand specifier.CompareTwo v
 
 -- where each operand's words begin; the operation word stands at a
 abbrev pub sourceAt : ℕ → Layout → Tail → ℕ
-sourceAt a l f = placed a (1 + length (specifierWords (l .specifier) (f .value)))
+sourceAt a l f = wordAddress a (1 + length (specifierWords (l .specifier) (f .value)))
 
 abbrev pub destinationAt : ℕ → Layout → Tail → ℕ
 destinationAt a l f =
-    placed a (1 + length (specifierWords (l .specifier) (f .value)) + countOf (eaItems (f .source) (l .size) (sourceAt a l f)))
+    wordAddress a (1 + length (specifierWords (l .specifier) (f .value)) + countOf (eaItems (f .source) (l .size) (sourceAt a l f)))
 
 abbrev pub TailStands : ℕ → Layout → Tail → Type 0
 TailStands a l f =

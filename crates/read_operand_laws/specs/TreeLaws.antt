@@ -7,7 +7,7 @@ use mathlib.Core.List.{List, [], _∷_, _++_}
 use native.Mathlib.Omega.{arith}
 use lib.ListN.{length, replicate, drop, getD, drop-of-length-le}
 use lib.Seq.{drop-cons}
-use Rattle.encode_spec.specs.Item.{placed}
+use Rattle.encode_spec.specs.Item.{wordAddress}
 use Rattle.read_places.specs.Depth.{atOut}
 use Rattle.read_spec.specs.Tree.{Tree, ret, fail, more, Out, got, short, none, run, guard, bind}
 use Rattle.read_places.specs.RunAt.{runAt}
@@ -73,25 +73,25 @@ module _ {A : Type 0} where
   longer-got (ret y) a n ws r x m s e = got-subst (λ z k l. got y n (ws ++ r) ≡ got z k (l ++ r)) e refl
   longer-got fail a n ws r x m s e = none-no e
   longer-got (more k) a n [] r x m s e = short-no e
-  longer-got (more k) a n (w ∷ ws) r x m s e = longer-got (k (placed a n) w) a (n + 1) ws r x m s e
+  longer-got (more k) a n (w ∷ ws) r x m s e = longer-got (k (wordAddress a n) w) a (n + 1) ws r x m s e
 
   pub longer-none : (t : Tree A) (a n : ℕ) (ws r : List ℕ) → run t a n ws ≡ none → run t a n (ws ++ r) ≡ none
   longer-none (ret y) a n ws r e = none-no (sym e)
   longer-none fail a n ws r e = refl
   longer-none (more k) a n [] r e = none-short (sym e)
-  longer-none (more k) a n (w ∷ ws) r e = longer-none (k (placed a n) w) a (n + 1) ws r e
+  longer-none (more k) a n (w ∷ ws) r e = longer-none (k (wordAddress a n) w) a (n + 1) ws r e
 
   zeros : (t : Tree A) → Alive t → (a n : ℕ) → (k : ℕ) × (x : A) × (m : ℕ) × (run t a n (replicate k 0) ≡ got x m [])
   zeros (ret x) l a n = (0, x, n, refl)
   zeros fail l a n = absurd l
-  zeros (more k) l a n = let h = zeros (k (placed a n) 0) (l (placed a n)) a (n + 1) in (suc (h .0), h .1, h .2, h .3)
+  zeros (more k) l a n = let h = zeros (k (wordAddress a n) 0) (l (wordAddress a n)) a (n + 1) in (suc (h .0), h .1, h .2, h .3)
 
   pub completed : (t : Tree A) → Clean t → (a n : ℕ) (ws : List ℕ) → run t a n ws ≡ short
       → (k : ℕ) × (x : A) × (m : ℕ) × (run t a n (ws ++ (0 ∷ replicate k 0)) ≡ got x m [])
   completed (ret x) c a n ws e = got-short e
   completed fail c a n ws e = none-short e
-  completed (more k) c a n [] e = zeros (k (placed a n) 0) (c .0 (placed a n)) a (n + 1)
-  completed (more k) c a n (w ∷ ws) e = completed (k (placed a n) w) (c .1 (placed a n) w) a (n + 1) ws e
+  completed (more k) c a n [] e = zeros (k (wordAddress a n) 0) (c .0 (wordAddress a n)) a (n + 1)
+  completed (more k) c a n (w ∷ ws) e = completed (k (wordAddress a n) w) (c .1 (wordAddress a n) w) a (n + 1) ws e
 
   -- ---- a guard
   pub guard-true : (b : Bool) (t : Tree A) → b ≡ true → guard b t ≡ t
@@ -111,7 +111,7 @@ module _ {A : Type 0} where
 
   -- ---- by place
   step-more : (k : ℕ → ℕ → Tree A) (a n : ℕ) (ws : List ℕ) → n < length ws
-      → run (more k) a n (drop n ws) ≡ run (k (placed a n) (getD ws n 0)) a (n + 1) (drop (n + 1) ws)
+      → run (more k) a n (drop n ws) ≡ run (k (wordAddress a n) (getD ws n 0)) a (n + 1) (drop (n + 1) ws)
   step-more k a n ws h =
       let e : suc n ≡ n + 1 = omega arith in
       ap (λ (l : List ℕ). run (more k) a n l) (drop-cons ws n 0 h ∙ ap (λ (j : ℕ). getD ws n 0 ∷ drop j ws) e)
@@ -122,9 +122,9 @@ module _ {A : Type 0} where
   pub run-at : (t : Tree A) (a : ℕ) (ws : List ℕ) (n : ℕ) → n ≤ length ws → runAt t a ws n ≡ atOut (run t a n (drop n ws))
   run-at (ret x) a ws n h = refl
   run-at fail a ws n h = refl
-  run-at (more k) a ws n h = go (run-at (k (placed a n) (getD ws n 0)) a ws (n + 1)) (lt? n (length ws))
+  run-at (more k) a ws n h = go (run-at (k (wordAddress a n) (getD ws n 0)) a ws (n + 1)) (lt? n (length ws))
     where
-      go : (n + 1 ≤ length ws → runAt (k (placed a n) (getD ws n 0)) a ws (n + 1) ≡ atOut (run (k (placed a n) (getD ws n 0)) a (n + 1) (drop (n + 1) ws)))
+      go : (n + 1 ≤ length ws → runAt (k (wordAddress a n) (getD ws n 0)) a ws (n + 1) ≡ atOut (run (k (wordAddress a n) (getD ws n 0)) a (n + 1) (drop (n + 1) ws)))
           → Lt n (length ws)
           → runAt (more k) a ws n ≡ atOut (run (more k) a n (drop n ws))
       go ih (less p e) = rw e (ih (omega arith) ∙ ap atOut (sym (step-more k a n ws p)))
@@ -141,7 +141,7 @@ module _ {A B : Type 0} where
   run-bind (ret x) f a n ws = refl
   run-bind fail f a n ws = refl
   run-bind (more k) f a n [] = refl
-  run-bind (more k) f a n (w ∷ ws) = run-bind (k (placed a n) w) f a (n + 1) ws
+  run-bind (more k) f a n (w ∷ ws) = run-bind (k (wordAddress a n) w) f a (n + 1) ws
 
   -- the first reads, then the second
   pub bind-got : (t : Tree A) (f : A → Tree B) (a n : ℕ) (ws : List ℕ) (x : A) (m : ℕ) (s : List ℕ) → run t a n ws ≡ got x m s
@@ -153,7 +153,7 @@ module _ {A B : Type 0} where
   bind-split (ret x) f a n ws y m r e = (x, n, ws, refl, e)
   bind-split fail f a n ws y m r e = none-no e
   bind-split (more k) f a n [] y m r e = short-no e
-  bind-split (more k) f a n (w ∷ ws) y m r e = bind-split (k (placed a n) w) f a (n + 1) ws y m r e
+  bind-split (more k) f a n (w ∷ ws) y m r e = bind-split (k (wordAddress a n) w) f a (n + 1) ws y m r e
 
   -- what the whole got, the first got something, and the second the rest
   pub bind-then : {C : Type 0} (t : Tree A) (f : A → Tree B) (a n : ℕ) (ws : List ℕ) (y : B) (m : ℕ) (r : List ℕ)

@@ -8,6 +8,7 @@ use native.Mathlib.Omega.{arith}
 use borrow.Author.Tests.{eq-eqb, ne-eqb}
 use Rattle.isa.specs.declared.Size.{Size}
 use Rattle.isa.specs.declared.Size.the-variants as size
+use Rattle.base_facts.specs.Numbers.{sucs}
 use Rattle.base_facts.specs.Tests.{Lt, less, past, lt?}
 use Rattle.isa_values.specs.ExtensionWord.{indexRegister, indexOperand}
 use Rattle.read_spec.specs.declared.Specifier.the-variants as specifier
@@ -44,10 +45,6 @@ module _ {B : Type 0} (f : ℕ → Tree B) where
   long-then a ws n = runAt-bind (twoWords specifier.Long) f a ws n
 
 -- no register field of mode 7 above 4, and no mode field above 7
-abbrev sucs : ℕ → ℕ → ℕ
-sucs zero k = k
-sucs (suc n) k = suc (sucs n k)
-
 counted : (n k : ℕ) → n ≤ k → k ≡ sucs n (k - n)
 counted zero k h = omega arith
 counted (suc n) zero h = absurd (omega arith)

@@ -1,33 +1,22 @@
 -- The trees of opcode, cut at each place where a function begins.
 use Prim.Native.Nat.{ℕ, _+_, _*_, _%_, _^_}
-use lib.IntN.{ℤ}
 use Rattle.isa.specs.declared.Size.{Size}
 use Rattle.isa.specs.declared.AddressWidth.the-variants as width
 use Rattle.isa.specs.declared.RegisterOperand.the-variants.{Address}
 use Rattle.isa.specs.declared.Operand.{Operand}
-use Rattle.isa.specs.declared.Operand.the-variants.{Immediate, IndirectDisplacement, PcDisplacement, Extended, Absolute}
-use Rattle.isa_spec.specs.ExtensionWord.{baseSize, outerSize}
-use Rattle.encode_spec.specs.Ea.{fromPc}
+use Rattle.isa.specs.declared.Operand.the-variants.{Immediate, IndirectDisplacement, PcDisplacement, Absolute}
 use Rattle.base_spec.specs.Signed.{bitsOf}
 use Rattle.read_spec.specs.declared.Specifier.{Specifier}
 use Rattle.read_spec.specs.declared.Layout.{Layout}
 use Rattle.read_spec.specs.declared.Tail.{Tail}
 use Rattle.read_spec.specs.Tree.{Tree, ret, more, bind, guard}
 use Rattle.read_spec.specs.Number.{signed16, reach}
-use Rattle.read_spec.specs.Operand.{displacementTree, landed, immediateTree, operandTree}
+use Rattle.read_spec.specs.Operand.{immediateTree, operandTree}
 use Rattle.read_spec.specs.Layout.{valid, specifierTree}
 
 -- the second of two words
 abbrev pub secondWord : Specifier → ℕ → Tree ℕ
 secondWord k h = more (λ next l. guard (valid k l) (ret (h * 65536 + l)))
-
--- the outer displacement of a full word, and both
-abbrev pub outerTree : ℕ → ℕ → ℕ → ℤ → Tree Operand
-outerTree base at w z =
-    bind (displacementTree (outerSize w)) (λ outer. ret (Extended base w (landed (fromPc base w) at z) outer))
-
-abbrev pub baseTree : ℕ → ℕ → ℕ → Tree Operand
-baseTree base at w = bind (displacementTree (baseSize w)) (outerTree base at w)
 
 -- mode 5, and the register fields 0, 1, 2 and 4 of mode 7
 abbrev pub displacedTree : ℕ → Tree Operand

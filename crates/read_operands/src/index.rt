@@ -2,9 +2,8 @@
 ghost use mathlib.Core.Path.{_≡_};
 ghost use Prim.Native.Nat.{ℕ};
 ghost use Rattle.read_places.specs.RunAt.{runAt};
-ghost use Rattle.read_spec.specs.Operand.{fullTree, indexOf, indexOperand, scaledOperand, briefOperand, indexedTree};
+ghost use Rattle.read_spec.specs.Operand.{outerTree, baseTree, fullTree, indexOf, indexOperand, scaledOperand, briefOperand, indexedTree};
 ghost use Rattle.read_operands.specs.Read.{operandRead};
-ghost use Rattle.read_operands.specs.Part.{outerTree, baseTree};
 use crate::DisplacementRead;
 use crate::OperandRead;
 use crate::displacement;

@@ -6,11 +6,12 @@ use mathlib.Core.List.{List, [], _∷_}
 use native.Mathlib.Omega.{arith}
 use lib.Dec.{ltb}
 use lib.ListN.{getD, length, take}
+use Rattle.base_facts.specs.Numbers.{sucs}
 use Rattle.isa.specs.declared.Size.{Size}
 use Rattle.isa.specs.declared.Size.the-variants.{Byte, Word, Long}
 use Rattle.isa.specs.declared.DisplacementSize.{DisplacementSize}
 use Rattle.isa.specs.declared.DisplacementSize.the-variants as displacement
-use Rattle.encode_spec.specs.Item.{placed}
+use Rattle.encode_spec.specs.Item.{wordAddress}
 use Rattle.isa_spec.specs.ExtensionWord.{isFull, isCanonical, baseSize, outerSize}
 use Rattle.read_spec.specs.declared.Specifier.{Specifier}
 use Rattle.read_spec.specs.declared.Specifier.the-variants as specifier
@@ -19,10 +20,6 @@ use Rattle.read_spec.specs.Tree.{Tree, ret, fail, more, bind, run, Out, got, sh
 use Rattle.read_places.specs.RunAt.{At, found, ended, refused, runAt}
 use Rattle.read_spec.specs.Operand.{displacementTree, fullTree, briefOperand, indexedTree, immediateTree, specialTree, modeTree, operandTree}
 use Rattle.read_spec.specs.Layout.{valid, oneWord, twoWords, specifierTree, accepts, tailTree}
-
-abbrev plus : ℕ → ℕ → ℕ
-plus zero d = d
-plus (suc c) d = suc (plus c d)
 
 module _ {A : Type 0} where
   abbrev pub Depth : Tree A → ℕ → Type 0
@@ -37,16 +34,16 @@ module _ {A : Type 0} where
   depth-more (more k) zero h = absurd h
   depth-more (more k) (suc c) h = λ at w. depth-more (k at w) c (h at w)
 
-  depth-deeper : (t : Tree A) (c d : ℕ) → Depth t d → Depth t (plus c d)
+  depth-deeper : (t : Tree A) (c d : ℕ) → Depth t d → Depth t (sucs c d)
   depth-deeper t zero d h = h
-  depth-deeper t (suc c) d h = depth-more t (plus c d) (depth-deeper t c d h)
+  depth-deeper t (suc c) d h = depth-more t (sucs c d) (depth-deeper t c d h)
 
-  depth-pick : (b : Bool) (t u : Tree A) (d : ℕ) → Depth t d → Depth u d → Depth (cond b t u) d
-  depth-pick true t u d p q = p
-  depth-pick false t u d p q = q
+  depth-cond : (b : Bool) (t u : Tree A) (d : ℕ) → Depth t d → Depth u d → Depth (cond b t u) d
+  depth-cond true t u d p q = p
+  depth-cond false t u d p q = q
 
 module _ {A B : Type 0} where
-  depth-bind : (t : Tree A) (f : A → Tree B) (c d : ℕ) → Depth t c → ((x : A) → Depth (f x) d) → Depth (bind t f) (plus c d)
+  depth-bind : (t : Tree A) (f : A → Tree B) (c d : ℕ) → Depth t c → ((x : A) → Depth (f x) d) → Depth (bind t f) (sucs c d)
   depth-bind (ret x) f c d h g = depth-deeper (f x) c d (g x)
   depth-bind fail f c d h g = tt
   depth-bind (more k) f zero d h g = absurd h
@@ -59,18 +56,18 @@ displacement-depth displacement.Word = λ at w. tt
 displacement-depth displacement.Long = λ at w. λ next v. tt
 
 immediate-depth : (s : Size) → Depth (immediateTree s) 2
-immediate-depth Byte = λ at w. depth-pick (ltb w 256) (ret w) fail 1 tt tt
+immediate-depth Byte = λ at w. depth-cond (ltb w 256) (ret w) fail 1 tt tt
 immediate-depth Word = λ at w. tt
 immediate-depth Long = λ at w. λ next v. tt
 
 full-depth : (base at w : ℕ) → Depth (fullTree base at w) 4
 full-depth base at w =
-    depth-pick (isCanonical w) _ fail 4
+    depth-cond (isCanonical w) _ fail 4
     (depth-bind (displacementTree (baseSize w)) _ 2 2 (displacement-depth (baseSize w)) (λ z. depth-bind (displacementTree (outerSize w)) _ 2 0 (displacement-depth (outerSize w)) (λ outer. tt)))
     tt
 
 indexed-depth : (base : ℕ) → Depth (indexedTree base) 5
-indexed-depth base = λ at w. depth-pick (isFull w) (fullTree base at w) (ret (briefOperand base at w)) 4 (full-depth base at w) tt
+indexed-depth base = λ at w. depth-cond (isFull w) (fullTree base at w) (ret (briefOperand base at w)) 4 (full-depth base at w) tt
 
 special-depth : (s : Size) (k : ℕ) → Depth (specialTree s k) 5
 special-depth s zero = λ at w. tt
@@ -96,10 +93,10 @@ operand-depth s ea = mode-depth s (ea / 8) (ea % 8)
 
 -- ---- a specifier's at most two, so that what follows an operation word has at most twelve
 one-depth : (k : Specifier) → Depth (oneWord k) 2
-one-depth k = λ at w. depth-pick (valid k w) (ret w) fail 1 tt tt
+one-depth k = λ at w. depth-cond (valid k w) (ret w) fail 1 tt tt
 
 two-depth : (k : Specifier) → Depth (twoWords k) 2
-two-depth k = λ at w. depth-pick (valid k w) _ fail 1 (λ next v. depth-pick (valid k v) _ fail 0 tt tt) tt
+two-depth k = λ at w. depth-cond (valid k w) _ fail 1 (λ next v. depth-cond (valid k v) _ fail 0 tt tt) tt
 
 specifier-depth : (k : Specifier) → Depth (specifierTree k) 2
 specifier-depth specifier.Nothing = tt
@@ -115,7 +112,7 @@ specifier-depth specifier.CompareTwo = two-depth specifier.CompareTwo
 
 pub tail-depth : (l : Layout) → Depth (tailTree l) 12
 tail-depth l =
-    depth-pick (accepts l) _ fail 12
+    depth-cond (accepts l) _ fail 12
     (depth-bind (specifierTree (l .specifier)) _ 2 10 (specifier-depth (l .specifier)) (λ v.
     depth-bind (operandTree (l .size) (l .source)) _ 5 5 (operand-depth (l .size) (l .source)) (λ o.
     depth-bind (operandTree (l .size) (l .destination)) _ 5 0 (operand-depth (l .size) (l .destination)) (λ d. tt))))
@@ -127,9 +124,9 @@ Within (found x m) n = m ≤ n
 Within ended n = Unit {0}
 Within refused n = Unit {0}
 
-within-pick : {A : Type 0} (b : Bool) (r : At A) (n : ℕ) → Within r n → Within (cond b r ended) n
-within-pick true r n h = h
-within-pick false r n h = tt
+within-cond : {A : Type 0} (b : Bool) (r : At A) (n : ℕ) → Within r n → Within (cond b r ended) n
+within-cond true r n h = h
+within-cond false r n h = tt
 
 within-more : {A : Type 0} (r : At A) (m n : ℕ) → m ≤ n → Within r m → Within r n
 within-more (found x k) m n l h = omega arith
@@ -141,7 +138,7 @@ depth-within (ret x) d h a ws n = omega arith
 depth-within fail d h a ws n = tt
 depth-within (more k) zero h a ws n = absurd h
 depth-within (more k) (suc d) h a ws n =
-    within-pick (ltb n (length ws)) (runAt (k (placed a n) (getD ws n 0)) a ws (n + 1)) (n + suc d) (within-more (runAt (k (placed a n) (getD ws n 0)) a ws (n + 1)) (n + 1 + d) (n + suc d) (omega arith) (depth-within (k (placed a n) (getD ws n 0)) d (h (placed a n) (getD ws n 0)) a ws (n + 1)))
+    within-cond (ltb n (length ws)) (runAt (k (wordAddress a n) (getD ws n 0)) a ws (n + 1)) (n + suc d) (within-more (runAt (k (wordAddress a n) (getD ws n 0)) a ws (n + 1)) (n + 1 + d) (n + suc d) (omega arith) (depth-within (k (wordAddress a n) (getD ws n 0)) d (h (wordAddress a n) (getD ws n 0)) a ws (n + 1)))
 
 abbrev pub atOut : {A : Type 0} → Out A → At A
 atOut (got x m r) = found x m
@@ -153,4 +150,4 @@ depth-take (ret x) d h a n ws = refl
 depth-take fail d h a n ws = refl
 depth-take (more k) zero h a n ws = absurd h
 depth-take (more k) (suc d) h a n [] = refl
-depth-take (more k) (suc d) h a n (w ∷ ws) = depth-take (k (placed a n) w) d (h (placed a n) w) a (n + 1) ws
+depth-take (more k) (suc d) h a n (w ∷ ws) = depth-take (k (wordAddress a n) w) d (h (wordAddress a n) w) a (n + 1) ws

@@ -13,7 +13,7 @@ groupOf high = groupAt (high / 64) (high / 8 % 8) (high % 8)
 abbrev pub groups : List Group
 groups =
     group.Unused ∷ group.ImmediateInto ∷ group.StaticBit ∷ group.DynamicBitMovep ∷ group.MOVES ∷ group.Bounds ∷ group.CAS ∷ group.MOVE
-    ∷ group.OneOperand ∷ group.UnsizedOne ∷ group.NbcdLink ∷ group.PeaSwapBkpt ∷ group.MovemExt ∷ group.MULL ∷ group.DIVL ∷ group.System ∷ group.LeaExtb
+    ∷ group.OneOperand ∷ group.UnsizedOneIllegal ∷ group.NbcdLink ∷ group.PeaSwapBkpt ∷ group.MovemExt ∷ group.MULL ∷ group.DIVL ∷ group.System ∷ group.LeaExtb
     ∷ group.CHK ∷ group.Quick ∷ group.Conditional ∷ group.Branch ∷ group.MOVEQ ∷ group.IntoData ∷ group.ArithmeticExtended ∷ group.LogicDecimal
     ∷ group.LogicPack ∷ group.LogicExchange ∷ group.LogicCompare ∷ group.WordIntoData ∷ group.IntoAddress ∷ group.ShiftRegister ∷ group.ShiftMemory
     ∷ group.BitField ∷ group.LineA ∷ group.LineF ∷ []
@@ -28,7 +28,7 @@ groupNumber group.Bounds = 5
 groupNumber group.CAS = 6
 groupNumber group.MOVE = 7
 groupNumber group.OneOperand = 8
-groupNumber group.UnsizedOne = 9
+groupNumber group.UnsizedOneIllegal = 9
 groupNumber group.NbcdLink = 10
 groupNumber group.PeaSwapBkpt = 11
 groupNumber group.MovemExt = 12

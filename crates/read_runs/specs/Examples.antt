@@ -3,7 +3,7 @@ use mathlib.Core.Path.{_≡_, refl}
 use mathlib.Core.Bool.{true}
 use mathlib.Core.List.{[], _∷_}
 use lib.ListN.{replicate}
-use Rattle.print_spec.specs.Run.{keptRun, noRun, runOf}
+use Rattle.read_runs.specs.Kept.{keptRun, noRun, runOf}
 
 -- 4096⇥66fC
 read : runOf (52 ∷ 48 ∷ 57 ∷ 54 ∷ 9 ∷ 54 ∷ 54 ∷ 102 ∷ 67 ∷ []) ≡ record { ok = true; address = 4096; count = 1; words = 26364 ∷ replicate 15 0 }

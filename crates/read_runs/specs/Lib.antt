@@ -1,3 +1,4 @@
+pub mod Kept
 pub mod Step
 pub mod RunLaws
 pub mod Examples

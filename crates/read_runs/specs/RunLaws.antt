@@ -16,34 +16,28 @@ use Rattle.base_spec.specs.Parts.{fields}
 use Rattle.base_text.specs.PartLaws.{partsFrom, parts-at, parts-start, parts-past, part-is}
 use Rattle.base_spec.specs.Number.{numberOf}
 use Rattle.base_spec.specs.Numbers.{magnitudeOf}
-use Rattle.print_spec.specs.declared.Run.{Run}
+use Rattle.read_runs.specs.declared.Run.{Run}
 use Rattle.read_runs.specs.declared.Word.{Word}
 use Rattle.read_runs.specs.declared.Word.the-variants.{Is, No}
-use Rattle.print_spec.specs.Run.{within, hexValue, isWord, wordIn, allWords, wordsIn, isAddress, keptRun, noRun, runIn, runOf}
+use Rattle.print_spec.specs.Run.{within, hexValue, isWordField, wordIn, allWords, fieldWords, isAddressField}
+use Rattle.read_runs.specs.Kept.{keptRun, noRun, runIn, runOf}
 use Rattle.read_runs.specs.Step.{fourDigits, wordOf, startAt, startOf, placedWord, withWord}
-use Rattle.base_facts.specs.Tests.{cond-true, cond-false}
+use Rattle.base_facts.specs.Tests.{and-true, cond-true, cond-false}
 
 -- ---- tests
-and-left : (s t : Bool) → s && t ≡ true → s ≡ true
-and-left true t e = refl
-and-left false t e = e
-
-and-right : (s t : Bool) → s && t ≡ true → t ≡ true
-and-right true t e = e
-and-right false t e = let z : true ≡ false = sym e in cc
-
 pub within-low : (low high b : ℕ) → within low high b ≡ true → low ≤ b
-within-low low high b e = leb-true low b (and-left (leb low b) (leb b high) e)
+within-low low high b e = leb-true low b (and-true (leb low b) (leb b high) e .0)
 
 -- ---- words
 pub four-fit : (a b c d : ℕ) → ltb a 16 && ltb b 16 && ltb c 16 && ltb d 16 ≡ true → a * 4096 + b * 256 + c * 16 + d < 2 ^ 16
 four-fit a b c d e =
-    let abc = and-left (ltb a 16 && ltb b 16 && ltb c 16) (ltb d 16) e in
-    let ab = and-left (ltb a 16 && ltb b 16) (ltb c 16) abc in
-    let k : a < 16 = ltb-true a 16 (and-left (ltb a 16) (ltb b 16) ab) in
-    let l : b < 16 = ltb-true b 16 (and-right (ltb a 16) (ltb b 16) ab) in
-    let m : c < 16 = ltb-true c 16 (and-right (ltb a 16 && ltb b 16) (ltb c 16) abc) in
-    let n : d < 16 = ltb-true d 16 (and-right (ltb a 16 && ltb b 16 && ltb c 16) (ltb d 16) e) in
+    let abcd = and-true (ltb a 16 && ltb b 16 && ltb c 16) (ltb d 16) e in
+    let abc = and-true (ltb a 16 && ltb b 16) (ltb c 16) (abcd .0) in
+    let ab = and-true (ltb a 16) (ltb b 16) (abc .0) in
+    let k : a < 16 = ltb-true a 16 (ab .0) in
+    let l : b < 16 = ltb-true b 16 (ab .1) in
+    let m : c < 16 = ltb-true c 16 (abc .1) in
+    let n : d < 16 = ltb-true d 16 (abcd .1) in
     omega arith
 
 four-tests : (s t u v : Bool) → s && t && u && v ≡ s && (t && (u && (v && true)))
@@ -74,9 +68,9 @@ word-not f h = rw (ne-eqb (length f) 4 h)
 
 -- ---- the run, a word at a time
 pub below-32 : (negative : Bool) (n : ℕ) → not negative && ltb n (2 ^ 32) ≡ true → n < 2 ^ 32
-below-32 negative n e = ltb-true n (2 ^ 32) (and-right (not negative) (ltb n (2 ^ 32)) e)
+below-32 negative n e = ltb-true n (2 ^ 32) (and-true (not negative) (ltb n (2 ^ 32)) e .1)
 
-start-is : (n : Number) → startOf n ≡ cond (isAddress n) (keptRun (magnitudeOf n) []) noRun
+start-is : (n : Number) → startOf n ≡ cond (isAddressField n) (keptRun (magnitudeOf n) []) noRun
 unfolding startAt keptRun
 start-is (number.Is negative n) = refl
 start-is number.No = refl
@@ -118,7 +112,7 @@ module _ (address : ℕ) (ws : List ℕ) (w : ℕ) where
       go (no h) = full (omega arith)
 
 pub has-room : (r : Run) → r .ok && ltb (r .count) 16 ≡ true → r .count < 16
-has-room r e = ltb-true (r .count) 16 (and-right (r .ok) (ltb (r .count) 16) e)
+has-room r e = ltb-true (r .count) 16 (and-true (r .ok) (ltb (r .count) 16) e .1)
 
 pub placed-yes : (r : Run) (w : ℕ) → r .ok && ltb (r .count) 16 ≡ true
     → record { ok = r .ok; address = r .address; count = r .count + 1; words = set (r .words) (r .count) w } ≡ placedWord r w
@@ -143,28 +137,28 @@ on-no : (ws : List Word) → runOn noRun ws ≡ noRun
 on-no [] = refl
 on-no (w ∷ ws) = ap (λ (r : Run). runOn r ws) (no-more w) ∙ on-no ws
 
-word-yes : (f : List ℕ) → isWord f ≡ true → wordOf f ≡ Is (wordIn f)
+word-yes : (f : List ℕ) → isWordField f ≡ true → wordOf f ≡ Is (wordIn f)
 unfolding wordOf
 word-yes f e = rw e
 
-word-no : (f : List ℕ) → isWord f ≡ false → wordOf f ≡ No
+word-no : (f : List ℕ) → isWordField f ≡ false → wordOf f ≡ No
 unfolding wordOf
 word-no f e = rw e
 
-kept-on : (address : ℕ) (ps : List ℕ) (fs : List (List ℕ)) → runOn (keptRun address ps) (map wordOf fs) ≡ cond (allWords fs) (keptRun address (ps ++ wordsIn fs)) noRun
+kept-on : (address : ℕ) (ps : List ℕ) (fs : List (List ℕ)) → runOn (keptRun address ps) (map wordOf fs) ≡ cond (allWords fs) (keptRun address (ps ++ fieldWords fs)) noRun
 kept-on address ps [] = rw (append-nil ps)
-kept-on address ps (f ∷ fs) = go (isWord f) refl (kept-on address (ps ++ (wordIn f ∷ [])) fs)
+kept-on address ps (f ∷ fs) = go (isWordField f) refl (kept-on address (ps ++ (wordIn f ∷ [])) fs)
   where
-    go : (t : Bool) → isWord f ≡ t
-        → runOn (keptRun address (ps ++ (wordIn f ∷ []))) (map wordOf fs) ≡ cond (allWords fs) (keptRun address (ps ++ (wordIn f ∷ []) ++ wordsIn fs)) noRun
-        → runOn (withWord (keptRun address ps) (wordOf f)) (map wordOf fs) ≡ cond (t && allWords fs) (keptRun address (ps ++ (wordIn f ∷ wordsIn fs))) noRun
-    go true e h = rw (word-yes f e, kept-more address ps (wordIn f), sym (append-snoc ps (wordIn f) (wordsIn fs))) h
+    go : (t : Bool) → isWordField f ≡ t
+        → runOn (keptRun address (ps ++ (wordIn f ∷ []))) (map wordOf fs) ≡ cond (allWords fs) (keptRun address (ps ++ (wordIn f ∷ []) ++ fieldWords fs)) noRun
+        → runOn (withWord (keptRun address ps) (wordOf f)) (map wordOf fs) ≡ cond (t && allWords fs) (keptRun address (ps ++ (wordIn f ∷ fieldWords fs))) noRun
+    go true e h = rw (word-yes f e, kept-more address ps (wordIn f), sym (append-snoc ps (wordIn f) (fieldWords fs))) h
     go false e h = rw (word-no f e) (on-no (map wordOf fs))
 
 run-on : (f : List ℕ) (fs : List (List ℕ)) → runIn (f ∷ fs) ≡ runOn (startOf (numberOf f)) (map wordOf fs)
-run-on f fs = rw (start-is (numberOf f)) (go (isAddress (numberOf f)))
+run-on f fs = rw (start-is (numberOf f)) (go (isAddressField (numberOf f)))
   where
-    go : (t : Bool) → cond (t && allWords fs) (keptRun (magnitudeOf (numberOf f)) (wordsIn fs)) noRun
+    go : (t : Bool) → cond (t && allWords fs) (keptRun (magnitudeOf (numberOf f)) (fieldWords fs)) noRun
         ≡ runOn (cond t (keptRun (magnitudeOf (numberOf f)) []) noRun) (map wordOf fs)
     go true = sym (kept-on (magnitudeOf (numberOf f)) [] fs)
     go false = sym (on-no (map wordOf fs))
@@ -203,7 +197,7 @@ room-if false address ws = (omega arith, refl)
 room-in : (fs : List (List ℕ)) → (runIn fs .count ≤ 16) × (length (runIn fs .words) ≡ 16)
 unfolding noRun
 room-in [] = (omega arith, refl)
-room-in (f ∷ fs) = room-if (isAddress (numberOf f) && allWords fs) (magnitudeOf (numberOf f)) (wordsIn fs)
+room-in (f ∷ fs) = room-if (isAddressField (numberOf f) && allWords fs) (magnitudeOf (numberOf f)) (fieldWords fs)
 
 pub run-count : (line : List ℕ) → runOf line .count ≤ 16
 unfolding runOf

@@ -6,10 +6,11 @@ use lib.Dec.{ltb}
 use lib.ListN.{replicate, set}
 use Rattle.base_spec.specs.declared.Number.{Number}
 use Rattle.base_spec.specs.declared.Number.the-variants as number
-use Rattle.print_spec.specs.declared.Run.{Run}
+use Rattle.read_runs.specs.declared.Run.{Run}
 use Rattle.read_runs.specs.declared.Word.{Word}
 use Rattle.read_runs.specs.declared.Word.the-variants.{Is, No}
-use Rattle.print_spec.specs.Run.{isWord, wordIn, noRun}
+use Rattle.print_spec.specs.Run.{isWordField, wordIn}
+use Rattle.read_runs.specs.Kept.{noRun}
 
 -- the word of four digits
 abbrev pub fourDigits : ℕ → ℕ → ℕ → ℕ → Word
@@ -17,7 +18,7 @@ fourDigits a b c d = cond (ltb a 16 && ltb b 16 && ltb c 16 && ltb d 16) (Is (a 
 
 -- what a field says
 unfoldable pub wordOf : List ℕ → Word
-wordOf f = cond (isWord f) (Is (wordIn f)) No
+wordOf f = cond (isWordField f) (Is (wordIn f)) No
 
 -- a run of no words yet
 unfoldable pub startAt : Bool → ℕ → Run

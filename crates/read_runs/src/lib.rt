@@ -1,9 +1,17 @@
 // From a line to a run: its address in decimal, then its words in hexadecimal, parted by tabs.
 ghost use mathlib.Core.Path.{_≡_};
-ghost use Rattle.print_spec.specs.Run.{hexValue, noRun, runOf};
+ghost use Rattle.print_spec.specs.Run.{hexValue};
+ghost use Rattle.read_runs.specs.Kept.{noRun, runOf};
 ghost use Rattle.read_runs.specs.Step.{fourDigits, wordOf, startAt, startOf, placedWord, withWord};
 use base_spec::Number;
-use print_spec::Run;
+
+// The first 16 words of a run, and how many they are; the other places are 0.
+pub struct Run {
+    pub ok: bool,
+    pub address: u32,
+    pub count: usize,
+    pub words: [u16; 16],
+}
 
 pub enum Word {
     Is(u16),

@@ -13,7 +13,7 @@ use Rattle.isa.specs.declared.BranchSize.the-variants.{Short}
 use Rattle.isa.specs.declared.BranchOperation.{BranchOperation}
 use Rattle.isa.specs.declared.Condition.{Condition}
 use Rattle.isa.specs.declared.TrapOperand.the-variants as trap
-use Rattle.encode_spec.specs.Item.{fine, placed}
+use Rattle.encode_spec.specs.Item.{fine, wordAddress}
 use Rattle.encode_spec.specs.Encode.{refusalOf, wordsOf}
 use Rattle.encode_spec.specs.Ea.{distance}
 use Rattle.read_spec.specs.LeftOut.{leftOut}
@@ -88,8 +88,8 @@ Accepted a i = InstructionInTypes i × (refusalOf true i a ≡ fine) × (leftOut
 
 -- a short branch of -1, at a
 pub data MinusOne (a : ℕ) : Instruction → Type 0 where
-  always : (op : BranchOperation) (t : ℕ) → distance t (placed a 1) ≡ negsuc 0 → MinusOne a (Branch op t Short)
-  where-true : (t : ℕ) (c : Condition) → distance t (placed a 1) ≡ negsuc 0 → MinusOne a (Bcc t c Short)
+  always : (op : BranchOperation) (t : ℕ) → distance t (wordAddress a 1) ≡ negsuc 0 → MinusOne a (Branch op t Short)
+  where-true : (t : ℕ) (c : Condition) → distance t (wordAddress a 1) ≡ negsuc 0 → MinusOne a (Bcc t c Short)
 
 -- what `encode` accepts, IllegalWord and SIMHALT apart
 pub data Accepts (a : ℕ) (i : Instruction) : Type 0 where

@@ -15,15 +15,11 @@ use Rattle.isa.specs.declared.RegisterChoice.the-variants.{None, Some}
 use Rattle.isa.specs.declared.RegisterOperand.the-variants.{Address, Data}
 use Rattle.isa.specs.declared.Operand.{Operand}
 use Rattle.isa.specs.declared.Operand.the-variants.{Immediate, Register, Indirect, PostIndirect, PreIndirect, IndirectDisplacement, IndirectIndex, PcDisplacement, PcIndex, Extended, Absolute}
-use Rattle.isa.specs.declared.RegisterOperation.the-variants.{MOVEA, CMP, CHK2, CMP2}
+use Rattle.isa.specs.declared.RegisterOperation.the-variants.{MOVEA, CMP}
 use Rattle.isa.specs.declared.TransferOperation.the-variants.{MOVEP, MOVES}
 use Rattle.isa.specs.declared.PairOperation.the-variants.{MOVE, CMPM, OR, AND, EOR}
-use Rattle.isa.specs.declared.QuickOperation.the-variants.{ADDQ, SUBQ}
-use Rattle.isa.specs.declared.WordOperation.the-variants.{DIVx, MULx}
-use Rattle.isa.specs.declared.UnsizedRegisterOperation.the-variants.{LEA, CHK, CHKL}
+use Rattle.isa.specs.declared.UnsizedRegisterOperation.the-variants.{LEA, CHK}
 use Rattle.isa.specs.declared.UnsizedOneOperation.the-variants.{PEA, NBCD}
-use Rattle.isa.specs.declared.UnsizedPairOperation.the-variants.{ABCD, SBCD}
-use Rattle.isa.specs.declared.PackOperation.the-variants.{PACK, UNPK}
 use Rattle.isa.specs.declared.BranchOperation.the-variants.{BRA, BSR}
 use Rattle.isa.specs.declared.LinkOperation.the-variants.{LINK, LINKL}
 use Rattle.isa.specs.declared.StatusOperation.the-variants.{STOP}
@@ -34,13 +30,13 @@ use Rattle.isa.specs.declared.Instruction.{Instruction}
 use Rattle.isa.specs.declared.Instruction.the-variants.{IntoRegister, MOVEM, Transfer, Pair, Quick, MOVEQ, ImmediateInto, WordIntoData, SWAP, EXG, UnsizedIntoRegister, UnsizedOne, UnsizedPair, EXT, OneOperand, Bcc, Scc, DBcc, Branch, Link, UNLK, Shift, Vector, Status, ConditionCode, MOVEUSP, Raw, NoOperand, RTD, MOVEC, TRAPcc, MULL, Pack, CAS, CAS2, BF, DIVL}
 use Rattle.base_spec.specs.Signed.{signed32, bitsOf}
 use Rattle.isa_spec.specs.Condition.{conditionOf}
-use Rattle.encode_spec.specs.Item.{placed}
+use Rattle.encode_spec.specs.Item.{wordAddress}
 use Rattle.read_spec.specs.declared.Group.{Group}
 use Rattle.read_spec.specs.declared.Group.the-variants as group
 use Rattle.read_spec.specs.Number.{signed8, signed16, reach}
 use Rattle.read_spec.specs.Tree.{Tree, ret, fail}
 use Rattle.read_spec.specs.Operand.{generalOf}
-use Rattle.read_spec.specs.Operation.{sizeAt, moveSize, signAt, immediateAt, toStatus, conditionCodeAt, statusAt, bitAt, toMemoryAt, oneAt, unsizedAt, countAt, pairAt, extendAt, addressAt, eitherAt, shiftAt, directionAt, shiftCount, bitFieldAt, valueAt, trapAt}
+use Rattle.read_spec.specs.Operation.{sizeAt, moveSize, longAt, boundsAt, chkAt, quickAt, wordAt, decimalAt, packAt, exchangedAt, fieldIn, signAt, immediateAt, toStatus, conditionCodeAt, statusAt, bitAt, toMemoryAt, oneAt, unsizedAt, countAt, pairAt, extendAt, addressAt, eitherAt, shiftAt, directionAt, shiftCount, bitFieldAt, trapAt}
 use Rattle.read_spec.specs.Layouts.{isExchange}
 
 abbrev pub dataOperand : ℕ → Operand
@@ -50,10 +46,13 @@ dataOperand k = Register (Data k)
 abbrev pub extended : ℕ → ℕ
 extended v = bitsOf (signed16 v) % 2 ^ 32
 
+-- ORI, ANDI and EORI to CCR, and to SR
+abbrev pub statusDecoded : ℕ → ℕ → ℕ → Instruction
+statusDecoded x opmode v = cond (eqb opmode 0) (ConditionCode (conditionCodeAt x) (v % 256)) (Status (statusAt x) (v % 65536))
+
 abbrev pub immediateDecoded : ℕ → ℕ → ℕ → ℕ → Operand → Instruction
 immediateDecoded x opmode ea v o =
-    cond (toStatus x opmode ea) (cond (eqb opmode 0) (ConditionCode (conditionCodeAt x) (v % 256)) (Status (statusAt x) (v % 65536)))
-    (ImmediateInto (immediateAt x) v o (sizeAt opmode))
+    cond (toStatus x opmode ea) (statusDecoded x opmode v) (ImmediateInto (immediateAt x) v o (sizeAt opmode))
 
 -- MOVEP takes d16(An) only
 abbrev pub movepDecoded : ℕ → ℕ → Operand → Tree Instruction
@@ -74,7 +73,7 @@ abbrev pub dynamicBitMovepDecoded : ℕ → ℕ → ℕ → Operand → Tree Ins
 dynamicBitMovepDecoded x opmode ea o = cond (eqb (ea / 8) 1) (movepDecoded x opmode o) (ret (UnsizedPair (bitAt (opmode - 4)) (dataOperand x) o))
 
 abbrev pub boundsDecoded : ℕ → ℕ → Operand → Instruction
-boundsDecoded x v o = IntoRegister (cond (eqb (v / 2048 % 2) 1) CHK2 CMP2) o (generalOf (v / 4096 % 16)) (sizeAt x)
+boundsDecoded x v o = IntoRegister (boundsAt v) o (generalOf (v / 4096 % 16)) (sizeAt x)
 
 abbrev pub movesDecoded : ℕ → ℕ → Operand → Instruction
 movesDecoded opmode v o = Transfer MOVES (toMemoryAt (v / 2048 % 2)) (sizeAt opmode) (generalOf (v / 4096 % 16)) o
@@ -89,8 +88,8 @@ casDecoded x ea v o = cond (eqb ea 60 && leb 6 x) (cas2Decoded x (v / 65536) (v 
 abbrev pub moveDecoded : ℕ → ℕ → ℕ → Operand → Operand → Instruction
 moveDecoded line x opmode o d = cond (eqb opmode 1) (IntoRegister MOVEA o (Address x) (moveSize line)) (Pair MOVE o d (moveSize line))
 
-abbrev pub unsizedOneDecoded : ℕ → ℕ → ℕ → Operand → Instruction
-unsizedOneDecoded x opmode ea o = cond (eqb x 5 && eqb ea 60) (NoOperand ILLEGAL) (UnsizedOne (unsizedAt x opmode) o)
+abbrev pub unsizedOneIllegalDecoded : ℕ → ℕ → ℕ → Operand → Instruction
+unsizedOneIllegalDecoded x opmode ea o = cond (eqb x 5 && eqb ea 60) (NoOperand ILLEGAL) (UnsizedOne (unsizedAt x opmode) o)
 
 abbrev pub nbcdLinkDecoded : ℕ → ℕ → Operand → Instruction
 nbcdLinkDecoded ea v o = cond (eqb (ea / 8) 1) (Link LINKL (Address (ea % 8)) v) (UnsizedOne NBCD o)
@@ -142,12 +141,12 @@ abbrev pub leaExtbDecoded : ℕ → ℕ → Operand → Instruction
 leaExtbDecoded x ea o = cond (eqb x 4 && ltb ea 8) (EXT (Data ea) Byte Long) (UnsizedIntoRegister LEA o (Address x))
 
 abbrev pub quickDecoded : ℕ → ℕ → Operand → Instruction
-quickDecoded x opmode o = Quick (cond (leb 4 opmode) SUBQ ADDQ) (countAt x) o (sizeAt (opmode % 4))
+quickDecoded x opmode o = Quick (quickAt opmode) (countAt x) o (sizeAt (opmode % 4))
 
 -- k is the condition's code
 abbrev pub conditionalDecoded : ℕ → ℕ → ℕ → ℕ → Operand → Instruction
 conditionalDecoded a k ea v o =
-    cond (eqb (ea / 8) 1) (DBcc (Data (ea % 8)) (reach (placed a 1) (signed16 (v % 65536))) (conditionOf k))
+    cond (eqb (ea / 8) 1) (DBcc (Data (ea % 8)) (reach (wordAddress a 1) (signed16 (v % 65536))) (conditionOf k))
     (cond (leb 58 ea && leb ea 60) (TRAPcc (conditionOf k) (trapAt ea v)) (Scc o (conditionOf k)))
 
 -- the conditions T and F of a branch are BRA and BSR
@@ -156,9 +155,9 @@ branchTo k t s = cond (eqb k 0) (Branch BRA t s) (cond (eqb k 1) (Branch BSR t s
 
 abbrev pub branchDecoded : ℕ → ℕ → ℕ → ℕ → Instruction
 branchDecoded a k byte v =
-    cond (eqb byte 0) (branchTo k (reach (placed a 1) (signed16 (v % 65536))) branch.Word)
-    (cond (eqb byte 255) (branchTo k (reach (placed a 1) (signed32 v)) branch.Long)
-    (branchTo k (reach (placed a 1) (signed8 byte)) branch.Short))
+    cond (eqb byte 0) (branchTo k (reach (wordAddress a 1) (signed16 (v % 65536))) branch.Word)
+    (cond (eqb byte 255) (branchTo k (reach (wordAddress a 1) (signed32 v)) branch.Long)
+    (branchTo k (reach (wordAddress a 1) (signed8 byte)) branch.Short))
 
 abbrev pub intoDataDecoded : ℕ → ℕ → ℕ → Operand → Instruction
 intoDataDecoded line x opmode o =
@@ -171,18 +170,18 @@ arithmeticDecoded line x opmode ea o =
 
 abbrev pub logicDecimalDecoded : ℕ → ℕ → ℕ → Operand → Instruction
 logicDecimalDecoded line x ea o =
-    cond (ltb ea 16) (UnsizedPair (cond (eqb line 8) SBCD ABCD) (eitherAt ea (ea % 8)) (eitherAt ea x))
+    cond (ltb ea 16) (UnsizedPair (decimalAt line) (eitherAt ea (ea % 8)) (eitherAt ea x))
     (Pair (pairAt line) (dataOperand x) o Byte)
 
 abbrev pub logicPackDecoded : ℕ → ℕ → ℕ → ℕ → Operand → Instruction
 logicPackDecoded x opmode ea v o =
-    cond (ltb ea 16) (Pack (cond (eqb opmode 5) PACK UNPK) (eitherAt ea (ea % 8)) (eitherAt ea x) (v % 65536))
+    cond (ltb ea 16) (Pack (packAt opmode) (eitherAt ea (ea % 8)) (eitherAt ea x) (v % 65536))
     (Pair OR (dataOperand x) o (sizeAt (opmode - 4)))
 
 -- the registers of EXG: bit 3 and opmode 101 say two data or two address registers, opmode 110 a data and an address register
 abbrev pub exchanged : ℕ → ℕ → ℕ → Instruction
 exchanged x opmode ea =
-    cond (ltb ea 8) (EXG (Data x) (Data (ea % 8))) (EXG (cond (eqb opmode 5) (Address x) (Data x)) (Address (ea % 8)))
+    cond (ltb ea 8) (EXG (Data x) (Data (ea % 8))) (EXG (exchangedAt x opmode) (Address (ea % 8)))
 
 abbrev pub logicExchangeDecoded : ℕ → ℕ → ℕ → Operand → Instruction
 logicExchangeDecoded x opmode ea o = cond (isExchange opmode ea) (exchanged x opmode ea) (Pair AND (dataOperand x) o (sizeAt (opmode - 4)))
@@ -219,7 +218,7 @@ logicCompareDecoded x opmode ea o d =
     cond (eqb (ea / 8) 1) (cmpmDecoded (sizeAt (opmode - 4)) o d) (ret (Pair EOR (dataOperand x) o (sizeAt (opmode - 4))))
 
 abbrev pub wordDecoded : ℕ → ℕ → ℕ → Operand → Instruction
-wordDecoded line x opmode o = WordIntoData (cond (eqb line 8) DIVx MULx) o (Data x) (signAt (opmode / 4))
+wordDecoded line x opmode o = WordIntoData (wordAt line) o (Data x) (signAt (opmode / 4))
 
 abbrev pub shiftDecoded : ℕ → ℕ → ℕ → Instruction
 shiftDecoded x opmode ea =
@@ -227,7 +226,7 @@ shiftDecoded x opmode ea =
 
 abbrev pub bitFieldDecoded : ℕ → ℕ → ℕ → Operand → Instruction
 bitFieldDecoded x opmode v o =
-    BF (bitFieldAt ((x - 4) * 2 + opmode / 4)) o (record { offset = valueAt (v / 64 % 64); width = valueAt (v % 64) }) (v / 4096 % 8)
+    BF (bitFieldAt ((x - 4) * 2 + opmode / 4)) o (fieldIn v) (v / 4096 % 8)
 
 abbrev pub wordOf : ℕ → ℕ → ℕ → ℕ → ℕ
 wordOf line x opmode ea = (line * 64 + x * 8 + opmode) * 64 + ea
@@ -242,7 +241,7 @@ decoded a group.Bounds line x opmode ea v o d = ret (boundsDecoded x v o)
 decoded a group.CAS line x opmode ea v o d = ret (casDecoded x ea v o)
 decoded a group.MOVE line x opmode ea v o d = ret (moveDecoded line x opmode o d)
 decoded a group.OneOperand line x opmode ea v o d = ret (OneOperand (oneAt x) o (sizeAt opmode))
-decoded a group.UnsizedOne line x opmode ea v o d = ret (unsizedOneDecoded x opmode ea o)
+decoded a group.UnsizedOneIllegal line x opmode ea v o d = ret (unsizedOneIllegalDecoded x opmode ea o)
 decoded a group.NbcdLink line x opmode ea v o d = ret (nbcdLinkDecoded ea v o)
 decoded a group.PeaSwapBkpt line x opmode ea v o d = ret (peaSwapBkptDecoded ea o)
 decoded a group.MovemExt line x opmode ea v o d = ret (movemExtDecoded x opmode ea v o)
@@ -250,7 +249,7 @@ decoded a group.MULL line x opmode ea v o d = ret (mullDecoded v o)
 decoded a group.DIVL line x opmode ea v o d = ret (divlDecoded v o)
 decoded a group.System line x opmode ea v o d = ret (systemDecoded ea v)
 decoded a group.LeaExtb line x opmode ea v o d = ret (leaExtbDecoded x ea o)
-decoded a group.CHK line x opmode ea v o d = ret (UnsizedIntoRegister (cond (eqb opmode 4) CHKL CHK) o (Data x))
+decoded a group.CHK line x opmode ea v o d = ret (UnsizedIntoRegister (chkAt opmode) o (Data x))
 decoded a group.Quick line x opmode ea v o d = ret (quickDecoded x opmode o)
 decoded a group.Conditional line x opmode ea v o d = ret (conditionalDecoded a (x * 2 + opmode / 4) ea v o)
 decoded a group.Branch line x opmode ea v o d = ret (branchDecoded a (x * 2 + opmode / 4) (opmode % 4 * 64 + ea) v)
@@ -262,7 +261,7 @@ decoded a group.LogicPack line x opmode ea v o d = ret (logicPackDecoded x opmod
 decoded a group.LogicExchange line x opmode ea v o d = ret (logicExchangeDecoded x opmode ea o)
 decoded a group.LogicCompare line x opmode ea v o d = logicCompareDecoded x opmode ea o d
 decoded a group.WordIntoData line x opmode ea v o d = ret (wordDecoded line x opmode o)
-decoded a group.IntoAddress line x opmode ea v o d = ret (IntoRegister (addressAt line) o (Address x) (cond (eqb opmode 7) Long Word))
+decoded a group.IntoAddress line x opmode ea v o d = ret (IntoRegister (addressAt line) o (Address x) (longAt opmode))
 decoded a group.ShiftRegister line x opmode ea v o d = ret (shiftDecoded x opmode ea)
 decoded a group.ShiftMemory line x opmode ea v o d = ret (Shift (shiftAt x) (Immediate 1) o (directionAt (opmode / 4)) Word)
 decoded a group.BitField line x opmode ea v o d = ret (bitFieldDecoded x opmode v o)

@@ -82,8 +82,8 @@ abbrev pub unsizedLayout : UnsizedOneOperation → ℕ → Layout
 unsizedLayout op ea = one specifier.Nothing (unsizedSize op) ea (unsizedModes op)
 
 -- ILLEGAL stands where TAS would have an immediate operand
-abbrev pub unsizedOneLayout : ℕ → ℕ → ℕ → Layout
-unsizedOneLayout x opmode ea = cond (eqb x 5 && eqb ea 60) bare (unsizedLayout (unsizedAt x opmode) ea)
+abbrev pub unsizedOneIllegalLayout : ℕ → ℕ → ℕ → Layout
+unsizedOneIllegalLayout x opmode ea = cond (eqb x 5 && eqb ea 60) bare (unsizedLayout (unsizedAt x opmode) ea)
 
 -- NBCD, and LINK with a long
 abbrev pub nbcdLinkLayout : ℕ → Layout
@@ -159,7 +159,7 @@ layoutOf group.Bounds line x opmode ea = one specifier.General (sizeAt x) ea con
 layoutOf group.CAS line x opmode ea = casLayout x ea
 layoutOf group.MOVE line x opmode ea = moveLayout (moveSize line) x opmode ea
 layoutOf group.OneOperand line x opmode ea = oneLayout (sizeAt opmode) x ea
-layoutOf group.UnsizedOne line x opmode ea = unsizedOneLayout x opmode ea
+layoutOf group.UnsizedOneIllegal line x opmode ea = unsizedOneIllegalLayout x opmode ea
 layoutOf group.NbcdLink line x opmode ea = nbcdLinkLayout ea
 layoutOf group.PeaSwapBkpt line x opmode ea = peaSwapBkptLayout ea
 layoutOf group.MovemExt line x opmode ea = movemExtLayout x opmode ea

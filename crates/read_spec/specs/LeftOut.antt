@@ -11,7 +11,7 @@ use Rattle.isa.specs.declared.NoOperandOperation.{NoOperandOperation}
 use Rattle.isa.specs.declared.NoOperandOperation.the-variants.{RTE, RESET, RTR, TRAPV, ILLEGAL, RTS, NOP, SIMHALT}
 use Rattle.isa.specs.declared.Instruction.{Instruction}
 use Rattle.isa.specs.declared.Instruction.the-variants.{IntoRegister, MOVEM, Transfer, Pair, Quick, MOVEQ, ImmediateInto, WordIntoData, SWAP, EXG, UnsizedIntoRegister, UnsizedOne, UnsizedPair, EXT, OneOperand, Bcc, Scc, DBcc, Branch, Link, UNLK, Shift, Vector, Status, ConditionCode, MOVEUSP, Raw, NoOperand, RTD, MOVEC, TRAPcc, MULL, Pack, CAS, CAS2, BF, DIVL}
-use Rattle.encode_spec.specs.Item.{placed}
+use Rattle.encode_spec.specs.Item.{wordAddress}
 use Rattle.encode_spec.specs.Ea.{distance}
 
 abbrev pub isMinusOne : ℤ → Bool
@@ -19,7 +19,7 @@ isMinusOne (pos n) = false
 isMinusOne (negsuc n) = eqb n 0
 
 abbrev pub branchLeftOut : ℕ → BranchSize → ℕ → Bool
-branchLeftOut t branch.Short a = isMinusOne (distance t (placed a 1))
+branchLeftOut t branch.Short a = isMinusOne (distance t (wordAddress a 1))
 branchLeftOut t branch.Word a = false
 branchLeftOut t branch.Long a = false
 

@@ -28,9 +28,9 @@ map =
     -- 0100: miscellaneous
     ∷ row group.OneOperand 4 0 3 0 2
     ∷ row group.OneOperand 4 5 5 0 2
-    ∷ row group.UnsizedOne 4 0 3 3 3
-    ∷ row group.UnsizedOne 4 5 5 3 3
-    ∷ row group.UnsizedOne 4 7 7 2 3
+    ∷ row group.UnsizedOneIllegal 4 0 3 3 3
+    ∷ row group.UnsizedOneIllegal 4 5 5 3 3
+    ∷ row group.UnsizedOneIllegal 4 7 7 2 3
     ∷ row group.NbcdLink 4 4 4 0 0
     ∷ row group.PeaSwapBkpt 4 4 4 1 1
     ∷ row group.MovemExt 4 4 4 2 3

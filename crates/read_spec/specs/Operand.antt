@@ -46,11 +46,16 @@ displacementTree displacement.Long = more (λ at h. more (λ next l. ret (signed
 abbrev pub landed : Bool → ℕ → ℤ → ℤ
 landed pc at z = cond pc (signed32 (reach at z)) z
 
+-- the outer displacement of a full word, and both
+abbrev pub outerTree : ℕ → ℕ → ℕ → ℤ → Tree Operand
+outerTree base at w z = bind (displacementTree (outerSize w)) (λ outer. ret (Extended base w (landed (fromPc base w) at z) outer))
+
+abbrev pub baseTree : ℕ → ℕ → ℕ → Tree Operand
+baseTree base at w = bind (displacementTree (baseSize w)) (outerTree base at w)
+
 -- the full format, without a reserved combination
 abbrev pub fullTree : ℕ → ℕ → ℕ → Tree Operand
-fullTree base at w =
-    guard (isCanonical w)
-    (bind (displacementTree (baseSize w)) (λ z. bind (displacementTree (outerSize w)) (λ outer. ret (Extended base w (landed (fromPc base w) at z) outer))))
+fullTree base at w = guard (isCanonical w) (baseTree base at w)
 
 -- the brief format: of scale 1 the MC68000's index, else an Extended operand without the low bits
 abbrev pub indexOperand : ℕ → ℕ → ℕ → ℤ → Operand

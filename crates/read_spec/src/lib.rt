@@ -47,7 +47,7 @@ pub enum Group {
     CAS,
     MOVE,
     OneOperand,
-    UnsizedOne,
+    UnsizedOneIllegal,
     NbcdLink,
     PeaSwapBkpt,
     MovemExt,

@@ -1,7 +1,7 @@
 // Signed numbers in words, and addresses.
 ghost use mathlib.Core.Path.{_≡_};
 ghost use Prim.Native.Nat.{_+_, _*_, _%_, _<_, _≤_};
-ghost use Rattle.encode_spec.specs.Item.{placed};
+ghost use Rattle.encode_spec.specs.Item.{wordAddress};
 ghost use Rattle.base_spec.specs.Signed.{signed32};
 ghost use Rattle.read_spec.specs.Decoded.{extended};
 ghost use Rattle.read_spec.specs.Number.{signed, signed8, signed16, reach};
@@ -55,8 +55,8 @@ pub fn long(high: u16, low: u16) -> u32
 }
 
 // The address of a word, the first at `address`.
-pub fn placed(address: u32, at: usize) -> u32
-    ensures { λ r. ⌜ r ≡ placed address at ⌝ }
+pub fn wordAddress(address: u32, at: usize) -> u32
+    ensures { λ r. ⌜ r ≡ wordAddress address at ⌝ }
 {
     let n = (at % 2147483648) as u32;
     std::num::wrapping_add_u32(address, 2 * n)
@@ -71,19 +71,19 @@ pub fn reach(place: u32, z: i32) -> u32
 
 // The address that a displacement reaches from the word after an operation word.
 pub fn byte_target(address: u32, byte: u8) -> u32
-    ensures { λ r. ⌜ r ≡ reach (placed address 1) (signed8 byte) ⌝ }
+    ensures { λ r. ⌜ r ≡ reach (wordAddress address 1) (signed8 byte) ⌝ }
 {
-    reach(placed(address, 1), signed8(byte as u16))
+    reach(wordAddress(address, 1), signed8(byte as u16))
 }
 
 pub fn word_target(address: u32, value: u32) -> u32
-    ensures { λ r. ⌜ r ≡ reach (placed address 1) (signed16 (value % 65536)) ⌝ }
+    ensures { λ r. ⌜ r ≡ reach (wordAddress address 1) (signed16 (value % 65536)) ⌝ }
 {
-    reach(placed(address, 1), signed16((value % 65536) as u16))
+    reach(wordAddress(address, 1), signed16((value % 65536) as u16))
 }
 
 pub fn long_target(address: u32, value: u32) -> u32
-    ensures { λ r. ⌜ r ≡ reach (placed address 1) (signed32 value) ⌝ }
+    ensures { λ r. ⌜ r ≡ reach (wordAddress address 1) (signed32 value) ⌝ }
 {
-    reach(placed(address, 1), signed32(value))
+    reach(wordAddress(address, 1), signed32(value))
 }

@@ -1,10 +1,9 @@
 // What the fields of an operation word name (the manual, section 4, each instruction's format).
 ghost use mathlib.Core.Path.{_≡_};
 ghost use Prim.Native.Nat.{_-_, _<_};
-ghost use Rattle.read_values.specs.Named.{quickAt, boundsAt, chkAt, decimalAt, packAt, wordAt, exchangedAt, longAt, fieldIn};
 ghost use Rattle.read_spec.specs.Decoded.{highAt, wordOf};
 ghost use Rattle.read_spec.specs.Layouts.{isExchange};
-ghost use Rattle.read_spec.specs.Operation.{sizeAt, moveSize, signAt, immediateAt, toStatus, conditionCodeAt, statusAt, bitAt, toMemoryAt, oneAt, unsizedAt, countAt, pairAt, extendAt, addressAt, eitherAt, shiftAt, directionAt, shiftCount, bitFieldAt, valueAt, trapAt};
+ghost use Rattle.read_spec.specs.Operation.{sizeAt, moveSize, longAt, boundsAt, chkAt, quickAt, wordAt, decimalAt, packAt, exchangedAt, fieldIn, signAt, immediateAt, toStatus, conditionCodeAt, statusAt, bitAt, toMemoryAt, oneAt, unsizedAt, countAt, pairAt, extendAt, addressAt, eitherAt, shiftAt, directionAt, shiftCount, bitFieldAt, valueAt, trapAt};
 use isa::BitField;
 use isa::BitFieldOperation;
 use isa::ConditionCodeOperation;

@@ -33,16 +33,16 @@ module _ (n : ℕ) (few : n ≤ 4096) where
       capped-cases (λ x. leb 1 x && leb x n ≡ leb 1 k && leb k n) k refl
       (λ h. rw (lt-leb 4097 n (omega arith), le-leb 1 k (omega arith), lt-leb k n (omega arith)))
 
-  names-said : (v : Token) → namesOne n (isLine v) (magnitudeIn v) ≡ names n v
-  names-said (literal s k) = refl
-  names-said (label k) = names-capped k
-  names-said invalid = refl
+  names-token : (v : Token) → namesOne n (isLine v) (magnitudeIn v) ≡ names n v
+  names-token (literal s k) = refl
+  names-token (label k) = names-capped k
+  names-token invalid = refl
 
   names-pad : (m : ℕ) (vs : List Token) → length vs ≤ m → namesEach n (pad m false (map isLine vs)) (pad m 0 (map magnitudeIn vs)) ≡ namesAll n vs
   names-pad zero [] h = refl
   names-pad zero (v ∷ vs) h = absurd (omega arith)
   names-pad (suc m) [] h = names-pad m [] (omega arith)
-  names-pad (suc m) (v ∷ vs) h = λ i. names-said v i && names-pad m vs (omega arith) i
+  names-pad (suc m) (v ∷ vs) h = λ i. names-token v i && names-pad m vs (omega arith) i
 
   pub names-lines : (vs : List Token) → length vs ≤ 24 → namesLines (entriesFrom vs) n ≡ namesAll n vs
   unfolding namesLines entriesFrom
@@ -66,18 +66,18 @@ module _ (addresses : List ℕ) (few : length addresses ≤ 4096) where
       capped-cases (λ x. addressIn addresses x ≡ addressIn addresses k) k refl
       (λ h. address-beyond 4097 (omega arith) ∙ sym (address-beyond k h))
 
-  number-said : (v : Token) → cond (negativeIn v) (minus (resolvedNumber addresses (isLine v) (magnitudeIn v))) (pos (resolvedNumber addresses (isLine v) (magnitudeIn v))) ≡ numberAs (addressIn addresses) v
-  number-said (literal true n) = refl
-  number-said (literal false n) = refl
-  number-said (label k) = ap pos (address-capped k)
-  number-said invalid = refl
+  number-token : (v : Token) → cond (negativeIn v) (minus (resolvedNumber addresses (isLine v) (magnitudeIn v))) (pos (resolvedNumber addresses (isLine v) (magnitudeIn v))) ≡ numberAs (addressIn addresses) v
+  number-token (literal true n) = refl
+  number-token (literal false n) = refl
+  number-token (label k) = ap pos (address-capped k)
+  number-token invalid = refl
 
   numbers-pad : (m : ℕ) (vs : List Token) → length vs ≤ m
       → take (length vs) (signedFrom (pad m false (map negativeIn vs)) (resolvedNumbers addresses (pad m false (map isLine vs)) (pad m 0 (map magnitudeIn vs)))) ≡ map (numberAs (addressIn addresses)) vs
   numbers-pad zero [] h = refl
   numbers-pad zero (v ∷ vs) h = absurd (omega arith)
   numbers-pad (suc m) [] h = refl
-  numbers-pad (suc m) (v ∷ vs) h = λ i. number-said v i ∷ numbers-pad m vs (omega arith) i
+  numbers-pad (suc m) (v ∷ vs) h = λ i. number-token v i ∷ numbers-pad m vs (omega arith) i
 
   numbers-listed : (vs : List Token) → length vs ≤ 24 → listed (numbersWith (entriesFrom vs) addresses) ≡ map (numberAs (addressIn addresses)) vs
   unfolding listed numbersWith entriesFrom

@@ -129,22 +129,22 @@ place-suits f v e h = go (isName f) e
     go false q = number-suits f v q h .0
 
 -- a variant's name is the one at its place
-pub variant-said : (k : Kind) (f : List ℕ) (v : Token) → asVariant k f ≡ v → (v ≡ invalid → ⊥) → (f ≡ nameText k v) × Variant k v
-variant-said k f v e h =
+pub variant-token : (k : Kind) (f : List ℕ) (v : Token) → asVariant k f ≡ v → (v ≡ invalid → ⊥) → (f ≡ nameText k v) × Variant k v
+variant-token k f v e h =
     let p = place-is 0 f (map bytes (namesOf k)) v e h in
     let z : 0 + p .at ≡ p .at = omega arith in
     let q : v ≡ literal false (p .at) = p .says ∙ ap (literal false) z in
     let l : p .at < length (namesOf k) = omega (arith, p .here, length-map (namesOf k) bytes) in
     rw q (p .name, (l, rw (p .name) at (p .some)))
 
-pub said-suits : (k : Kind) (f : List ℕ) (v : Token) → line.token k f ≡ v → (v ≡ invalid → ⊥) → Suits k v
-said-suits k f v = go (sorted k)
+pub token-suits : (k : Kind) (f : List ℕ) (v : Token) → line.token k f ≡ v → (v ≡ invalid → ⊥) → Suits k v
+token-suits k f v = go (sorted k)
   where
     go : {k : Kind} → Sorted k → line.token k f ≡ v → (v ≡ invalid → ⊥) → Suits k v
     go of-number e h = number-suits f v e h .1
     go of-target e h = name-suits f v e h .1
     go of-place e h = place-suits f v e h
-    go (of-variant {k} x) e h = x .suited v (variant-said k f v (sym (x .token f) ∙ e) h .1)
+    go (of-variant {k} x) e h = x .suited v (variant-token k f v (sym (x .token f) ∙ e) h .1)
 
 -- nothing suits no kind
 pub suits-some : (k : Kind) → Suits k invalid → ⊥

@@ -10,7 +10,7 @@ use Rattle.sheet_spec.specs.declared.Kind.the-variants as kind
 use Rattle.sheet_spec.specs.Grammar.{kindsOf}
 use Rattle.sheet_spec.specs.Line.{Token, literal, label, invalid, token, Parsed, says, no, with, after, lineFrom, lineOf}
 use Rattle.sheet_spec.specs.Spell.{nextKinds, Fits}
-use Rattle.sheet_facts.specs.Fields.{said-suits}
+use Rattle.sheet_facts.specs.Fields.{token-suits}
 
 no-says : {vs : List Token} → no ≡ says vs → ⊥
 no-says e = let z : _≡_ {A = ℕ} 0 1 = cc in absurd (omega arith)
@@ -18,8 +18,8 @@ no-says e = let z : _≡_ {A = ℕ} 0 1 = cc in absurd (omega arith)
 literal-some : {s : Bool} {n : ℕ} → literal s n ≡ invalid → ⊥
 literal-some e = let z : _≡_ {A = ℕ} 0 1 = cc in absurd (omega arith)
 
-naming-some : {n : ℕ} → label n ≡ invalid → ⊥
-naming-some e = let z : _≡_ {A = ℕ} 0 1 = cc in absurd (omega arith)
+label-some : {n : ℕ} → label n ≡ invalid → ⊥
+label-some e = let z : _≡_ {A = ℕ} 0 1 = cc in absurd (omega arith)
 
 -- what holds of kinds, fields and what they say: of none, and of one more when it holds of the others
 module _ (P : List Kind → List (List ℕ) → List Token → Type 0) (none : P [] [] [])
@@ -39,7 +39,7 @@ module _ (P : List Kind → List (List ℕ) → List Token → Type 0) (none : P
       go : (v : Token) → token k f ≡ v → after v (λ n. lineFrom (kindsOf k n ++ ks) fs) (lineFrom ks fs) ≡ says vs
           → ((ls : List Kind) (ws : List Token) → lineFrom ls fs ≡ says ws → P ls fs ws) → P (k ∷ ks) (f ∷ fs) vs
       go (literal s n) t q next = first k ks f fs (literal s n) vs t literal-some (lineFrom (kindsOf k n ++ ks) fs) q (next (kindsOf k n ++ ks))
-      go (label n) t q next = first k ks f fs (label n) vs t naming-some (lineFrom ks fs) q (next ks)
+      go (label n) t q next = first k ks f fs (label n) vs t label-some (lineFrom ks fs) q (next ks)
       go invalid t q next = absurd (no-says q)
 
   -- of a line
@@ -48,4 +48,4 @@ module _ (P : List Kind → List (List ℕ) → List Token → Type 0) (none : P
   by-line t vs e = by-fields (kind.Instruction ∷ []) (fields t) vs e
 
 pub line-fits : (t : List ℕ) (vs : List Token) → lineOf t ≡ says vs → Fits (kind.Instruction ∷ []) vs
-line-fits = by-line (λ ks fs vs. Fits ks vs) tt (λ k ks f fs v vs e h r. (said-suits k f v e h, r))
+line-fits = by-line (λ ks fs vs. Fits ks vs) tt (λ k ks f fs v vs e h r. (token-suits k f v e h, r))

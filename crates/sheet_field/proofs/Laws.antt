@@ -111,19 +111,19 @@ name-zeros (b ∷ []) e = rw (and-false (eqb b 64))
 name-zeros (b ∷ (d ∷ [])) e = let z : _≡_ {A = ℕ} 0 1 = cc (and-false (eqb d 48)) in absurd (omega arith)
 name-zeros (b ∷ (d ∷ (x ∷ bs))) e = rw (facts.and-true (eqb d 48) (ltb 2 (suc (suc (suc (length bs))))) e .0, and-false (eqb b 64))
 
-naming-if : (t : Bool) (n : ℕ) → valueOf (cond t (label n) invalid) ≡ cond t (value.Line (capped n)) value.None
-naming-if true n = refl
-naming-if false n = refl
+label-if : (t : Bool) (n : ℕ) → valueOf (cond t (label n) invalid) ≡ cond t (value.Line (capped n)) value.None
+label-if true n = refl
+label-if false n = refl
 
 pub name-digits : (f : List ℕ) → 2 ≤ length f → getD f 0 0 ≡ 64 → eqb (getD f 1 0) 48 && ltb 2 (length f) ≡ false
     → valueOf (asName f) ≡ lineAfter 0 (take (length f - 1) (drop 1 f))
 name-digits [] h e t = absurd (omega arith)
 name-digits (b ∷ []) h e t = absurd (omega arith)
-name-digits (b ∷ (d ∷ [])) h e t = rw (eq-eqb b 64 e, and-true (isDigit d)) (naming-if (isDigit d) (valueFrom 0 (d ∷ [])))
+name-digits (b ∷ (d ∷ [])) h e t = rw (eq-eqb b 64 e, and-true (isDigit d)) (label-if (isDigit d) (valueFrom 0 (d ∷ [])))
 name-digits (b ∷ (d ∷ (x ∷ bs))) h e t =
     let l : List ℕ = d ∷ (x ∷ bs) in
     let n : eqb d 48 ≡ false = sym (and-true (eqb d 48)) ∙ rw (lt-ltb 2 (suc (suc (suc (length bs)))) (omega arith)) at t in
-    rw (eq-eqb b 64 e, n, take-all (suc (suc (suc (length bs))) - 1) l (omega arith)) (naming-if (allDigits l) (valueFrom 0 l))
+    rw (eq-eqb b 64 e, n, take-all (suc (suc (suc (length bs))) - 1) l (omega arith)) (label-if (allDigits l) (valueFrom 0 l))
 
 -- the place of a name, a name at a time
 some : (f : List ℕ) → (length f ≡ 0 → ⊥) → not (isNone f) ≡ true
@@ -155,14 +155,14 @@ pub place-end : (names f : List ℕ) (k from : ℕ) → length names < from → 
 place-end names f k from h = rw (parts-past 9 names from h)
 
 -- a place, by its first byte
-pub said-none : (f : List ℕ) → length f ≡ 0 → token kind.Place f ≡ invalid
-said-none [] h = refl
-said-none (b ∷ bs) h = absurd (omega arith)
+pub token-none : (f : List ℕ) → length f ≡ 0 → token kind.Place f ≡ invalid
+token-none [] h = refl
+token-none (b ∷ bs) h = absurd (omega arith)
 
-pub said-name : (f : List ℕ) → getD f 0 0 ≡ 64 → token kind.Place f ≡ asName f
-said-name [] e = refl
-said-name (b ∷ bs) e = rw (eq-eqb b 64 e)
+pub token-name : (f : List ℕ) → getD f 0 0 ≡ 64 → token kind.Place f ≡ asName f
+token-name [] e = refl
+token-name (b ∷ bs) e = rw (eq-eqb b 64 e)
 
-pub said-number : (f : List ℕ) → (getD f 0 0 ≡ 64 → ⊥) → token kind.Place f ≡ asNumber (numberOf f)
-said-number [] e = refl
-said-number (b ∷ bs) e = rw (ne-eqb b 64 e)
+pub token-number : (f : List ℕ) → (getD f 0 0 ≡ 64 → ⊥) → token kind.Place f ≡ asNumber (numberOf f)
+token-number [] e = refl
+token-number (b ∷ bs) e = rw (ne-eqb b 64 e)

@@ -14,7 +14,7 @@ use Rattle.sheet_spec.specs.declared.Kind.the-variants as kind
 use Rattle.sheet_spec.specs.Line.{Token, literal, label, invalid, asNumber, asName, isName, asVariant, token}
 use Rattle.sheet_spec.specs.Spell.{signText, numberText, nameText, spelled, Written, Named, Either, Variant, Suits}
 use Rattle.sheet_facts.specs.Names.{solid, name-back, name-solid}
-use Rattle.sheet_facts.specs.Fields.{Sorted, of-number, of-target, of-place, of-variant, sorted, name-is, variant-said}
+use Rattle.sheet_facts.specs.Fields.{Sorted, of-number, of-target, of-place, of-variant, sorted, name-is, variant-token}
 use Rattle.sheet_form_laws.specs.NumberForm.{digit, decimal-plain, decimal-value, plain-digits, plain-decimal, number-form, number-back}
 use Rattle.base_facts.specs.Tests.{and-true, cond-true, cond-false}
 
@@ -38,8 +38,8 @@ number-name true n = refl
 number-name false n = digits-name (decimalOf n) (plain-digits (decimalOf n) (decimal-plain n))
 
 -- what is spelled says what it was
-naming-back : (n : ℕ) → asName (64 ∷ decimalOf n) ≡ label n
-naming-back n = cond-true (isDecimal (decimalOf n)) (label (value (decimalOf n))) invalid (decimal-plain n) ∙ ap label (decimal-value n)
+label-back : (n : ℕ) → asName (64 ∷ decimalOf n) ≡ label n
+label-back n = cond-true (isDecimal (decimalOf n)) (label (value (decimalOf n))) invalid (decimal-plain n) ∙ ap label (decimal-value n)
 
 literal-back : (s : Bool) (n : ℕ) → Written (literal s n) → asNumber (numberOf (signText s ++ decimalOf n)) ≡ literal s n
 literal-back s n h = ap asNumber (number-back s n h)
@@ -52,14 +52,14 @@ written-back invalid h = absurd h
 
 named-back : (v : Token) → Named v → asName (numberText v) ≡ v
 named-back (literal s n) h = absurd h
-named-back (label n) h = naming-back n
+named-back (label n) h = label-back n
 named-back invalid h = absurd h
 
 either-back : (v : Token) → Either v → token kind.Place (numberText v) ≡ v
 either-back (literal s n) h =
     let f : List ℕ = signText s ++ decimalOf n in
     cond-false (isName f) (asName f) (asNumber (numberOf f)) (number-name s n) ∙ literal-back s n h
-either-back (label n) h = naming-back n
+either-back (label n) h = label-back n
 either-back invalid h = absurd h
 
 variant-back : (k : Kind) (v : Token) → Variant k v → asVariant k (nameText k v) ≡ v
@@ -68,8 +68,8 @@ variant-back k (literal false n) h = name-back k n (h .0) (h .1)
 variant-back k (label n) h = absurd h
 variant-back k invalid h = absurd h
 
-pub said-spelled : (k : Kind) (v : Token) → Suits k v → token k (spelled k v) ≡ v
-said-spelled k v = go (sorted k)
+pub token-spelled : (k : Kind) (v : Token) → Suits k v → token k (spelled k v) ≡ v
+token-spelled k v = go (sorted k)
   where
     go : {k : Kind} → Sorted k → Suits k v → token k (spelled k v) ≡ v
     go of-number h = written-back v h
@@ -78,33 +78,33 @@ said-spelled k v = go (sorted k)
     go (of-variant {k} x) h = x .token (spelled k v) ∙ ap (asVariant k) (x .spelled v) ∙ variant-back k v (x .suits v h)
 
 -- a field that says something is its spelling
-number-said : (f : List ℕ) (v : Token) → asNumber (numberOf f) ≡ v → (v ≡ invalid → ⊥) → f ≡ numberText v
-number-said f v e h = go (numberOf f) refl e
+number-token : (f : List ℕ) (v : Token) → asNumber (numberOf f) ≡ v → (v ≡ invalid → ⊥) → f ≡ numberText v
+number-token f v e h = go (numberOf f) refl e
   where
     go : (u : Number) → numberOf f ≡ u → asNumber u ≡ v → f ≡ numberText v
     go (number.Is s n) w q = rw (← q) (number-form f s n w .0)
     go number.No w q = absurd (h (sym q))
 
-name-said : (f : List ℕ) (v : Token) → asName f ≡ v → (v ≡ invalid → ⊥) → f ≡ numberText v
-name-said f v e h =
+name-token : (f : List ℕ) (v : Token) → asName f ≡ v → (v ≡ invalid → ⊥) → f ≡ numberText v
+name-token f v e h =
     let d = name-is f v e h in
     rw (d .3) (d .1 ∙ ap (λ (g : List ℕ). 64 ∷ g) (sym (plain-decimal (d .0) (d .2))))
 
-either-said : (f : List ℕ) (v : Token) → token kind.Place f ≡ v → (v ≡ invalid → ⊥) → f ≡ numberText v
-either-said f v e h = go (isName f) e
+either-token : (f : List ℕ) (v : Token) → token kind.Place f ≡ v → (v ≡ invalid → ⊥) → f ≡ numberText v
+either-token f v e h = go (isName f) e
   where
     go : (t : Bool) → cond t (asName f) (asNumber (numberOf f)) ≡ v → f ≡ numberText v
-    go true q = name-said f v q h
-    go false q = number-said f v q h
+    go true q = name-token f v q h
+    go false q = number-token f v q h
 
-pub said-is : (k : Kind) (f : List ℕ) (v : Token) → token k f ≡ v → (v ≡ invalid → ⊥) → f ≡ spelled k v
-said-is k f v = go (sorted k)
+pub token-is : (k : Kind) (f : List ℕ) (v : Token) → token k f ≡ v → (v ≡ invalid → ⊥) → f ≡ spelled k v
+token-is k f v = go (sorted k)
   where
     go : {k : Kind} → Sorted k → token k f ≡ v → (v ≡ invalid → ⊥) → f ≡ spelled k v
-    go of-number e h = number-said f v e h
-    go of-target e h = name-said f v e h
-    go of-place e h = either-said f v e h
-    go (of-variant {k} x) e h = variant-said k f v (sym (x .token f) ∙ e) h .0 ∙ sym (x .spelled v)
+    go of-number e h = number-token f v e h
+    go of-target e h = name-token f v e h
+    go of-place e h = either-token f v e h
+    go (of-variant {k} x) e h = variant-token k f v (sym (x .token f) ∙ e) h .0 ∙ sym (x .spelled v)
 
 -- no spelling holds a tab
 number-solid : (v : Token) → solid (numberText v) ≡ true

@@ -11,15 +11,15 @@ use Rattle.sheet_spec.specs.Line.{Token, literal, label, invalid, says, with, a
 use Rattle.sheet_spec.specs.Spell.{spelled, Suits, nextKinds, Fits, fieldsFrom, joined, spell}
 use Rattle.sheet_facts.specs.Fields.{suits-some}
 use Rattle.sheet_facts.specs.Lines.{by-line, line-fits}
-use Rattle.sheet_form_laws.specs.FieldForm.{said-spelled, said-is, field-solid}
+use Rattle.sheet_form_laws.specs.FieldForm.{token-spelled, token-is, field-solid}
 use Rattle.sheet_form_laws.specs.JoinForm.{Solid, joined-fields, fields-joined, joined-line}
 
 -- a field said, then the others
-said-on : (k : Kind) (ks : List Kind) (fs : List (List ℕ)) (v : Token) (vs : List Token) → Suits k v → lineFrom (nextKinds k v ++ ks) fs ≡ says vs
+token-on : (k : Kind) (ks : List Kind) (fs : List (List ℕ)) (v : Token) (vs : List Token) → Suits k v → lineFrom (nextKinds k v ++ ks) fs ≡ says vs
     → after v (λ n. lineFrom (kindsOf k n ++ ks) fs) (lineFrom ks fs) ≡ says (v ∷ vs)
-said-on k ks fs (literal s n) vs h e = ap (with (literal s n)) e
-said-on k ks fs (label n) vs h e = ap (with (label n)) e
-said-on k ks fs invalid vs h e = absurd (suits-some k h)
+token-on k ks fs (literal s n) vs h e = ap (with (literal s n)) e
+token-on k ks fs (label n) vs h e = ap (with (label n)) e
+token-on k ks fs invalid vs h e = absurd (suits-some k h)
 
 from-spelled : (ks : List Kind) (vs : List Token) → Fits ks vs → lineFrom ks (fieldsFrom ks vs) ≡ says vs
 from-spelled [] [] h = refl
@@ -27,8 +27,8 @@ from-spelled [] (v ∷ vs) h = absurd h
 from-spelled (k ∷ ks) [] h = absurd h
 from-spelled (k ∷ ks) (v ∷ vs) h =
     let fs : List (List ℕ) = fieldsFrom (nextKinds k v ++ ks) vs in
-    ap (λ (x : Token). after x (λ n. lineFrom (kindsOf k n ++ ks) fs) (lineFrom ks fs)) (said-spelled k v (h .0))
-    ∙ said-on k ks fs v vs (h .0) (from-spelled (nextKinds k v ++ ks) vs (h .1))
+    ap (λ (x : Token). after x (λ n. lineFrom (kindsOf k n ++ ks) fs) (lineFrom ks fs)) (token-spelled k v (h .0))
+    ∙ token-on k ks fs v vs (h .0) (from-spelled (nextKinds k v ++ ks) vs (h .1))
 
 solid-from : (ks : List Kind) (vs : List Token) → Fits ks vs → Solid (fieldsFrom ks vs)
 solid-from [] [] h = tt
@@ -54,5 +54,5 @@ pub spelled-line : (t : List ℕ) (vs : List Token) → lineOf t ≡ says vs →
 unfolding spell
 spelled-line t vs e =
     let spelt : fields t ≡ fieldsFrom (kind.Instruction ∷ []) vs =
-    by-line (λ ks fs ws. fs ≡ fieldsFrom ks ws) refl (λ k ks f fs v ws q h r. let g : f ≡ spelled k v = said-is k f v q h in λ i. g i ∷ r i) t vs e in
+    by-line (λ ks fs ws. fs ≡ fieldsFrom ks ws) refl (λ k ks f fs v ws q h r. let g : f ≡ spelled k v = token-is k f v q h in λ i. g i ∷ r i) t vs e in
     (line-fits t vs e, sym (joined-fields t) ∙ ap joined spelt)

@@ -16,7 +16,7 @@ use Rattle.sheet_tokens.specs.declared.Entries.{Entries}
 use Rattle.sheet_spec.specs.Grammar.{kindsOf}
 use Rattle.sheet_spec.specs.Line.{Token, literal, label, invalid, token, Parsed, says, no, with, after, lineFrom, lineOf}
 use Rattle.sheet_spec.specs.Spell.{Suits}
-use Rattle.sheet_facts.specs.Fields.{Sorted, of-number, of-target, of-place, of-variant, sorted, said-suits, suits-some}
+use Rattle.sheet_facts.specs.Fields.{Sorted, of-number, of-target, of-place, of-variant, sorted, token-suits, suits-some}
 use Rattle.sheet_tokens.specs.Entries.{valueOf, noEntries, entriesFrom, entriesOf}
 use Rattle.sheet_kinds.specs.Packed.{packed, kindAt}
 use Rattle.sheet_kinds.specs.Weight.{room, most, total, room-next, most-next, length-room}
@@ -27,15 +27,15 @@ use Rattle.sheet_entries.specs.WithLaws.{with-more}
 use Rattle.sheet_line.specs.Value.{isSaid, variantPlace}
 
 -- vs said before the rest
-abbrev pub saidFirst : List Token → Parsed → Parsed
-saidFirst vs (says ws) = says (vs ++ ws)
-saidFirst vs no = no
+abbrev pub tokenFirst : List Token → Parsed → Parsed
+tokenFirst vs (says ws) = says (vs ++ ws)
+tokenFirst vs no = no
 
-first-none : (p : Parsed) → saidFirst [] p ≡ p
+first-none : (p : Parsed) → tokenFirst [] p ≡ p
 first-none (says vs) = refl
 first-none no = refl
 
-first-more : (vs : List Token) (v : Token) (p : Parsed) → saidFirst vs (with v p) ≡ saidFirst (vs ++ (v ∷ [])) p
+first-more : (vs : List Token) (v : Token) (p : Parsed) → tokenFirst vs (with v p) ≡ tokenFirst (vs ++ (v ∷ [])) p
 first-more vs v (says ws) = ap says (sym (append-snoc vs v ws))
 first-more vs v no = refl
 
@@ -47,7 +47,7 @@ pub record Reading (line : List ℕ) (e : Entries) (kinds from : ℕ) : Type 0 w
   pub packs : kinds ≡ packed ahead
   pub fits : total room ahead ≤ 10
   pub few : length done + total most ahead ≤ 17
-  pub whole : lineOf line ≡ saidFirst done (lineFrom ahead (partsFrom 9 line from))
+  pub whole : lineOf line ≡ tokenFirst done (lineFrom ahead (partsFrom 9 line from))
 
 pub reading-start : (line : List ℕ) (e : Entries) → e ≡ entriesFrom [] → Reading line e 17 0
 unfolding lineOf
@@ -63,13 +63,13 @@ reading-start line e g =
     }
 
 -- what says something, and what says nothing
-is-said : (v : Token) → isSaid (valueOf v) ≡ true → v ≡ invalid → ⊥
-is-said v h e = false≢true (ap (λ (x : Token). isSaid (valueOf x)) (sym e) ∙ h)
+is-token : (v : Token) → isSaid (valueOf v) ≡ true → v ≡ invalid → ⊥
+is-token v h e = false≢true (ap (λ (x : Token). isSaid (valueOf x)) (sym e) ∙ h)
 
-not-said : (v : Token) → isSaid (valueOf v) ≡ false → v ≡ invalid
-not-said (literal s n) h = absurd (false≢true (sym h))
-not-said (label n) h = absurd (false≢true (sym h))
-not-said invalid h = refl
+not-token : (v : Token) → isSaid (valueOf v) ≡ false → v ≡ invalid
+not-token (literal s n) h = absurd (false≢true (sym h))
+not-token (label n) h = absurd (false≢true (sym h))
+not-token invalid h = refl
 
 -- a line's name has no fields
 name-last : (k : Kind) (n m : ℕ) → Suits k (label n) → kindsOf k m ≡ []
@@ -81,23 +81,23 @@ name-last k n m = go (sorted k)
     go of-place h = refl
     go (of-variant x) h = absurd (x .suits (label n) h)
 
-said-on : (k : Kind) (ks : List Kind) (fs : List (List ℕ)) (v : Token) → Suits k v
+token-on : (k : Kind) (ks : List Kind) (fs : List (List ℕ)) (v : Token) → Suits k v
     → after v (λ n. lineFrom (kindsOf k n ++ ks) fs) (lineFrom ks fs) ≡ with v (lineFrom (kindsOf k (variantPlace (valueOf v)) ++ ks) fs)
-said-on k ks fs (literal s n) h = refl
-said-on k ks fs (label n) h = ap (λ (ls : List Kind). with (label n) (lineFrom (ls ++ ks) fs)) (sym (name-last k n 0 h))
-said-on k ks fs invalid h = absurd (suits-some k h)
+token-on k ks fs (literal s n) h = refl
+token-on k ks fs (label n) h = ap (λ (ls : List Kind). with (label n) (lineFrom (ls ++ ks) fs)) (sym (name-last k n 0 h))
+token-on k ks fs invalid h = absurd (suits-some k h)
 
 -- one field more
 module _ (k : Kind) (ks : List Kind) (f : List ℕ) (fs : List (List ℕ)) where
   from-none : isSaid (valueOf (token k f)) ≡ false → lineFrom (k ∷ ks) (f ∷ fs) ≡ no
-  from-none t = ap (λ (v : Token). after v (λ n. lineFrom (kindsOf k n ++ ks) fs) (lineFrom ks fs)) (not-said (token k f) t)
+  from-none t = ap (λ (v : Token). after v (λ n. lineFrom (kindsOf k n ++ ks) fs) (lineFrom ks fs)) (not-token (token k f) t)
 
   from-on : isSaid (valueOf (token k f)) ≡ true → lineFrom (k ∷ ks) (f ∷ fs) ≡ with (token k f) (lineFrom (kindsOf k (variantPlace (valueOf (token k f))) ++ ks) fs)
-  from-on t = said-on k ks fs (token k f) (said-suits k f (token k f) refl (is-said (token k f) t))
+  from-on t = token-on k ks fs (token k f) (token-suits k f (token k f) refl (is-token (token k f) t))
 
 module _ (line : List ℕ) (e : Entries) (kinds from : ℕ) (r : Reading line e kinds from) where
   refused : lineFrom (r .ahead) (partsFrom 9 line from) ≡ no → noEntries ≡ entriesOf (lineOf line)
-  refused h = sym (ap entriesOf (r .whole ∙ ap (saidFirst (r .done)) h))
+  refused h = sym (ap entriesOf (r .whole ∙ ap (tokenFirst (r .done)) h))
 
   -- a field too many
   pub reading-over : from ≤ length line → kinds ≡ 0 → noEntries ≡ entriesOf (lineOf line)
@@ -165,9 +165,9 @@ module _ (line : List ℕ) (e : Entries) (kinds from : ℕ) (r : Reading line e 
           (record {
             done = r .done ++ (v ∷ []);
             ahead = kindsOf k n ++ ks;
-            entries = ap (λ (x : Entries). withValue x (valueOf v)) (r .entries) ∙ with-more (r .done) v (omega (arith, most-next k ks n)) (is-said v some-said);
+            entries = ap (λ (x : Entries). withValue x (valueOf v)) (r .entries) ∙ with-more (r .done) v (omega (arith, most-next k ks n)) (is-token v some-said);
             packs = ap (λ (x : ℕ). kindsAfter x n) (r .packs ∙ ap packed b) ∙ next-packed k ks n;
             fits = omega (arith, room-next k ks n);
             few = rw length-append (omega (arith, most-next k ks n));
-            whole = r .whole ∙ rw (b, parts-on) (ap (saidFirst (r .done)) (from-on k ks f rest some-said)) ∙ first-more (r .done) v (lineFrom (kindsOf k n ++ ks) rest);
+            whole = r .whole ∙ rw (b, parts-on) (ap (tokenFirst (r .done)) (from-on k ks f rest some-said)) ∙ first-more (r .done) v (lineFrom (kindsOf k n ++ ks) rest);
           }))

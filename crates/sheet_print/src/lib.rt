@@ -4,19 +4,9 @@ ghost use Prim.Native.Nat.{_+_, _*_, _-_, _/_, _≤_};
 ghost use lib.ListN.{length};
 ghost use Rattle.base_spec.specs.Written.{placed};
 ghost use Rattle.base_text.specs.Wrote.{Wrote};
-ghost use Rattle.base_spec.specs.Refused.{fieldText};
 ghost use Rattle.sheet_spec.specs.Translate.{imageOf, scratchOf};
 ghost use Rattle.print_spec.specs.Printed.{listedWords, lineText, sheetRefusal, printedOf};
 ghost use Rattle.sheet_print.specs.Listing.{firstCount, linesText, Rises, Laid};
-
-// A number and a tab.
-fn put_field(out: &mut [u8], at: usize, n: u64) -> usize
-    requires { ⌜ at + 21 ≤ length (now out) ⌝ }
-    ensures { λ r. ⌜ Wrote (now (out .entry)) at (fieldText n) (now (out .exit)) r × (r ≤ at + 21) ⌝ }
-{
-    let next = base_text::put_decimal(out, at, n);
-    base_text::put_byte(out, next, b'\t')
-}
 
 // A tab and each word.
 fn put_words(out: &mut [u8], at: usize, words: &[u16]) -> usize
@@ -38,7 +28,7 @@ fn put_line(out: &mut [u8], at: usize, k: usize, address: u32, words: &[u16]) ->
     requires { ⌜ (at + 69 ≤ length (now out)) × (k ≤ 4096) × (length (now words) ≤ 11) ⌝ }
     ensures { λ r. ⌜ Wrote (now (out .entry)) at (lineText k address (now (words .entry))) (now (out .exit)) r × (r ≤ at + 69) ⌝ }
 {
-    let mut next = put_field(out, at, k as u64);
+    let mut next = base_text::put_field(out, at, k as u64);
     next = base_text::put_hex8(out, next, address);
     next = put_words(out, next, words);
     base_text::put_byte(out, next, b'\n')
@@ -86,9 +76,9 @@ pub fn put_refusal(out: &mut [u8], number: u8, line: usize, detail: u8, value: i
     ensures { λ r. ⌜ Wrote (now (out .entry)) 0 (sheetRefusal number line detail value) (now (out .exit)) r × (r ≤ 92) ⌝ }
 {
     let mut next = base_text::put(out, 0, b"refused\t");
-    next = put_field(out, next, number as u64);
-    next = put_field(out, next, line as u64);
-    next = put_field(out, next, detail as u64);
+    next = base_text::put_field(out, next, number as u64);
+    next = base_text::put_field(out, next, line as u64);
+    next = base_text::put_field(out, next, detail as u64);
     next = base_text::put_signed(out, next, value);
     base_text::put_byte(out, next, b'\n')
 }

@@ -7,7 +7,7 @@ use borrow.Author.Tests.{ne-eqb}
 use Rattle.isa.specs.declared.BranchSize.{BranchSize}
 use Rattle.isa.specs.declared.BranchSize.the-variants as branch
 use Rattle.isa.specs.declared.Instruction.{Instruction}
-use Rattle.encode_spec.specs.Item.{placed}
+use Rattle.encode_spec.specs.Item.{wordAddress}
 use Rattle.encode_spec.specs.Encode.{sizeOf}
 use Rattle.base_spec.specs.Signed.{signed32, difference}
 use Rattle.read_spec.specs.Plain as plain
@@ -44,6 +44,6 @@ even-not x h e = go (lt? x (2 ^ 31))
     go (past l b) = rw (b, ne-eqb (2 ^ 32 - 1 - x) 0 (omega (arith, h, e)))
 
 pub branch-stays : (t : ℕ) (s : BranchSize) (a : ℕ) → a % 2 ≡ 0 → t % 2 ≡ 0 → branchLeftOut t s a ≡ false
-branch-stays t branch.Short a g h = even-not (difference t (placed a 1)) (omega arith) (omega (arith, h, g))
+branch-stays t branch.Short a g h = even-not (difference t (wordAddress a 1)) (omega arith) (omega (arith, h, g))
 branch-stays t branch.Word a g h = refl
 branch-stays t branch.Long a g h = refl

@@ -83,9 +83,9 @@ same-number : (f : ℕ → ℕ) (b : Bool) (m : ℕ) → numberAs f (literal b m
 same-number f true m = refl
 same-number f false m = refl
 
-said-turned : {n : ℕ} {X : Type 0} {P : ((ℕ → ℕ) → X) → Type 0} (e : X → Entry) (x : X) → P (λ f. x) → (k : Kind) (b : Bool) (m : ℕ) → kindsOf k m ≡ [] → (ks : List Kind) (vs : List Token) (es : List Entry)
+token-turned : {n : ℕ} {X : Type 0} {P : ((ℕ → ℕ) → X) → Type 0} (e : X → Entry) (x : X) → P (λ f. x) → (k : Kind) (b : Bool) (m : ℕ) → kindsOf k m ≡ [] → (ks : List Kind) (vs : List Token) (es : List Entry)
     → Input n (k ∷ ks) (literal b m ∷ vs) (e x ∷ es) → Inside (e x ∷ []) → Turned n X (λ z. e z ∷ []) P ks (literal b m ∷ vs) es
-said-turned e x p k b m c ks vs es h i =
+token-turned e x p k b m c ks vs es h i =
     record {
       rest = vs;
       left = record { fits = rw c at (h .fits .1); named = and-true true (namesAll _ vs) (h .named) .1; zeros = tail-is (h .zeros) };
@@ -101,7 +101,7 @@ Simple k = (m : ℕ) → (kindsOf k m ≡ []) × (Suits k (label m) → ⊥) × 
 
 pub plain-turned : {n : ℕ} {X : Type 0} (k : Kind) → Simple k → (e : X → Entry) (x : X) → Turn n (λ z. e z ∷ []) (k ∷ []) (λ z. z) (λ y. Unit {0}) x
 plain-turned k s e x ks [] es h i = absurd (h .fits)
-plain-turned k s e x ks (literal b m ∷ vs) es h i = said-turned e x (λ f. refl, tt) k b m (s m .0) ks vs es h i
+plain-turned k s e x ks (literal b m ∷ vs) es h i = token-turned e x (λ f. refl, tt) k b m (s m .0) ks vs es h i
 plain-turned k s e x ks (label m ∷ vs) es h i = absurd (s m .1 (h .fits .0))
 plain-turned k s e x ks (invalid ∷ vs) es h i = absurd (s 0 .2 (h .fits .0))
 
@@ -141,7 +141,7 @@ Aimed n y = (m : ℕ) × (1 ≤ m) × (m ≤ n) × ((f : ℕ → ℕ) → y f �
 pub aim-turned : {n : ℕ} {A : ((ℕ → ℕ) → ℕ) → Type 0} (k : Kind) → ((m : ℕ) → kindsOf k m ≡ []) → (Suits k invalid → ⊥)
     → (x : ℕ) → ((b : Bool) (m : ℕ) → Suits k (literal b m) → A (λ f. x)) → ((m : ℕ) → Aimed n (λ f. f m) → A (λ f. f m)) → Turn n longForm (k ∷ []) (λ x. 0) A x
 aim-turned k s t x p q ks [] es h i = absurd (h .fits)
-aim-turned k s t x p q ks (literal b m ∷ vs) es h i = said-turned (λ z. unsigned (2 ^ 32 - 1) z) x (λ f. refl, p b m (h .fits .0)) k b m (s m) ks vs es h i
+aim-turned k s t x p q ks (literal b m ∷ vs) es h i = token-turned (λ z. unsigned (2 ^ 32 - 1) z) x (λ f. refl, p b m (h .fits .0)) k b m (s m) ks vs es h i
 aim-turned {n} k s t x p q ks (label m ∷ vs) es h i =
     let g = and-true (names n (label m)) (namesAll n vs) (h .named) in
     let u = and-true (leb 1 m) (leb m n) (g .0) in

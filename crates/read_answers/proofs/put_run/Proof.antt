@@ -1,4 +1,4 @@
-use Rattle.print_spec.specs.ReadAnswer.{runText}
+use Rattle.read_runs.specs.Kept.{runText}
 use lib.ListN.{length-take}
 use native.Mathlib.Omega.{arith}
 use borrow.Author.Needs.{needs}

@@ -1,4 +1,4 @@
-use Rattle.print_spec.specs.Run.{noRun}
+use Rattle.read_runs.specs.Kept.{noRun}
 use mathlib.Core.Path.{refl}
 use Rattle.read_runs.proofs.no_run.Statement.{statement}
 use Rattle.read_runs.proofs.no_run.Tie as tie

@@ -2,8 +2,8 @@ use mathlib.Core.Path.{_≡_, sym, ap, _∙_}
 use Prim.Native.Nat.{_+_, _-_, _≤_}
 use native.Mathlib.Omega.{arith}
 use lib.ListN.{length, length-take}
-use Rattle.print_spec.specs.declared.Run.{Run}
-use Rattle.print_spec.specs.Run.{runOf}
+use Rattle.read_runs.specs.declared.Run.{Run}
+use Rattle.read_runs.specs.Kept.{runOf}
 use Rattle.read_runs.specs.Step.{startOf, withWord}
 use Rattle.read_runs.specs.RunLaws.{runOn, wordsFrom, run-start, run-next, run-end}
 use Rattle.read_runs.proofs.read_run.Statement.{statement}

@@ -1,0 +1,1 @@
+// Facts about codes and conditions, for code and for laws.
