@@ -9,7 +9,7 @@ use lib.IntN.{ℤ, pos, negsuc}
 use borrow.Author.Tests.{leb-true, eqb-true}
 use Rattle.base_facts.specs.Tests.{all, below, never}
 use Rattle.numeric_spec.specs.Entry.{Entry, unsigned, entryNumber, inside, isI32, Inside}
-use Rattle.numeric_spec.specs.Field.{unsignedForm, signedForm}
+use Rattle.numeric_spec.specs.Payload.{unsignedForm, signedForm}
 use Rattle.numeric_spec.specs.Take.{Taken, taken, notThere, Take, thenTake, given, takeUnsigned, takeSigned, takeBoth, make1, variant}
 
 -- ---- what is taken

@@ -15,7 +15,7 @@ use Rattle.isa.specs.declared.Operand.{Operand}
 use Rattle.isa.specs.declared.Operand.the-variants.{Immediate, Register, Indirect, PostIndirect, PreIndirect, IndirectDisplacement, IndirectIndex, PcDisplacement, PcIndex, Extended, Absolute}
 use Rattle.isa.specs.declared.Instruction.{Instruction}
 use Rattle.isa.specs.declared.Instruction.the-variants.{IntoRegister, MOVEM, Transfer, Pair, Quick, MOVEQ, ImmediateInto, WordIntoData, SWAP, EXG, UnsizedIntoRegister, UnsizedOne, UnsizedPair, EXT, OneOperand, Bcc, Scc, DBcc, Branch, Link, UNLK, Shift, Vector, Status, ConditionCode, MOVEUSP, Raw, NoOperand, RTD, MOVEC, TRAPcc, MULL, Pack, CAS, CAS2, BF, DIVL}
-use Rattle.numeric_spec.specs.Field.{registerForm, fieldValueForm, trapOperandForm, registerChoiceForm, operandForm}
+use Rattle.numeric_spec.specs.Payload.{registerForm, fieldValueForm, trapOperandForm, registerChoiceForm, operandForm}
 use Rattle.numeric_spec.specs.Form.{payloadOf, formOf}
 
 register-length : (r : RegisterOperand) → length (registerForm r) ≡ 2

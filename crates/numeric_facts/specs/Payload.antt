@@ -37,7 +37,7 @@ use Rattle.isa.specs.declared.Operand.the-variants.{Immediate, Register, Indire
 use Rattle.isa.specs.declared.IndexRegister.{IndexRegister}
 use Rattle.isa.specs.declared.BitField.{BitField}
 use Rattle.numeric_spec.specs.Entry.{Entry, Inside}
-use Rattle.numeric_spec.specs.Field.{byteForm, wordForm, longForm, addressForm, flagPlace, flagForm, sizePlace, sizeForm, targetDirectionPlace, targetDirectionForm, addressWidthPlace, addressWidthForm, conditionPlace, conditionForm, branchSizePlace, branchSizeForm, shiftDirectionPlace, shiftDirectionForm, signPlace, signForm, bitFieldOperationPlace, bitFieldOperationForm, registerPlace, registerPayload, registerForm, fieldValuePlace, fieldValuePayload, fieldValueForm, trapOperandPlace, trapOperandPayload, trapOperandForm, registerChoicePlace, registerChoicePayload, registerChoiceForm, operandPlace, operandPayload, operandForm, indexForm, bitFieldForm}
+use Rattle.numeric_spec.specs.Payload.{byteForm, wordForm, longForm, addressForm, flagPlace, flagForm, sizePlace, sizeForm, targetDirectionPlace, targetDirectionForm, addressWidthPlace, addressWidthForm, conditionPlace, conditionForm, branchSizePlace, branchSizeForm, shiftDirectionPlace, shiftDirectionForm, signPlace, signForm, bitFieldOperationPlace, bitFieldOperationForm, registerPlace, registerPayload, registerForm, fieldValuePlace, fieldValuePayload, fieldValueForm, trapOperandPlace, trapOperandPayload, trapOperandForm, registerChoicePlace, registerChoicePayload, registerChoiceForm, operandPlace, operandPayload, operandForm, indexForm, bitFieldForm}
 use Rattle.numeric_spec.specs.Value.{sizeByPlace, addressWidthByPlace, targetDirectionByPlace, conditionByPlace, branchSizeByPlace, shiftDirectionByPlace, signByPlace, bitFieldOperationByPlace, registerByPlace, fieldValueByPlace}
 use Rattle.numeric_spec.specs.Take.{Taken, taken, notThere, Take, given, none, takeBoth, make1, takeByte, takeWord, takeLong, takeAddress, takeFlag, takeSize, takeTargetDirection, takeAddressWidth, takeCondition, takeBranchSize, takeShiftDirection, takeSign, takeBitFieldOperation, takeRegister, takeIndex, takeFieldValue, takeBitField, takeTrapOperand, takeRegisterChoice, operandPayloads, takeOperand}
 use Rattle.numeric_facts.specs.Exact.{Exact, before, thence, unsigned-exact, signed-exact, made-sound, made-back, given-sound, named, chosen}

@@ -1,7 +1,7 @@
 // Numbers, one after the other.
 ghost use mathlib.Core.Path.{_≡_};
 ghost use lib.IntN.{pos};
-ghost use Rattle.numeric_spec.specs.Field.{byteForm, wordForm, longForm, flagForm, flagPlace};
+ghost use Rattle.numeric_spec.specs.Payload.{byteForm, wordForm, longForm, flagForm, flagPlace};
 ghost use Rattle.numeric_push.specs.Pushed.{stored, pushed, pushedAll, none};
 use numeric_spec::Numbers;
 

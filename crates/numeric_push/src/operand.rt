@@ -1,7 +1,7 @@
 // Operands: the addressing mode's place, then its fields.
 ghost use mathlib.Core.Path.{_≡_};
 ghost use mathlib.Core.List.{_++_};
-ghost use Rattle.numeric_spec.specs.Field.{byteForm, wordForm, longForm, addressForm, signedForm, addressWidthForm, registerForm, indexForm, operandForm};
+ghost use Rattle.numeric_spec.specs.Payload.{byteForm, wordForm, longForm, addressForm, signedForm, addressWidthForm, registerForm, indexForm, operandForm};
 ghost use Rattle.numeric_push.specs.Pushed.{pushedAll};
 use crate::number::push_byte;
 use crate::number::push_long;

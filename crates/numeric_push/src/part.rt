@@ -1,7 +1,7 @@
 // Enums and registers: the variant's place, then its fields.
 ghost use mathlib.Core.Path.{_≡_};
 ghost use lib.IntN.{pos};
-ghost use Rattle.numeric_spec.specs.Field.{sizePlace, sizeForm, targetDirectionPlace, targetDirectionForm, addressWidthPlace, addressWidthForm, conditionPlace, conditionForm, branchSizePlace, branchSizeForm, shiftDirectionPlace, shiftDirectionForm, signPlace, signForm, bitFieldOperationPlace, bitFieldOperationForm, registerForm, indexForm, fieldValueForm, bitFieldForm, trapOperandForm, registerChoiceForm};
+ghost use Rattle.numeric_spec.specs.Payload.{sizePlace, sizeForm, targetDirectionPlace, targetDirectionForm, addressWidthPlace, addressWidthForm, conditionPlace, conditionForm, branchSizePlace, branchSizeForm, shiftDirectionPlace, shiftDirectionForm, signPlace, signForm, bitFieldOperationPlace, bitFieldOperationForm, registerForm, indexForm, fieldValueForm, bitFieldForm, trapOperandForm, registerChoiceForm};
 ghost use Rattle.numeric_push.specs.Pushed.{pushed, pushedAll};
 use crate::number;
 use isa::AddressWidth;

@@ -1,4 +1,4 @@
--- The form of an instruction: its place in encoded.rs's Instruction, then its fields.
+-- The form of an instruction: its place in encoded.rs's Instruction, then its payload.
 use Prim.Native.Nat.{ℕ}
 use mathlib.Core.List.{List, [], _∷_, _++_, map}
 use lib.IntN.{ℤ}
@@ -43,7 +43,7 @@ use Rattle.isa.specs.declared.NoOperandOperation.the-variants.{RTE, RESET, RTR,
 use Rattle.isa.specs.declared.Instruction.{Instruction}
 use Rattle.isa.specs.declared.Instruction.the-variants.{IntoRegister, MOVEM, Transfer, Pair, Quick, MOVEQ, ImmediateInto, WordIntoData, SWAP, EXG, UnsizedIntoRegister, UnsizedOne, UnsizedPair, EXT, OneOperand, Bcc, Scc, DBcc, Branch, Link, UNLK, Shift, Vector, Status, ConditionCode, MOVEUSP, Raw, NoOperand, RTD, MOVEC, TRAPcc, MULL, Pack, CAS, CAS2, BF, DIVL}
 use Rattle.numeric_spec.specs.Entry.{Entry, unsigned, entryNumber}
-use Rattle.numeric_spec.specs.Field.{bitFieldForm, bitFieldOperationForm, branchSizeForm, byteForm, conditionForm, flagForm, longForm, operandForm, registerChoiceForm, registerForm, shiftDirectionForm, signForm, sizeForm, targetDirectionForm, trapOperandForm, wordForm}
+use Rattle.numeric_spec.specs.Payload.{bitFieldForm, bitFieldOperationForm, branchSizeForm, byteForm, conditionForm, flagForm, longForm, operandForm, registerChoiceForm, registerForm, shiftDirectionForm, signForm, sizeForm, targetDirectionForm, trapOperandForm, wordForm}
 
 abbrev pub registerOperationPlace : RegisterOperation → ℕ
 registerOperationPlace ADDA = 0

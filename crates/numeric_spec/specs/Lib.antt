@@ -1,5 +1,5 @@
 pub mod Entry
-pub mod Field
+pub mod Payload
 pub mod Form
 pub mod Value
 pub mod Take

@@ -114,7 +114,7 @@ pub fn indexed(words: &[u16], address: u32, at: usize, base: u8) -> OperandRead
 {
     if at < words.len() {
         let w = words[at];
-        let place = number::placed(address, at);
+        let place = number::word_address(address, at);
         if ExtensionWord(w).is_full() {
             full(words, at + 1, base, place, w)
         } else {

@@ -95,7 +95,7 @@ fn pc_displacement(words: &[u16], address: u32, at: usize) -> OperandRead
     ensures { λ r. ⌜ r ≡ operandRead (runAt pcDisplacementTree address (now (words .entry)) at) ⌝ }
 {
     if at < words.len() {
-        let place = number::placed(address, at);
+        let place = number::word_address(address, at);
         let target = number::reach(place, number::signed16(words[at]));
         OperandRead::Got(Operand::PcDisplacement { target }, at + 1)
     } else {

@@ -55,7 +55,7 @@ pub fn long(high: u16, low: u16) -> u32
 }
 
 // The address of a word, the first at `address`.
-pub fn wordAddress(address: u32, at: usize) -> u32
+pub fn word_address(address: u32, at: usize) -> u32
     ensures { λ r. ⌜ r ≡ wordAddress address at ⌝ }
 {
     let n = (at % 2147483648) as u32;
@@ -73,17 +73,17 @@ pub fn reach(place: u32, z: i32) -> u32
 pub fn byte_target(address: u32, byte: u8) -> u32
     ensures { λ r. ⌜ r ≡ reach (wordAddress address 1) (signed8 byte) ⌝ }
 {
-    reach(wordAddress(address, 1), signed8(byte as u16))
+    reach(word_address(address, 1), signed8(byte as u16))
 }
 
 pub fn word_target(address: u32, value: u32) -> u32
     ensures { λ r. ⌜ r ≡ reach (wordAddress address 1) (signed16 (value % 65536)) ⌝ }
 {
-    reach(wordAddress(address, 1), signed16((value % 65536) as u16))
+    reach(word_address(address, 1), signed16((value % 65536) as u16))
 }
 
 pub fn long_target(address: u32, value: u32) -> u32
     ensures { λ r. ⌜ r ≡ reach (wordAddress address 1) (signed32 value) ⌝ }
 {
-    reach(wordAddress(address, 1), signed32(value))
+    reach(word_address(address, 1), signed32(value))
 }

@@ -13,7 +13,7 @@ use Rattle.isa.specs.declared.Operand.the-variants.{Immediate, Register, Indire
 use Rattle.isa.specs.declared.Instruction.{Instruction}
 use Rattle.isa.specs.declared.Instruction.the-variants.{IntoRegister, MOVEM, Transfer, Pair, Quick, MOVEQ, ImmediateInto, WordIntoData, SWAP, EXG, UnsizedIntoRegister, UnsizedOne, UnsizedPair, EXT, OneOperand, Bcc, Scc, DBcc, Branch, Link, UNLK, Shift, Vector, Status, ConditionCode, MOVEUSP, Raw, NoOperand, RTD, MOVEC, TRAPcc, MULL, Pack, CAS, CAS2, BF, DIVL}
 use Rattle.numeric_spec.specs.Entry.{Entry, Inside, isI32}
-use Rattle.numeric_spec.specs.Field.{sizeForm, conditionForm, shiftDirectionForm, signForm, flagForm, byteForm, wordForm, longForm, bitFieldForm, registerForm, registerChoiceForm, trapOperandForm, operandForm}
+use Rattle.numeric_spec.specs.Payload.{sizeForm, conditionForm, shiftDirectionForm, signForm, flagForm, byteForm, wordForm, longForm, bitFieldForm, registerForm, registerChoiceForm, trapOperandForm, operandForm}
 use Rattle.read_spec.specs.Accepted.{Fits32, InTypes, TrapInTypes, InstructionInTypes}
 use Rattle.read_operand_laws.specs.Facts.{as-fits32}
 use Rattle.base_facts.specs.Tests.{leb-is}

@@ -44,7 +44,7 @@ use Rattle.isa.specs.declared.NoOperandOperation.the-variants.{RTE, RESET, RTR,
 use Rattle.isa.specs.declared.Instruction.{Instruction}
 use Rattle.isa.specs.declared.Instruction.the-variants.{IntoRegister, MOVEM, Transfer, Pair, Quick, MOVEQ, ImmediateInto, WordIntoData, SWAP, EXG, UnsizedIntoRegister, UnsizedOne, UnsizedPair, EXT, OneOperand, Bcc, Scc, DBcc, Branch, Link, UNLK, Shift, Vector, Status, ConditionCode, MOVEUSP, Raw, NoOperand, RTD, MOVEC, TRAPcc, MULL, Pack, CAS, CAS2, BF, DIVL}
 use Rattle.numeric_spec.specs.Entry.{Entry, unsigned}
-use Rattle.numeric_spec.specs.Field.{flagPlace, sizePlace, targetDirectionPlace, addressWidthPlace, conditionPlace, branchSizePlace, shiftDirectionPlace, signPlace, bitFieldOperationPlace, registerForm, fieldValueForm, trapOperandForm, registerChoiceForm, operandForm}
+use Rattle.numeric_spec.specs.Payload.{flagPlace, sizePlace, targetDirectionPlace, addressWidthPlace, conditionPlace, branchSizePlace, shiftDirectionPlace, signPlace, bitFieldOperationPlace, registerForm, fieldValueForm, trapOperandForm, registerChoiceForm, operandForm}
 use Rattle.numeric_spec.specs.Form.{placeOf}
 use Rattle.sheet_spec.specs.declared.Kind.{Kind}
 use Rattle.sheet_spec.specs.declared.Kind.the-variants as kind

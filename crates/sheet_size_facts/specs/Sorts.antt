@@ -9,7 +9,7 @@ use lib.ListN.{length, getD}
 use lib.IntN.{ℤ, pos, negsuc}
 use borrow.Author.Tests.{le-leb, leb-true, ltb-true}
 use Rattle.numeric_spec.specs.Entry.{Entry, unsigned, signed, inside, Inside}
-use Rattle.numeric_spec.specs.Field.{longForm}
+use Rattle.numeric_spec.specs.Payload.{longForm}
 use Rattle.sheet_spec.specs.declared.Kind.{Kind}
 use Rattle.sheet_spec.specs.declared.Kind.the-variants as kind
 use Rattle.sheet_spec.specs.Names.{bytes, namesOf}

@@ -2,7 +2,7 @@ use borrow.Author.Needs.{needs}
 use mathlib.Core.List.{_++_}
 use mir.Facts.{toZ-ofZ}
 use mir.Syntax.{w32}
-use Rattle.numeric_spec.specs.Field.{indexForm, registerForm, signedForm}
+use Rattle.numeric_spec.specs.Payload.{indexForm, registerForm, signedForm}
 use Rattle.numeric_push.specs.Pushed.{pushedAll}
 use Rattle.numeric_push.specs.PushedLaws.{then}
 use Rattle.numeric_push.proofs.operand.push_indirect_index.Statement.{statement}

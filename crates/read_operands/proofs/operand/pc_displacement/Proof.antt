@@ -6,7 +6,7 @@ use mir.Facts.{toZ-ofZ}
 use borrow.Author.Tests.{lt-ltb, le-ltb}
 
 returns : tie.Need-returns
-returns c = rw (lt-ltb _ _ (c .before .before .before .before .if1 .taken), c .reach .ensures, toZ-ofZ {w = w32} {z = c .before .signed16 .result} (search needs), c .before .signed16 .ensures, c .before .before .before .placed .ensures)
+returns c = rw (lt-ltb _ _ (c .before .before .before .before .if1 .taken), c .reach .ensures, toZ-ofZ {w = w32} {z = c .before .signed16 .result} (search needs), c .before .signed16 .ensures, c .before .before .before .word-address .ensures)
 
 returns-2 : tie.Need-returns-2
 returns-2 c = rw (le-ltb _ _ (c .if1 .left))

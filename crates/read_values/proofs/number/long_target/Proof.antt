@@ -5,7 +5,7 @@ use Rattle.read_values.proofs.number.long_target.Statement.{statement}
 use Rattle.read_values.proofs.number.long_target.Tie as tie
 
 returns : tie.Need-returns
-returns c = rw (c .reach .ensures, toZ-ofZ {w = w32} {z = c .before .signed32 .result} (search needs), c .before .signed32 .ensures, c .before .before .placed .ensures)
+returns c = rw (c .reach .ensures, toZ-ofZ {w = w32} {z = c .before .signed32 .result} (search needs), c .before .signed32 .ensures, c .before .before .word-address .ensures)
 
 pub long-target-spec : {M : Type 1} → statement M
 long-target-spec = tie.close (tie.spec (λ c κs. search needs) (λ c κs. search needs) (λ c κs. search needs) returns)

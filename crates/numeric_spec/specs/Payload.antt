@@ -1,4 +1,4 @@
--- The values of a field: each as its numbers, with the types that they are declared at.
+-- The values of a payload: each as its numbers, with the types that they are declared at.
 use Prim.Native.Nat.{ℕ, _-_, _^_}
 use mathlib.Core.Bool.{Bool, true, false}
 use mathlib.Core.List.{List, [], _∷_, _++_}
@@ -136,7 +136,7 @@ bitFieldOperationPlace Insert = 7
 abbrev pub bitFieldOperationForm : BitFieldOperation → List Entry
 bitFieldOperationForm x = unsignedForm 7 (bitFieldOperationPlace x)
 
--- an enum with fields: its variant's place, then them
+-- an enum with payload: its variant's place, then it
 abbrev pub registerPlace : RegisterOperand → ℕ
 registerPlace (Address n) = 0
 registerPlace (Data n) = 1
