@@ -8,7 +8,7 @@ use native.Mathlib.Decide.{decLe}
 use lib.ListN.{length, replicate, set, length-append, length-map, drop, take}
 use lib.Seq.{set-at, append-snoc}
 use lib.Dec.{leb, ltb}
-use borrow.Author.Tests.{le-leb, lt-leb, lt-ltb, le-ltb, leb-true, ltb-true}
+use borrow.Author.Tests.{le-leb, lt-leb, lt-ltb, le-ltb, ltb-true}
 use Rattle.base_spec.specs.declared.Number.{Number}
 use Rattle.base_spec.specs.declared.Number.the-variants.{Is, No}
 use Rattle.base_text.specs.declared.LineNumbers.{LineNumbers}
@@ -18,7 +18,7 @@ use Rattle.base_text.specs.PartLaws.{partsFrom, parts-at, parts-start, p
 use Rattle.base_spec.specs.Number.{numberOf}
 use Rattle.base_text.specs.Numbers.{placedNumber, withNumber, negativeOf, places, noNumbers, gathered, lineNumbers}
 use Rattle.base_spec.specs.Numbers.{isNumber, magnitudeOf, allNumbers}
-use Rattle.base_facts.specs.Tests.{and-false}
+use Rattle.base_facts.specs.Tests.{and-false, cond-true, cond-false}
 use Rattle.base_facts.specs.Lists.{map-more}
 
 all-more : (ns : List Number) (n : Number) → allNumbers (ns ++ (n ∷ [])) ≡ allNumbers ns && isNumber n
@@ -125,12 +125,6 @@ pub numbers-end : (line : List ℕ) (from : ℕ) (r : LineNumbers) → length li
 numbers-end line from r h = rw (parts-past 9 line from h)
 
 -- by the test whether there is room
-cond-true : (t : Bool) (a b : LineNumbers) → t ≡ true → cond t a b ≡ a
-cond-true t a b e = rw e
-
-cond-false : (t : Bool) (a b : LineNumbers) → t ≡ false → cond t a b ≡ b
-cond-false t a b e = rw e
-
 pub room : (t : Bool) (k : ℕ) → t && ltb k 24 ≡ true → k < 24
 room true k e = ltb-true k 24 e
 room false k e = let z : _≡_ {A = ℕ} 0 1 = cc in absurd (omega arith)
@@ -143,12 +137,3 @@ placed-number r s n e = sym (cond-true (r .ok && ltb (r .count) 24) _ _ e)
 pub no-room : (r : LineNumbers) (s : Bool) (n : ℕ) → r .ok && ltb (r .count) 24 ≡ false → placedNumber r s n ≡ noNumbers
 unfolding placedNumber
 no-room r s n e = cond-false (r .ok && ltb (r .count) 24) _ _ e
-
-pub count-fits : (ns : List Number) → gathered ns .count ≤ 24
-unfolding gathered noNumbers
-count-fits ns = go (allNumbers ns) (leb (length ns) 24) (leb-true (length ns) 24)
-  where
-    go : (t u : Bool) → (u ≡ true → length ns ≤ 24) → numbersIf (t && u) ns .count ≤ 24
-    go true true f = f refl
-    go true false f = omega arith
-    go false u f = omega arith

@@ -33,17 +33,6 @@ module _ (stop : ℕ) where
       go true e = refl
       go false e = ap (λ (x : List ℕ). b ∷ x) e
 
-  pub before-fits : (l : List ℕ) → length (before stop l) ≤ length l
-  before-fits [] = omega arith
-  before-fits (b ∷ bs) = go (eqb b stop) (before-fits bs)
-    where
-      go : (t : Bool) → length (before stop bs) ≤ length bs → length (cond t [] (b ∷ before stop bs)) ≤ suc (length bs)
-      go true h = omega arith
-      go false h = omega arith
-
-  pub part-end-fits : (s : List ℕ) (from : ℕ) → from ≤ length s → partEnd stop s from ≤ length s
-  part-end-fits s from h = omega (arith, before-fits (drop from s), length-drop from s)
-
   -- the part that begins at `from` is what stands before the next stop
   pub part-is : (s : List ℕ) (from e : ℕ) → e ≡ partEnd stop s from → take (e - from) (drop from s) ≡ before stop (drop from s)
   part-is s from e g =

@@ -4,7 +4,7 @@ use mathlib.Core.List.{List, [], _∷_, _++_, append-assoc}
 use mathlib.Core.Bool.{Bool, true, false}
 use Prim.Native.Nat.{ℕ, zero, suc, _+_, _-_, _/_, _%_, _^_, _≤_, _<_}
 use native.Mathlib.Omega.{arith}
-use lib.ListN.{length, take, drop, set, length-append, length-take, length-drop}
+use lib.ListN.{length, take, drop, set, length-append, length-take}
 use lib.Seq.{sets-eq, take-at, drop-at, drop-drop}
 use lib.Dec.{ltb}
 use lib.IntN.{ℤ, pos, negsuc}
@@ -13,9 +13,6 @@ use mir.Syntax.{w64}
 use borrow.Author.Tests.{ltb-true, ltb-false}
 use Rattle.base_spec.specs.Written.{placed, digitsTo, decimalOf, signedOf}
 use Rattle.base_spec.specs.Signed.{bitsOf}
-
-pub placed-length : (buf : List ℕ) (at : ℕ) (t : List ℕ) → at + length t ≤ length buf → length (placed buf at t) ≡ length buf
-placed-length buf at t h = rw (length-append, length-append, length-take, length-drop) (omega arith)
 
 pub placed-byte : (buf : List ℕ) (at b : ℕ) → at < length buf → set buf at b ≡ placed buf at (b ∷ [])
 placed-byte buf at b h = sets-eq (b ∷ []) buf at (omega arith)

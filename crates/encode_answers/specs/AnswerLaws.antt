@@ -6,30 +6,31 @@ use Prim.Native.Nat.{ℕ, suc, _+_, _-_, _≤_, _<_}
 use native.Mathlib.Omega.{arith}
 use native.Mathlib.Numerals.{add-one}
 use lib.Dec.{leb}
-use lib.IntN.{ℤ, pos, negsuc}
+use lib.IntN.{ℤ, pos}
 use lib.ListN.{length, take, drop, getD, replicate, length-append, length-map, length-replicate}
-use lib.Seq.{take-suc, take-all}
+use lib.Seq.{take-suc}
 use borrow.Author.Tests.{leb-false}
 use Rattle.base_facts.specs.Tests.{and-true, cond-true, cond-false, leb-is, leb-true, never}
 use Rattle.base_spec.specs.declared.Number.{Number}
 use Rattle.base_spec.specs.declared.Number.the-variants.{Is, No}
 use Rattle.base_spec.specs.Parts.{fields}
 use Rattle.base_spec.specs.Number.{numberOf}
-use Rattle.base_spec.specs.Numbers.{isNumber, allNumbers, magnitudeOf, integerOf}
+use Rattle.base_spec.specs.Numbers.{allNumbers, magnitudeOf, integerOf}
 use Rattle.base_spec.specs.Signed.{minus}
 use Rattle.base_spec.specs.Written.{hex4Of}
 use Rattle.base_spec.specs.Refused.{tab, notInForm}
 use Rattle.base_text.specs.declared.LineNumbers.{LineNumbers}
 use Rattle.base_text.specs.Numbers.{negativeOf, places, noNumbers, gathered, lineNumbers}
-use Rattle.numeric_spec.specs.declared.Numbers.{Numbers}
+use Rattle.numeric_places.specs.declared.Numbers.{Numbers}
 use Rattle.numeric_spec.specs.declared.Built.{Built}
 use Rattle.numeric_spec.specs.Take.{Taken, taken, notThere, takeLong}
-use Rattle.numeric_spec.specs.Build.{builtOf, signedFrom, listed, builtFrom}
+use Rattle.numeric_spec.specs.Build.{builtOf}
+use Rattle.numeric_places.specs.Places.{signedFrom, numbersHeld, builtFrom}
 use Rattle.numeric_facts.specs.Built.{build-long}
 use Rattle.numeric_facts.specs.Payload.{long-exact}
 use Rattle.numeric_fields.specs.declared.LongAt.{LongAt}
 use Rattle.numeric_fields.specs.Number.{longAt}
-use Rattle.numeric_fields.specs.Taken.{Whole, Same, long-same, long-next}
+use Rattle.numeric_fields.specs.Taken.{Whole, long-same, long-next}
 use Rattle.print_spec.specs.EncodeAnswer.{wordsText, builtText, addressedText, instructionText, lineNumbersText, answerOf}
 use Rattle.encode_answers.specs.Places.{placesIn, placesText}
 
@@ -69,20 +70,20 @@ signed-fields [] bs ms a = refl
 signed-fields (Is s n ∷ xs) bs ms a = ap (λ (t : List ℤ). cond s (minus n) (pos n) ∷ t) (signed-fields xs bs ms a)
 signed-fields (No ∷ xs) bs ms a = never a
 
-held-listed : (xs : List Number) (h : length xs ≤ 24) → allNumbers xs ≡ true → listed (held xs h) ≡ map integerOf xs
-unfolding listed
+held-listed : (xs : List Number) (h : length xs ≤ 24) → allNumbers xs ≡ true → numbersHeld (held xs h) ≡ map integerOf xs
+unfolding numbersHeld
 held-listed xs h a = signed-fields xs _ _ a
 
 -- an address, then an instruction, in places
 module _ (ns : Numbers) (w : Whole ns) (few : ns .count ≤ 24) where
-  places-taken : placesText ns ≡ instructionText (listed ns)
+  places-taken : placesText ns ≡ instructionText (numbersHeld ns)
   unfolding placesText instructionText
   places-taken = go (longAt ns 0 .ok) refl (long-same ns w 0 .is)
     where
-      go : (t : Bool) → longAt ns 0 .ok ≡ t → takeLong (drop 0 (listed ns)) ≡ cond t (taken (longAt ns 0 .value) (drop (longAt ns 0 .next) (listed ns))) notThere
-          → cond t (builtText (builtFrom ns 1) (longAt ns 0 .value)) notInForm ≡ addressedText (takeLong (listed ns))
+      go : (t : Bool) → longAt ns 0 .ok ≡ t → takeLong (drop 0 (numbersHeld ns)) ≡ cond t (taken (longAt ns 0 .value) (drop (longAt ns 0 .next) (numbersHeld ns))) notThere
+          → cond t (builtText (builtFrom ns 1) (longAt ns 0 .value)) notInForm ≡ addressedText (takeLong (numbersHeld ns))
       go true t e = ap (λ (b : Built). builtText b (longAt ns 0 .value)) (cond-true (leb (ns .count) 24) _ _ (leb-true (ns .count) 24 few))
-          ∙ ap (λ (k : ℕ). builtText (builtOf (drop k (listed ns))) (longAt ns 0 .value)) (sym (long-next ns w 0 t))
+          ∙ ap (λ (k : ℕ). builtText (builtOf (drop k (numbersHeld ns))) (longAt ns 0 .value)) (sym (long-next ns w 0 t))
           ∙ sym (ap addressedText e)
       go false t e = sym (ap addressedText e)
 

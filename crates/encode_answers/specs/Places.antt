@@ -4,8 +4,8 @@ use mathlib.Core.List.{List}
 use Prim.Native.Nat.{ℕ}
 use Rattle.base_spec.specs.Refused.{notInForm}
 use Rattle.base_text.specs.declared.LineNumbers.{LineNumbers}
-use Rattle.numeric_spec.specs.declared.Numbers.{Numbers}
-use Rattle.numeric_spec.specs.Build.{builtFrom}
+use Rattle.numeric_places.specs.declared.Numbers.{Numbers}
+use Rattle.numeric_places.specs.Places.{builtFrom}
 use Rattle.numeric_fields.specs.Number.{longAt}
 use Rattle.print_spec.specs.EncodeAnswer.{builtText}
 

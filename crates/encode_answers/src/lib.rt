@@ -11,7 +11,7 @@ use base_spec::Step;
 use isa::Encoded;
 use isa::Measured;
 use numeric_spec::Built;
-use numeric_spec::Numbers;
+use numeric_places::Numbers;
 
 // Each word, and a tab.
 fn put_words(out: &mut [u8], at: usize, words: [u16; 11], count: usize) -> usize

@@ -10,7 +10,6 @@ use Rattle.isa.specs.declared.Operand.{Operand}
 use Rattle.isa.specs.declared.Operand.the-variants.{Immediate, Register}
 use Rattle.isa.specs.declared.Field.the-variants as field
 use Rattle.encode_spec.specs.Item.{Part, Verdict, outOfRange, noEncoding, word, check, range, unless, register, allow, operation, fixed}
-use Rattle.isa_spec.specs.Code.{bit}
 use Rattle.encode_spec.specs.Ea.{dataModes, dataAlterable, dataNotImmediate, bitFieldRead, bitFieldWritten, eaField, registerField, effective, isRegister, isImmediate, registerIn, immediateIn, registerNumber, paired, memoryBit, withData}
 use Rattle.isa.specs.declared.FieldValue.{FieldValue}
 use Rattle.isa.specs.declared.FieldValue.the-variants as value

@@ -40,8 +40,8 @@ addq n = Quick ADDQ n (Register (Data 1)) Long
 abbrev pub clr : ℕ → Instruction
 clr a = OneOperand CLR (Absolute a width.Word) Word
 
-abbrev pub shortBranch : ℕ → Instruction
-shortBranch t = Branch BRA t branch.Short
+abbrev pub braShort : ℕ → Instruction
+braShort t = Branch BRA t branch.Short
 
 pub record Table : Type 0 where
   pub a : (at : ℕ) → Has (addq 8) at (0x5081 ∷ [])
@@ -51,10 +51,10 @@ pub record Table : Type 0 where
   pub c : (at : ℕ) → Has (Pair MOVE (Immediate 0x12345678) (Register (Data 3)) Long) at (0x263C ∷ 0x1234 ∷ 0x5678 ∷ [])
   pub d : Has (lea (PcDisplacement 0x100A) 2) 0x1000 (0x45FA ∷ 0x0008 ∷ [])
   pub e : Has (Branch BRA 0x1000 branch.Word) 0x1000 (0x6000 ∷ 0xFFFE ∷ [])
-  pub f : Has (shortBranch 0x1081) 0x1000 (0x607F ∷ [])
-  pub f-far : OutOf (shortBranch 0x1082) 0x1000 1 (pos 128)
-  pub f-next : OutOf (shortBranch 0x1002) 0x1000 1 (pos 0)
-  pub f-back : Has (shortBranch 0x0F82) 0x1000 (0x6080 ∷ [])
+  pub f : Has (braShort 0x1081) 0x1000 (0x607F ∷ [])
+  pub f-far : OutOf (braShort 0x1082) 0x1000 1 (pos 128)
+  pub f-next : OutOf (braShort 0x1002) 0x1000 1 (pos 0)
+  pub f-back : Has (braShort 0x0F82) 0x1000 (0x6080 ∷ [])
   pub g : Has (Branch BRA 0 branch.Word) 0xFFFFFFFE (0x6000 ∷ 0x0000 ∷ [])
   pub h : (at : ℕ) → Has (clr 0xFFFF8000) at (0x4278 ∷ 0x8000 ∷ [])
   pub h-short : (at : ℕ) → OutOf (clr 0x8000) at 7 (pos 32768)

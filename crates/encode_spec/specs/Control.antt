@@ -10,7 +10,7 @@ use Rattle.isa.specs.declared.Field.the-variants as field
 use Rattle.base_spec.specs.Signed.{signed32, bitsOf, difference}
 use Rattle.encode_spec.specs.Item.{Item, Part, word, range, dataRegister, allow, operation, fixed, wordAddress}
 use Rattle.isa_spec.specs.Code.{registerBits, conditionCode}
-use Rattle.encode_spec.specs.Ea.{dataAlterable, control, distance, longItems, wordItems, single}
+use Rattle.encode_spec.specs.Ea.{dataAlterable, distance, longItems, wordItems, single}
 use Rattle.isa.specs.declared.Condition.{Condition}
 use Rattle.isa.specs.declared.BranchSize.{BranchSize}
 use Rattle.isa.specs.declared.BranchSize.the-variants as branch

@@ -1,5 +1,5 @@
 -- Logical, shift and rotate (the manual, sections 3.1.3 and 3.1.4; section 4 has each format).
-use Prim.Native.Nat.{ℕ, _+_, _*_, _/_, _%_}
+use Prim.Native.Nat.{ℕ, _+_, _*_, _%_}
 use mathlib.Core.Bool.{Bool, _&&_, cond}
 use mathlib.Core.List.{List, [], _∷_}
 use lib.Dec.{eqb}
@@ -9,7 +9,7 @@ use Rattle.isa.specs.declared.Size.the-variants.{Word}
 use Rattle.isa.specs.declared.RegisterOperand.{RegisterOperand}
 use Rattle.isa.specs.declared.Operand.{Operand}
 use Rattle.isa.specs.declared.Field.the-variants as field
-use Rattle.encode_spec.specs.Item.{Item, Part, noEncoding, word, check, range, register, dataRegister, allow, operation, fixed}
+use Rattle.encode_spec.specs.Item.{Item, Part, noEncoding, check, range, dataRegister, allow, operation, fixed}
 use Rattle.isa_spec.specs.Code.{sizeCode, isWord, bit, registerBits}
 use Rattle.encode_spec.specs.Ea.{dataModes, memoryAlterable, isRegister, isImmediate, registerIn, immediateIn, single, withData, fromData}
 use Rattle.isa.specs.declared.ShiftOperation.{ShiftOperation}

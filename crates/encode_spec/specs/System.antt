@@ -10,7 +10,7 @@ use Rattle.isa.specs.declared.Operand.{Operand}
 use Rattle.isa.specs.declared.Field.the-variants as field
 use Rattle.encode_spec.specs.Item.{Item, Part, malformed, word, check, range, unless, register, addressRegister, allow, operation, fixed}
 use Rattle.isa_spec.specs.Code.{sizeCode, isByte, longBit, bit, numberOfRegister, registerBits, general, toMemory}
-use Rattle.encode_spec.specs.Ea.{memoryAlterable, control, eaField, effective}
+use Rattle.encode_spec.specs.Ea.{memoryAlterable, eaField, effective}
 use Rattle.isa.specs.declared.TargetDirection.{TargetDirection}
 use Rattle.isa.specs.declared.StatusOperation.{StatusOperation}
 use Rattle.isa.specs.declared.StatusOperation.the-variants.{ANDItoSR, ORItoSR, EORItoSR, STOP}

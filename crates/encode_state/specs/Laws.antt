@@ -52,10 +52,6 @@ pub run-append : (xs ys : List Item) (e : Encoder) → run (xs ++ ys) e ≡ run 
 run-append [] ys e = refl
 run-append (x ∷ xs) ys e = run-append xs ys (step e x)
 
-pub parts-append : (ps qs : List Part) (e : Encoder) → runParts (ps ++ qs) e ≡ runParts qs (runParts ps e)
-parts-append [] qs e = refl
-parts-append (p ∷ ps) qs e = parts-append ps qs (run (p (nextAddress e)) e)
-
 -- ---- a check leaves the place of the next word
 next-cond : (b : Bool) (x y : Encoder) → nextAddress x ≡ nextAddress y → nextAddress (cond b x y) ≡ nextAddress y
 next-cond true x y h = h

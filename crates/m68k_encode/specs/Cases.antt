@@ -1,8 +1,5 @@
 -- 01's cases a to l, by computation on the definitions.
 use mathlib.Core.Path.{refl}
-use Rattle.isa.specs.declared.AddressWidth.the-variants as width
-use Rattle.isa.specs.declared.BranchSize.the-variants as branch
-use Rattle.isa.specs.declared.FieldValue.the-variants as value
 use Rattle.isa_spec.specs.Field.{holds, ranges}
 use Rattle.encode_spec.specs.Encode.{encodeOf, sizeOf}
 use Rattle.encode_spec.specs.Ea.{permits, byteOfAddress, single, withAddress}

@@ -42,7 +42,7 @@ fewer (check v ∷ xs) h = let p = fine-both v (failure true xs) h in rw (p .0) 
 fewer (range f z ∷ xs) h = fewer xs (fine-both (ranged true f z) (failure true xs) h .1)
 
 -- ---- an accepted result has the verdict fine
-encoded-fine : (v : Verdict) (ws : List ℕ) → encodedAs v ws .number ≡ 0 → v ≡ fine
+pub encoded-fine : (v : Verdict) (ws : List ℕ) → encodedAs v ws .number ≡ 0 → v ≡ fine
 encoded-fine fine ws h = refl
 encoded-fine malformed ws h = absurd (omega arith)
 encoded-fine (outOfRange f z) ws h = absurd (omega arith)

@@ -2,14 +2,14 @@
 use Prim.Native.Nat.{ℕ, _/_, _%_, _<_}
 use mathlib.Core.Path.{_≡_, refl, sym, ap, _∙_}
 use mathlib.Core.Bool.{Bool, true, false, _&&_, cond}
-use mathlib.Core.List.{List, [], _∷_, map}
+use mathlib.Core.List.{List, map}
 use native.Mathlib.Omega.{arith}
 use lib.Dec.{ltb, eqb}
-use lib.ListN.{length, getD, List·getD-map}
+use lib.ListN.{getD, List·getD-map}
 use borrow.Author.Tests.{ltb-true}
 use Rattle.isa.specs.declared.RegisterOperation.the-variants.{ADDA}
 use Rattle.isa.specs.declared.Instruction as M
-use Rattle.numeric_spec.specs.declared.Numbers.{Numbers}
+use Rattle.numeric_places.specs.declared.Numbers.{Numbers}
 use Rattle.numeric_fields.specs.declared.UnsignedAt.{UnsignedAt}
 use Rattle.numeric_fields.specs.Number.{unsignedAt}
 use Rattle.numeric_fields.specs.NumberLaws.{unsigned-le}

@@ -5,8 +5,8 @@ use lib.ListN.{length-map}
 use denote.Laws.{Is}
 use denote.Struct.Declared.{row}
 use mir.Val.{Val}
-use Rattle.numeric_spec.specs.declared.Numbers.{Numbers}
-use Rattle.numeric_spec.proofs.Numbers as numbers
+use Rattle.numeric_places.specs.declared.Numbers.{Numbers}
+use Rattle.numeric_places.proofs.Numbers as numbers
 use Rattle.numeric_fields.specs.Taken.{Whole}
 
 pub whole-places : (n : Numbers) (vs : List Val) → Is (row numbers.the-type) n vs → Whole n

@@ -1,11 +1,11 @@
 -- A walk along a row in one number, field by field. Assumes nothing.
 use Prim.Native.Nat.{ℕ, zero, suc, _/_, _%_, _<_}
-use mathlib.Core.Path.{_≡_, refl, sym, ap, _∙_}
+use mathlib.Core.Path.{_≡_, refl, ap, _∙_}
 use mathlib.Core.Bool.{Bool, true}
 use lib.Dec.{eqb}
 use lib.ListN.{getD}
 use borrow.Author.Tests.{eqb-true, ne-eqb}
-use Rattle.numeric_spec.specs.declared.Numbers.{Numbers}
+use Rattle.numeric_places.specs.declared.Numbers.{Numbers}
 use Rattle.numeric_build.specs.declared.row.Filled.{Filled}
 use Rattle.numeric_fields.specs.declared.OperandAt.{OperandAt}
 use Rattle.numeric_fields.specs.Operand.{operandAt}

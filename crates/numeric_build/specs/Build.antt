@@ -6,7 +6,7 @@ use lib.Dec.{eqb}
 use lib.ListN.{getD}
 use Rattle.isa.specs.declared.Instruction as Isa
 use Rattle.isa.specs.declared.RegisterOperation.the-variants.{ADDA}
-use Rattle.numeric_spec.specs.declared.Numbers.{Numbers}
+use Rattle.numeric_places.specs.declared.Numbers.{Numbers}
 use Rattle.numeric_fields.specs.Number.{unsignedAt}
 use Rattle.numeric_spec.specs.Shape.{Shape, shapes, intoRegister}
 use Rattle.numeric_shapes.specs.Row.{rowOf}

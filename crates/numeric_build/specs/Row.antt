@@ -10,7 +10,7 @@ use Rattle.isa.specs.declared.RegisterChoice.the-variants as choice
 use Rattle.isa.specs.declared.RegisterOperand.the-variants.{Data}
 use Rattle.isa.specs.declared.Size.the-variants as size
 use Rattle.isa.specs.declared.TrapOperand.the-variants as trap
-use Rattle.numeric_spec.specs.declared.Numbers.{Numbers}
+use Rattle.numeric_places.specs.declared.Numbers.{Numbers}
 use Rattle.numeric_fields.specs.Number.{unsignedAt, byteAt, longAt, wordAt}
 use Rattle.numeric_fields.specs.Part.{bitFieldAt, registerAt, registerChoiceAt, sizeAt, trapOperandAt}
 use Rattle.numeric_fields.specs.Operand.{operandAt}

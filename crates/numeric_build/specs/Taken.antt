@@ -1,11 +1,10 @@
 -- What `buildOf` makes of places is the instruction of the numbers that they hold. Assumes nothing.
-use Prim.Native.Nat.{ℕ, _≤_, _<_, min}
+use Prim.Native.Nat.{ℕ, _≤_, _<_}
 use mathlib.Core.Path.{_≡_, refl, sym, ap, _∙_}
 use mathlib.Core.Bool.{Bool, true, false, _&&_, cond}
-use mathlib.Core.List.{List, [], _∷_}
 use native.Mathlib.Omega.{arith}
 use lib.Dec.{eqb, leb}
-use lib.IntN.{ℤ, pos}
+use lib.IntN.{pos}
 use lib.ListN.{length, getD, drop, drop-of-length-le}
 use lib.Seq.{drop-cons}
 use borrow.Author.Tests.{leb-false}
@@ -13,43 +12,43 @@ use Rattle.isa.specs.declared.RegisterOperation.the-variants.{ADDA}
 use Rattle.isa.specs.declared.Instruction as Isa
 use Rattle.isa.specs.declared.Instruction.the-variants.{IntoRegister, MOVEM, Transfer, Pair, Quick, MOVEQ, ImmediateInto, WordIntoData, SWAP, EXG, UnsizedIntoRegister, UnsizedOne, UnsizedPair, EXT, OneOperand, Bcc, Scc, DBcc, Branch, Link, UNLK, Shift, Vector, Status, ConditionCode, MOVEUSP, Raw, NoOperand, RTD, MOVEC, TRAPcc, MULL, Pack, CAS, CAS2, BF, DIVL}
 use Rattle.base_facts.specs.Tests.{Eq, eq?, same, other, leb-is}
-use Rattle.numeric_spec.specs.declared.Numbers.{Numbers}
-use Rattle.numeric_spec.specs.declared.Built.{Built}
+use Rattle.numeric_places.specs.declared.Numbers.{Numbers}
 use Rattle.numeric_spec.specs.declared.Built.the-variants.{Instruction, NotInForm}
 use Rattle.numeric_spec.specs.Value.{targetDirectionByPlace, conditionByPlace, branchSizeByPlace, shiftDirectionByPlace, signByPlace, bitFieldOperationByPlace}
-use Rattle.numeric_spec.specs.Take.{Taken, taken, notThere, takeByte, takeWord, takeLong, takeFlag, takeSize, takeTargetDirection, takeCondition, takeBranchSize, takeShiftDirection, takeSign, takeBitFieldOperation, takeRegister, takeBitField, takeTrapOperand, takeRegisterChoice, takeOperand}
+use Rattle.numeric_spec.specs.Take.{Taken, taken, takeByte, takeWord, takeLong, takeFlag, takeSize, takeTargetDirection, takeCondition, takeBranchSize, takeShiftDirection, takeSign, takeBitFieldOperation, takeRegister, takeBitField, takeTrapOperand, takeRegisterChoice, takeOperand}
 use Rattle.numeric_spec.specs.Shape.{Shape, shapes, intoRegister, movem, transfer, pair, quick, moveq, immediateInto, wordIntoData, swap, exg, unsizedIntoRegister, unsizedOne, unsizedPair, ext, oneOperand, bcc, scc, dbcc, branch, link, unlk, shift, vector, status, conditionCode, moveusp, raw, noOperand, rtd, movec, trapcc, mull, pack, cas, cas2, bf, divl}
-use Rattle.numeric_spec.specs.Build.{takeShape, takeInstruction, whole, builtOf, listed, builtFrom}
+use Rattle.numeric_spec.specs.Build.{takeShape, takeInstruction, whole, builtOf}
+use Rattle.numeric_places.specs.Places.{numbersHeld, builtFrom}
 use Rattle.numeric_fields.specs.Number.{unsignedAt, byteAt, wordAt, longAt}
-use Rattle.numeric_fields.specs.Part.{sizeAt, registerAt, bitFieldAt, trapOperandAt, registerChoiceAt}
+use Rattle.numeric_fields.specs.Part.{sizeAt, registerAt, bitFieldAt, registerChoiceAt}
 use Rattle.numeric_fields.specs.Operand.{operandAt}
 use Rattle.numeric_fields.specs.Taken.{Whole, listed-length, Same, same-given, same-one, same-next, same-both, unsigned-same, byte-same, word-same, long-same, size-same, register-same, bit-field-same, trap-operand-same, register-choice-same, operand-same}
 use Rattle.numeric_build.specs.Row.{fillWith, nothing}
 use Rattle.numeric_build.specs.Build.{shapeAt, shapeAtPlace, buildOf}
 
 module _ (ns : Numbers) (w : Whole ns) where
-  flag-same : (k : ℕ) → Same (listed ns) (unsignedAt 1 ns k .ok) (eqb (unsignedAt 1 ns k .value) 1) (unsignedAt 1 ns k .next) (takeFlag (drop k (listed ns)))
+  flag-same : (k : ℕ) → Same (numbersHeld ns) (unsignedAt 1 ns k .ok) (eqb (unsignedAt 1 ns k .value) 1) (unsignedAt 1 ns k .next) (takeFlag (drop k (numbersHeld ns)))
   flag-same k = same-one (λ n. eqb n 1) (unsigned-same ns w 1 k)
 
-  target-direction-same : (k : ℕ) → Same (listed ns) (unsignedAt 1 ns k .ok) (targetDirectionByPlace (unsignedAt 1 ns k .value)) (unsignedAt 1 ns k .next) (takeTargetDirection (drop k (listed ns)))
+  target-direction-same : (k : ℕ) → Same (numbersHeld ns) (unsignedAt 1 ns k .ok) (targetDirectionByPlace (unsignedAt 1 ns k .value)) (unsignedAt 1 ns k .next) (takeTargetDirection (drop k (numbersHeld ns)))
   target-direction-same k = same-one targetDirectionByPlace (unsigned-same ns w 1 k)
 
-  shift-direction-same : (k : ℕ) → Same (listed ns) (unsignedAt 1 ns k .ok) (shiftDirectionByPlace (unsignedAt 1 ns k .value)) (unsignedAt 1 ns k .next) (takeShiftDirection (drop k (listed ns)))
+  shift-direction-same : (k : ℕ) → Same (numbersHeld ns) (unsignedAt 1 ns k .ok) (shiftDirectionByPlace (unsignedAt 1 ns k .value)) (unsignedAt 1 ns k .next) (takeShiftDirection (drop k (numbersHeld ns)))
   shift-direction-same k = same-one shiftDirectionByPlace (unsigned-same ns w 1 k)
 
-  sign-same : (k : ℕ) → Same (listed ns) (unsignedAt 1 ns k .ok) (signByPlace (unsignedAt 1 ns k .value)) (unsignedAt 1 ns k .next) (takeSign (drop k (listed ns)))
+  sign-same : (k : ℕ) → Same (numbersHeld ns) (unsignedAt 1 ns k .ok) (signByPlace (unsignedAt 1 ns k .value)) (unsignedAt 1 ns k .next) (takeSign (drop k (numbersHeld ns)))
   sign-same k = same-one signByPlace (unsigned-same ns w 1 k)
 
-  branch-size-same : (k : ℕ) → Same (listed ns) (unsignedAt 2 ns k .ok) (branchSizeByPlace (unsignedAt 2 ns k .value)) (unsignedAt 2 ns k .next) (takeBranchSize (drop k (listed ns)))
+  branch-size-same : (k : ℕ) → Same (numbersHeld ns) (unsignedAt 2 ns k .ok) (branchSizeByPlace (unsignedAt 2 ns k .value)) (unsignedAt 2 ns k .next) (takeBranchSize (drop k (numbersHeld ns)))
   branch-size-same k = same-one branchSizeByPlace (unsigned-same ns w 2 k)
 
-  bit-field-operation-same : (k : ℕ) → Same (listed ns) (unsignedAt 7 ns k .ok) (bitFieldOperationByPlace (unsignedAt 7 ns k .value)) (unsignedAt 7 ns k .next) (takeBitFieldOperation (drop k (listed ns)))
+  bit-field-operation-same : (k : ℕ) → Same (numbersHeld ns) (unsignedAt 7 ns k .ok) (bitFieldOperationByPlace (unsignedAt 7 ns k .value)) (unsignedAt 7 ns k .next) (takeBitFieldOperation (drop k (numbersHeld ns)))
   bit-field-operation-same k = same-one bitFieldOperationByPlace (unsigned-same ns w 7 k)
 
-  condition-same : (k : ℕ) → Same (listed ns) (unsignedAt 15 ns k .ok) (conditionByPlace (unsignedAt 15 ns k .value)) (unsignedAt 15 ns k .next) (takeCondition (drop k (listed ns)))
+  condition-same : (k : ℕ) → Same (numbersHeld ns) (unsignedAt 15 ns k .ok) (conditionByPlace (unsignedAt 15 ns k .value)) (unsignedAt 15 ns k .next) (takeCondition (drop k (numbersHeld ns)))
   condition-same k = same-one conditionByPlace (unsigned-same ns w 15 k)
 
-  shape-same : (s : Shape) (k : ℕ) → k ≤ length (listed ns) → Same (listed ns) (shapeAt s ns k .ok) (shapeAt s ns k .instruction) (shapeAt s ns k .next) (takeShape s (drop k (listed ns)))
+  shape-same : (s : Shape) (k : ℕ) → k ≤ length (numbersHeld ns) → Same (numbersHeld ns) (shapeAt s ns k .ok) (shapeAt s ns k .instruction) (shapeAt s ns k .next) (takeShape s (drop k (numbersHeld ns)))
   unfolding shapeAt fillWith nothing
   shape-same (intoRegister op) k h =
       let a = operandAt ns k in
@@ -176,7 +175,7 @@ module _ (ns : Numbers) (w : Whole ns) where
       same-one (λ x. DIVL (x .0 .0 .0 .0) (x .0 .0 .0 .1) (x .0 .0 .1) (x .0 .1) (x .1)) (same-both takeSign (same-both takeFlag (same-both takeByte (same-both takeByte (operand-same ns w k) (byte-same ns w (a .next))) (byte-same ns w (b .next))) (flag-same (c .next))) (sign-same (d .next)))
 
   -- what is taken is whole where nothing is left after it
-  finished : (ok : Bool) (i : Isa.Instruction) (n : ℕ) (t : Taken Isa.Instruction) → Same (listed ns) ok i n t
+  finished : (ok : Bool) (i : Isa.Instruction) (n : ℕ) (t : Taken Isa.Instruction) → Same (numbersHeld ns) ok i n t
       → cond (ok && eqb n (ns .count)) (Instruction i) NotInForm ≡ cond (leb (ns .count) 24) (whole t) NotInForm
   finished false i n t S = go (leb (ns .count) 24)
     where
@@ -185,14 +184,14 @@ module _ (ns : Numbers) (w : Whole ns) where
       go false = refl
   finished true i n t S = go (leb (ns .count) 24) refl (eq? n (ns .count))
     where
-      ends : n ≤ length (listed ns)
+      ends : n ≤ length (numbersHeld ns)
       ends = S .ends refl
 
       go : (b : Bool) → leb (ns .count) 24 ≡ b → Eq n (ns .count) → cond (eqb n (ns .count)) (Instruction i) NotInForm ≡ cond b (whole t) NotInForm
-      go true h (same e f) = rw f (sym (ap whole (S .is ∙ ap (taken i) (drop-of-length-le (listed ns) {i = n} (omega (arith, listed-length ns w))))))
+      go true h (same e f) = rw f (sym (ap whole (S .is ∙ ap (taken i) (drop-of-length-le (numbersHeld ns) {i = n} (omega (arith, listed-length ns w))))))
       go true h (other e f) =
-          let l : n < length (listed ns) = omega (arith, ends, listed-length ns w, leb-is (ns .count) 24 h) in
-          rw f (sym (ap whole (S .is ∙ ap (taken i) (drop-cons (listed ns) n (pos 0) l))))
+          let l : n < length (numbersHeld ns) = omega (arith, ends, listed-length ns w, leb-is (ns .count) 24 h) in
+          rw f (sym (ap whole (S .is ∙ ap (taken i) (drop-cons (numbersHeld ns) n (pos 0) l))))
       go false h (same e f) = absurd (omega (arith, ends, listed-length ns w, leb-false (ns .count) 24 h))
       go false h (other e f) = rw f
 
@@ -202,5 +201,5 @@ module _ (ns : Numbers) (w : Whole ns) where
       let p = unsignedAt 98 ns k in
       let s = getD shapes (p .value) (intoRegister ADDA) in
       let i = shapeAt s ns (p .next) in
-      finished (p .ok && i .ok) (i .instruction) (i .next) (takeInstruction (drop k (listed ns)))
+      finished (p .ok && i .ok) (i .instruction) (i .next) (takeInstruction (drop k (numbersHeld ns)))
       (same-next (λ place. takeShape (getD shapes place (intoRegister ADDA))) (unsigned-same ns w 98 k) (shape-same s (p .next)))

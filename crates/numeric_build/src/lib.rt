@@ -3,14 +3,14 @@ ghost use mathlib.Core.Path.{_≡_};
 ghost use Prim.Native.Nat.{_<_};
 ghost use Rattle.numeric_fields.specs.Number.{numbersIn};
 ghost use lib.ListN.{getD};
-ghost use Rattle.numeric_spec.specs.Build.{builtFrom};
+ghost use Rattle.numeric_places.specs.Places.{builtFrom};
 ghost use Rattle.numeric_build.specs.Build.{entries, lineOf};
 use crate::row::walked;
 use numeric_fields::number::unsigned_at;
 use numeric_shapes::Slots;
 use numeric_shapes::made::instruction_of;
 pub use numeric_spec::Built;
-pub use numeric_spec::Numbers;
+pub use numeric_places::Numbers;
 
 pub mod row; // the fields of a line
 

@@ -1,5 +1,5 @@
 -- What is built of numbers is the instruction whose numbers they are. Assumes nothing.
-use Prim.Native.Nat.{ℕ, _≤_, _<_}
+use Prim.Native.Nat.{ℕ, _<_}
 use mathlib.Core.Path.{_≡_, refl, sym, ap, _∙_}
 use mathlib.Core.List.{List, [], _∷_, map, append-nil}
 use native.Mathlib.Omega.{arith}
@@ -12,7 +12,6 @@ use Rattle.numeric_spec.specs.Entry.{entryNumber, Inside}
 use Rattle.numeric_spec.specs.Form.{formOf, numbersOf}
 use Rattle.numeric_spec.specs.Take.{Taken, taken, notThere}
 use Rattle.numeric_spec.specs.Build.{takeInstruction, whole, builtOf}
-use Rattle.numeric_facts.specs.Exact.{before}
 use Rattle.numeric_facts.specs.Form.{instruction-exact}
 use Rattle.numeric_facts.specs.Length.{form-length}
 

@@ -1,14 +1,14 @@
 -- What is taken from numbers is exactly what the form says. Assumes nothing.
-use Prim.Native.Nat.{ℕ, zero, suc, _+_, _-_, _^_, _≤_, _<_}
+use Prim.Native.Nat.{ℕ, suc, _+_, _-_, _≤_}
 use mathlib.Core.Path.{_≡_, refl, sym, ap, _∙_, subst}
 use mathlib.Core.Bool.{Bool, true, false, cond}
-use mathlib.Core.List.{List, [], _∷_, _++_, map, map-append, append-assoc}
+use mathlib.Core.List.{List, [], _∷_, _++_, map}
 use native.Mathlib.Omega.{arith}
 use lib.Dec.{eqb, leb}
 use lib.IntN.{ℤ, pos, negsuc}
 use borrow.Author.Tests.{leb-true, eqb-true}
 use Rattle.base_facts.specs.Tests.{all, below, never}
-use Rattle.numeric_spec.specs.Entry.{Entry, unsigned, entryNumber, inside, isI32, Inside}
+use Rattle.numeric_spec.specs.Entry.{Entry, unsigned, entryNumber, isI32, Inside}
 use Rattle.numeric_spec.specs.Payload.{unsignedForm, signedForm}
 use Rattle.numeric_spec.specs.Take.{Taken, taken, notThere, Take, thenTake, given, takeUnsigned, takeSigned, takeBoth, make1, variant}
 

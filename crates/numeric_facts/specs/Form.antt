@@ -1,24 +1,12 @@
 -- An instruction: what is taken is exactly its form. Assumes nothing.
 use Prim.Native.Nat.{ℕ, _≤_}
-use mathlib.Core.Path.{_≡_, refl, ap, _∙_}
-use mathlib.Core.List.{List, [], _∷_}
+use mathlib.Core.Path.{_≡_, refl, _∙_}
+use mathlib.Core.List.{List}
 use native.Mathlib.Omega.{arith}
 use lib.Dec.{eqb}
 use lib.ListN.{getD}
 use lib.IntN.{ℤ}
 use borrow.Author.Tests.{eqb-true}
-use Rattle.isa.specs.declared.BitField.{BitField}
-use Rattle.isa.specs.declared.BitFieldOperation.{BitFieldOperation}
-use Rattle.isa.specs.declared.BranchSize.{BranchSize}
-use Rattle.isa.specs.declared.Condition.{Condition}
-use Rattle.isa.specs.declared.Operand.{Operand}
-use Rattle.isa.specs.declared.RegisterChoice.{RegisterChoice}
-use Rattle.isa.specs.declared.RegisterOperand.{RegisterOperand}
-use Rattle.isa.specs.declared.ShiftDirection.{ShiftDirection}
-use Rattle.isa.specs.declared.Sign.{Sign}
-use Rattle.isa.specs.declared.Size.{Size}
-use Rattle.isa.specs.declared.TargetDirection.{TargetDirection}
-use Rattle.isa.specs.declared.TrapOperand.{TrapOperand}
 use Rattle.isa.specs.declared.RegisterOperation.{RegisterOperation}
 use Rattle.isa.specs.declared.RegisterOperation.the-variants.{ADDA, SUBA, CMPA, MOVEA, CMP, CHK2, CMP2}
 use Rattle.isa.specs.declared.TransferOperation.{TransferOperation}

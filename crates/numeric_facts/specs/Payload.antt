@@ -1,12 +1,11 @@
 -- Each type of a payload: what is taken is exactly its form. Assumes nothing.
-use Prim.Native.Nat.{ℕ, zero, suc, _+_, _-_, _^_, _≤_, _<_}
-use mathlib.Core.Path.{_≡_, refl, sym, ap, _∙_}
+use Prim.Native.Nat.{ℕ, zero, suc, _+_, _-_, _^_, _≤_}
+use mathlib.Core.Path.{_≡_, refl, ap, _∙_}
 use mathlib.Core.Bool.{Bool, true, false}
 use mathlib.Core.List.{List, [], _∷_, _++_}
 use native.Mathlib.Omega.{arith}
-use native.Mathlib.Nat.{add-zero}
 use lib.Dec.{eqb}
-use lib.ListN.{length, getD}
+use lib.ListN.{getD}
 use lib.IntN.{ℤ}
 use Rattle.isa.specs.declared.Size.{Size}
 use Rattle.isa.specs.declared.Size.the-variants as size
@@ -39,7 +38,7 @@ use Rattle.isa.specs.declared.BitField.{BitField}
 use Rattle.numeric_spec.specs.Entry.{Entry, Inside}
 use Rattle.numeric_spec.specs.Payload.{byteForm, wordForm, longForm, addressForm, flagPlace, flagForm, sizePlace, sizeForm, targetDirectionPlace, targetDirectionForm, addressWidthPlace, addressWidthForm, conditionPlace, conditionForm, branchSizePlace, branchSizeForm, shiftDirectionPlace, shiftDirectionForm, signPlace, signForm, bitFieldOperationPlace, bitFieldOperationForm, registerPlace, registerPayload, registerForm, fieldValuePlace, fieldValuePayload, fieldValueForm, trapOperandPlace, trapOperandPayload, trapOperandForm, registerChoicePlace, registerChoicePayload, registerChoiceForm, operandPlace, operandPayload, operandForm, indexForm, bitFieldForm}
 use Rattle.numeric_spec.specs.Value.{sizeByPlace, addressWidthByPlace, targetDirectionByPlace, conditionByPlace, branchSizeByPlace, shiftDirectionByPlace, signByPlace, bitFieldOperationByPlace, registerByPlace, fieldValueByPlace}
-use Rattle.numeric_spec.specs.Take.{Taken, taken, notThere, Take, given, none, takeBoth, make1, takeByte, takeWord, takeLong, takeAddress, takeFlag, takeSize, takeTargetDirection, takeAddressWidth, takeCondition, takeBranchSize, takeShiftDirection, takeSign, takeBitFieldOperation, takeRegister, takeIndex, takeFieldValue, takeBitField, takeTrapOperand, takeRegisterChoice, operandPayloads, takeOperand}
+use Rattle.numeric_spec.specs.Take.{taken, Take, given, none, takeBoth, make1, takeByte, takeWord, takeLong, takeAddress, takeFlag, takeSize, takeTargetDirection, takeAddressWidth, takeCondition, takeBranchSize, takeShiftDirection, takeSign, takeBitFieldOperation, takeRegister, takeIndex, takeFieldValue, takeBitField, takeTrapOperand, takeRegisterChoice, operandPayloads, takeOperand}
 use Rattle.numeric_facts.specs.Exact.{Exact, before, thence, unsigned-exact, signed-exact, made-sound, made-back, given-sound, named, chosen}
 
 pub byte-exact : Exact byteForm takeByte

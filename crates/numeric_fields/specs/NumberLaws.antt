@@ -5,7 +5,7 @@ use mathlib.Core.Bool.{Bool, true, false, _&&_, cond}
 use native.Mathlib.Omega.{arith}
 use lib.IntN.{ℤ, pos, negsuc, natAbs}
 use borrow.Author.Tests.{leb-true}
-use Rattle.numeric_spec.specs.declared.Numbers.{Numbers}
+use Rattle.numeric_places.specs.declared.Numbers.{Numbers}
 use Rattle.numeric_fields.specs.declared.UnsignedAt.{UnsignedAt}
 use Rattle.numeric_fields.specs.Number.{numberAt, present, upTo, unsignedAt}
 

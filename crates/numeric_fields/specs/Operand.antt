@@ -4,7 +4,7 @@ use mathlib.Core.List.{[], _∷_}
 use mathlib.Core.Bool.{_&&_}
 use lib.ListN.{getD}
 use Rattle.isa.specs.declared.Operand.the-variants.{Immediate, Register, Indirect, PostIndirect, PreIndirect, IndirectDisplacement, IndirectIndex, PcDisplacement, PcIndex, Extended, Absolute}
-use Rattle.numeric_spec.specs.declared.Numbers.{Numbers}
+use Rattle.numeric_places.specs.declared.Numbers.{Numbers}
 use Rattle.numeric_fields.specs.declared.OperandAt.{OperandAt}
 use Rattle.numeric_fields.specs.Number.{unsignedAt, signedAt, byteAt, wordAt, longAt}
 use Rattle.numeric_fields.specs.Part.{registerAt, indexAt, addressWidthAt}

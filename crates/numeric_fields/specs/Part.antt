@@ -5,7 +5,7 @@ use mathlib.Core.Bool.{true, _&&_}
 use lib.ListN.{getD}
 use Rattle.isa.specs.declared.TrapOperand.the-variants as trap
 use Rattle.isa.specs.declared.RegisterChoice.the-variants as choice
-use Rattle.numeric_spec.specs.declared.Numbers.{Numbers}
+use Rattle.numeric_places.specs.declared.Numbers.{Numbers}
 use Rattle.numeric_fields.specs.declared.SizeAt.{SizeAt}
 use Rattle.numeric_fields.specs.declared.AddressWidthAt.{AddressWidthAt}
 use Rattle.numeric_fields.specs.declared.RegisterAt.{RegisterAt}

@@ -7,19 +7,19 @@ use native.Mathlib.Omega.{arith}
 use native.Mathlib.Numerals.{add-one}
 use lib.Dec.{leb, ltb}
 use lib.IntN.{ℤ, pos, negsuc, natAbs}
-use lib.ListN.{length, getD, take, drop, length-take, drop-of-length-le}
+use lib.ListN.{length, getD, drop, length-take, drop-of-length-le}
 use lib.Seq.{drop-cons, getD-take}
-use borrow.Author.Tests.{ltb-true, ltb-false}
+use borrow.Author.Tests.{ltb-true}
 use Rattle.isa.specs.declared.Operand.the-variants.{Immediate, Register, Indirect, PostIndirect, PreIndirect, IndirectDisplacement, IndirectIndex, PcDisplacement, PcIndex, Extended, Absolute}
 use Rattle.isa.specs.declared.TrapOperand.the-variants as trap
 use Rattle.isa.specs.declared.RegisterChoice.the-variants as choice
 use Rattle.base_facts.specs.Tests.{Lt, lt?, less, past, and-true, never}
-use Rattle.numeric_spec.specs.declared.Numbers.{Numbers}
+use Rattle.numeric_places.specs.declared.Numbers.{Numbers}
 use Rattle.numeric_spec.specs.Entry.{isI32}
 use Rattle.numeric_spec.specs.Value.{sizeByPlace, addressWidthByPlace, registerByPlace, fieldValueByPlace}
-use Rattle.numeric_spec.specs.Take.{Taken, taken, notThere, Take, thenTake, given, none, takeBoth, make1, variant, takeUnsigned, takeSigned, takeByte, takeWord, takeLong, takeSize, takeAddressWidth, takeRegister, takeIndex, takeFieldValue, takeBitField, takeTrapOperand, takeRegisterChoice, operandPayloads, takeOperand}
+use Rattle.numeric_spec.specs.Take.{Taken, taken, notThere, Take, thenTake, given, none, make1, takeUnsigned, takeSigned, takeByte, takeWord, takeLong, takeSize, takeAddressWidth, takeRegister, takeIndex, takeFieldValue, takeBitField, takeTrapOperand, takeRegisterChoice, operandPayloads, takeOperand}
 use Rattle.base_spec.specs.Signed.{minus}
-use Rattle.numeric_spec.specs.Build.{signedFrom, listed}
+use Rattle.numeric_places.specs.Places.{signedFrom, numbersHeld}
 use Rattle.numeric_fields.specs.declared.UnsignedAt.{UnsignedAt}
 use Rattle.numeric_fields.specs.declared.SignedAt.{SignedAt}
 use Rattle.numeric_fields.specs.Number.{numberAt, present, upTo, unsignedAt, signedAt, byteAt, wordAt, longAt}
@@ -45,30 +45,30 @@ signed-at (s ∷ ss) (m ∷ ms) zero h g = refl
 signed-at (s ∷ ss) (m ∷ ms) (suc k) h g = signed-at ss ms k (omega arith) (omega arith)
 
 module _ (ns : Numbers) (w : Whole ns) where
-  pub listed-length : length (listed ns) ≡ min (ns .count) 24
-  unfolding listed
+  pub listed-length : length (numbersHeld ns) ≡ min (ns .count) 24
+  unfolding numbersHeld
   listed-length =
       length-take (ns .count) (signedFrom (ns .negative) (ns .magnitude))
       ∙ ap (min (ns .count)) (signed-length (ns .negative) (ns .magnitude) (w .negative ∙ sym (w .magnitude)) ∙ w .magnitude)
 
-  number-listed : (k : ℕ) → k < 24 → k < ns .count → getD (listed ns) k (pos 0) ≡ numberAt ns k
-  unfolding listed
+  number-listed : (k : ℕ) → k < 24 → k < ns .count → getD (numbersHeld ns) k (pos 0) ≡ numberAt ns k
+  unfolding numbersHeld
   number-listed k h g =
       getD-take (ns .count) (signedFrom (ns .negative) (ns .magnitude)) k (pos 0) g
       ∙ signed-at (ns .negative) (ns .magnitude) k (omega (arith, w .negative)) (omega (arith, w .magnitude))
 
-  listed-there : (k : ℕ) → present ns k ≡ true → (drop k (listed ns) ≡ numberAt ns k ∷ drop (k + 1) (listed ns)) × (k + 1 ≤ length (listed ns))
+  listed-there : (k : ℕ) → present ns k ≡ true → (drop k (numbersHeld ns) ≡ numberAt ns k ∷ drop (k + 1) (numbersHeld ns)) × (k + 1 ≤ length (numbersHeld ns))
   listed-there k e =
       let b = and-true (ltb k 24) (ltb k (ns .count)) e in
       let h : k < 24 = ltb-true k 24 (b .0) in
       let g : k < ns .count = ltb-true k (ns .count) (b .1) in
-      let l : k < length (listed ns) = omega (arith, listed-length) in
-      (drop-cons (listed ns) k (pos 0) l ∙ rw (number-listed k h g, add-one), omega arith)
+      let l : k < length (numbersHeld ns) = omega (arith, listed-length) in
+      (drop-cons (numbersHeld ns) k (pos 0) l ∙ rw (number-listed k h g, add-one), omega arith)
 
-  listed-past : (k : ℕ) → present ns k ≡ false → drop k (listed ns) ≡ []
-  listed-past k e = drop-of-length-le (listed ns) {i = k} (go (lt? k 24) (lt? k (ns .count)))
+  listed-past : (k : ℕ) → present ns k ≡ false → drop k (numbersHeld ns) ≡ []
+  listed-past k e = drop-of-length-le (numbersHeld ns) {i = k} (go (lt? k 24) (lt? k (ns .count)))
     where
-      go : Lt k 24 → Lt k (ns .count) → length (listed ns) ≤ k
+      go : Lt k 24 → Lt k (ns .count) → length (numbersHeld ns) ≤ k
       go (less h a) (less g b) = never (sym e ∙ rw (a, b))
       go (less h a) (past g b) = omega (arith, listed-length)
       go (past h a) g = omega (arith, listed-length)
@@ -112,44 +112,44 @@ module _ {A B : Type 0} {zs : List ℤ} {p : Bool} {a : A} {n : ℕ} {r : Taken 
 
 -- ---- numbers
 module _ (ns : Numbers) (w : Whole ns) where
-  pub unsigned-same : (top k : ℕ) → Same (listed ns) (unsignedAt top ns k .ok) (unsignedAt top ns k .value) (unsignedAt top ns k .next) (takeUnsigned top (drop k (listed ns)))
+  pub unsigned-same : (top k : ℕ) → Same (numbersHeld ns) (unsignedAt top ns k .ok) (unsignedAt top ns k .value) (unsignedAt top ns k .next) (takeUnsigned top (drop k (numbersHeld ns)))
   unfolding unsignedAt takeUnsigned
   unsigned-same top k = go (present ns k) refl (numberAt ns k) refl
     where
       read : Bool → ℤ → UnsignedAt
       read p z = cond (p && upTo top z) (record { ok = true; value = natAbs z; next = k + 1 }) (record { ok = false; value = 0; next = k })
 
-      up : (n : ℕ) (b : Bool) → leb n top ≡ b → (drop k (listed ns) ≡ pos n ∷ drop (k + 1) (listed ns)) × (k + 1 ≤ length (listed ns))
-          → Same (listed ns) (read true (pos n) .ok) (read true (pos n) .value) (read true (pos n) .next) (takeUnsigned top (drop k (listed ns)))
+      up : (n : ℕ) (b : Bool) → leb n top ≡ b → (drop k (numbersHeld ns) ≡ pos n ∷ drop (k + 1) (numbersHeld ns)) × (k + 1 ≤ length (numbersHeld ns))
+          → Same (numbersHeld ns) (read true (pos n) .ok) (read true (pos n) .value) (read true (pos n) .next) (takeUnsigned top (drop k (numbersHeld ns)))
       up n true h d = record { is = rw (d .0, h); ends = rw h (λ e. d .1) }
       up n false h d = record { is = rw (d .0, h); ends = rw h (λ e. never e) }
 
-      go : (p : Bool) → present ns k ≡ p → (z : ℤ) → numberAt ns k ≡ z → Same (listed ns) (read p z .ok) (read p z .value) (read p z .next) (takeUnsigned top (drop k (listed ns)))
-      go true hp (pos n) hz = let d = listed-there ns w k hp in up n (leb n top) refl (d .0 ∙ ap (λ (z : ℤ). z ∷ drop (k + 1) (listed ns)) hz, d .1)
-      go true hp (negsuc n) hz = same-none (ap (takeUnsigned top) (listed-there ns w k hp .0 ∙ ap (λ (z : ℤ). z ∷ drop (k + 1) (listed ns)) hz))
+      go : (p : Bool) → present ns k ≡ p → (z : ℤ) → numberAt ns k ≡ z → Same (numbersHeld ns) (read p z .ok) (read p z .value) (read p z .next) (takeUnsigned top (drop k (numbersHeld ns)))
+      go true hp (pos n) hz = let d = listed-there ns w k hp in up n (leb n top) refl (d .0 ∙ ap (λ (z : ℤ). z ∷ drop (k + 1) (numbersHeld ns)) hz, d .1)
+      go true hp (negsuc n) hz = same-none (ap (takeUnsigned top) (listed-there ns w k hp .0 ∙ ap (λ (z : ℤ). z ∷ drop (k + 1) (numbersHeld ns)) hz))
       go false hp z hz = same-none (ap (takeUnsigned top) (listed-past ns w k hp))
 
-  pub signed-same : (k : ℕ) → Same (listed ns) (signedAt ns k .ok) (signedAt ns k .value) (signedAt ns k .next) (takeSigned (drop k (listed ns)))
+  pub signed-same : (k : ℕ) → Same (numbersHeld ns) (signedAt ns k .ok) (signedAt ns k .value) (signedAt ns k .next) (takeSigned (drop k (numbersHeld ns)))
   unfolding signedAt takeSigned
   signed-same k = go (present ns k) refl (isI32 (numberAt ns k)) refl
     where
       read : Bool → Bool → SignedAt
       read p t = cond (p && t) (record { ok = true; value = numberAt ns k; next = k + 1 }) (record { ok = false; value = pos 0; next = k })
 
-      go : (p : Bool) → present ns k ≡ p → (t : Bool) → isI32 (numberAt ns k) ≡ t → Same (listed ns) (read p t .ok) (read p t .value) (read p t .next) (takeSigned (drop k (listed ns)))
+      go : (p : Bool) → present ns k ≡ p → (t : Bool) → isI32 (numberAt ns k) ≡ t → Same (numbersHeld ns) (read p t .ok) (read p t .value) (read p t .next) (takeSigned (drop k (numbersHeld ns)))
       go true hp true ht = let d = listed-there ns w k hp in record { is = ap takeSigned (d .0) ∙ rw ht; ends = λ e. d .1 }
       go true hp false ht = same-none (ap takeSigned (listed-there ns w k hp .0) ∙ rw ht)
       go false hp t ht = same-none (ap takeSigned (listed-past ns w k hp))
 
-  pub byte-same : (k : ℕ) → Same (listed ns) (byteAt ns k .ok) (byteAt ns k .value) (byteAt ns k .next) (takeByte (drop k (listed ns)))
+  pub byte-same : (k : ℕ) → Same (numbersHeld ns) (byteAt ns k .ok) (byteAt ns k .value) (byteAt ns k .next) (takeByte (drop k (numbersHeld ns)))
   unfolding byteAt
   byte-same k = unsigned-same (2 ^ 8 - 1) k
 
-  pub word-same : (k : ℕ) → Same (listed ns) (wordAt ns k .ok) (wordAt ns k .value) (wordAt ns k .next) (takeWord (drop k (listed ns)))
+  pub word-same : (k : ℕ) → Same (numbersHeld ns) (wordAt ns k .ok) (wordAt ns k .value) (wordAt ns k .next) (takeWord (drop k (numbersHeld ns)))
   unfolding wordAt
   word-same k = unsigned-same (2 ^ 16 - 1) k
 
-  pub long-same : (k : ℕ) → Same (listed ns) (longAt ns k .ok) (longAt ns k .value) (longAt ns k .next) (takeLong (drop k (listed ns)))
+  pub long-same : (k : ℕ) → Same (numbersHeld ns) (longAt ns k .ok) (longAt ns k .value) (longAt ns k .next) (takeLong (drop k (numbersHeld ns)))
   unfolding longAt
   long-same k = unsigned-same (2 ^ 32 - 1) k
 
@@ -163,63 +163,63 @@ module _ (ns : Numbers) (w : Whole ns) where
       go false e = never e
 
   -- ---- enums, registers
-  pub size-same : (k : ℕ) → Same (listed ns) (sizeAt ns k .ok) (sizeAt ns k .size) (sizeAt ns k .next) (takeSize (drop k (listed ns)))
+  pub size-same : (k : ℕ) → Same (numbersHeld ns) (sizeAt ns k .ok) (sizeAt ns k .size) (sizeAt ns k .next) (takeSize (drop k (numbersHeld ns)))
   unfolding sizeAt
   size-same k = same-one sizeByPlace (unsigned-same 2 k)
 
-  address-width-same : (k : ℕ) → Same (listed ns) (addressWidthAt ns k .ok) (addressWidthAt ns k .width) (addressWidthAt ns k .next) (takeAddressWidth (drop k (listed ns)))
+  address-width-same : (k : ℕ) → Same (numbersHeld ns) (addressWidthAt ns k .ok) (addressWidthAt ns k .width) (addressWidthAt ns k .next) (takeAddressWidth (drop k (numbersHeld ns)))
   unfolding addressWidthAt
   address-width-same k = same-one addressWidthByPlace (unsigned-same 1 k)
 
-  pub register-same : (k : ℕ) → Same (listed ns) (registerAt ns k .ok) (registerAt ns k .register) (registerAt ns k .next) (takeRegister (drop k (listed ns)))
+  pub register-same : (k : ℕ) → Same (numbersHeld ns) (registerAt ns k .ok) (registerAt ns k .register) (registerAt ns k .next) (takeRegister (drop k (numbersHeld ns)))
   unfolding registerAt takeRegister
   register-same k =
       let p = unsignedAt 1 ns k in
       same-next (λ place. make1 (registerByPlace place) takeByte) (unsigned-same 1 k) (λ h. same-one (registerByPlace (p .value)) (byte-same (p .next)))
 
-  field-value-same : (k : ℕ) → Same (listed ns) (fieldValueAt ns k .ok) (fieldValueAt ns k .value) (fieldValueAt ns k .next) (takeFieldValue (drop k (listed ns)))
+  field-value-same : (k : ℕ) → Same (numbersHeld ns) (fieldValueAt ns k .ok) (fieldValueAt ns k .value) (fieldValueAt ns k .next) (takeFieldValue (drop k (numbersHeld ns)))
   unfolding fieldValueAt takeFieldValue
   field-value-same k =
       let p = unsignedAt 1 ns k in
       same-next (λ place. make1 (fieldValueByPlace place) takeByte) (unsigned-same 1 k) (λ h. same-one (fieldValueByPlace (p .value)) (byte-same (p .next)))
 
-  index-same : (k : ℕ) → Same (listed ns) (indexAt ns k .ok) (indexAt ns k .index) (indexAt ns k .next) (takeIndex (drop k (listed ns)))
+  index-same : (k : ℕ) → Same (numbersHeld ns) (indexAt ns k .ok) (indexAt ns k .index) (indexAt ns k .next) (takeIndex (drop k (numbersHeld ns)))
   unfolding indexAt takeIndex
   index-same k = same-one (λ x. record { register = x .0; size = x .1 }) (same-both takeSize (register-same k) (size-same (registerAt ns k .next)))
 
-  pub bit-field-same : (k : ℕ) → Same (listed ns) (bitFieldAt ns k .ok) (bitFieldAt ns k .field) (bitFieldAt ns k .next) (takeBitField (drop k (listed ns)))
+  pub bit-field-same : (k : ℕ) → Same (numbersHeld ns) (bitFieldAt ns k .ok) (bitFieldAt ns k .field) (bitFieldAt ns k .next) (takeBitField (drop k (numbersHeld ns)))
   unfolding bitFieldAt takeBitField
   bit-field-same k = same-one (λ x. record { offset = x .0; width = x .1 }) (same-both takeFieldValue (field-value-same k) (field-value-same (fieldValueAt ns k .next)))
 
-  trap-same : (p : ℕ) → p ≤ 2 → (k : ℕ) → k ≤ length (listed ns)
-      → Same (listed ns) (trapOperandOf p ns k .ok) (trapOperandOf p ns k .operand) (trapOperandOf p ns k .next) (getD (given trap.None ∷ make1 trap.Word takeWord ∷ make1 trap.Long takeLong ∷ []) p none (drop k (listed ns)))
+  trap-same : (p : ℕ) → p ≤ 2 → (k : ℕ) → k ≤ length (numbersHeld ns)
+      → Same (numbersHeld ns) (trapOperandOf p ns k .ok) (trapOperandOf p ns k .operand) (trapOperandOf p ns k .next) (getD (given trap.None ∷ make1 trap.Word takeWord ∷ make1 trap.Long takeLong ∷ []) p none (drop k (numbersHeld ns)))
   unfolding trapOperandOf
   trap-same zero h k e = same-given trap.None e
   trap-same (suc zero) h k e = same-one trap.Word (word-same k)
   trap-same (suc (suc zero)) h k e = same-one trap.Long (long-same k)
   trap-same (suc (suc (suc p))) h k e = absurd (omega arith)
 
-  pub trap-operand-same : (k : ℕ) → Same (listed ns) (trapOperandAt ns k .ok) (trapOperandAt ns k .operand) (trapOperandAt ns k .next) (takeTrapOperand (drop k (listed ns)))
+  pub trap-operand-same : (k : ℕ) → Same (numbersHeld ns) (trapOperandAt ns k .ok) (trapOperandAt ns k .operand) (trapOperandAt ns k .next) (takeTrapOperand (drop k (numbersHeld ns)))
   unfolding trapOperandAt takeTrapOperand
   trap-operand-same k =
       let p = unsignedAt 2 ns k in
       same-next (λ place. getD (given trap.None ∷ make1 trap.Word takeWord ∷ make1 trap.Long takeLong ∷ []) place none) (unsigned-same 2 k) (λ h. trap-same (p .value) (unsigned-le 2 ns k) (p .next) h)
 
-  choice-same : (p : ℕ) → p ≤ 1 → (k : ℕ) → k ≤ length (listed ns)
-      → Same (listed ns) (registerChoiceOf p ns k .ok) (registerChoiceOf p ns k .register) (registerChoiceOf p ns k .next) (getD (given choice.None ∷ make1 choice.Some takeByte ∷ []) p none (drop k (listed ns)))
+  choice-same : (p : ℕ) → p ≤ 1 → (k : ℕ) → k ≤ length (numbersHeld ns)
+      → Same (numbersHeld ns) (registerChoiceOf p ns k .ok) (registerChoiceOf p ns k .register) (registerChoiceOf p ns k .next) (getD (given choice.None ∷ make1 choice.Some takeByte ∷ []) p none (drop k (numbersHeld ns)))
   unfolding registerChoiceOf
   choice-same zero h k e = same-given choice.None e
   choice-same (suc zero) h k e = same-one choice.Some (byte-same k)
   choice-same (suc (suc p)) h k e = absurd (omega arith)
 
-  pub register-choice-same : (k : ℕ) → Same (listed ns) (registerChoiceAt ns k .ok) (registerChoiceAt ns k .register) (registerChoiceAt ns k .next) (takeRegisterChoice (drop k (listed ns)))
+  pub register-choice-same : (k : ℕ) → Same (numbersHeld ns) (registerChoiceAt ns k .ok) (registerChoiceAt ns k .register) (registerChoiceAt ns k .next) (takeRegisterChoice (drop k (numbersHeld ns)))
   unfolding registerChoiceAt takeRegisterChoice
   register-choice-same k =
       let p = unsignedAt 1 ns k in
       same-next (λ place. getD (given choice.None ∷ make1 choice.Some takeByte ∷ []) place none) (unsigned-same 1 k) (λ h. choice-same (p .value) (unsigned-le 1 ns k) (p .next) h)
 
   -- ---- operands
-  operand-of-same : (p : ℕ) → p ≤ 10 → (k : ℕ) → Same (listed ns) (operandOf p ns k .ok) (operandOf p ns k .operand) (operandOf p ns k .next) (getD operandPayloads p none (drop k (listed ns)))
+  operand-of-same : (p : ℕ) → p ≤ 10 → (k : ℕ) → Same (numbersHeld ns) (operandOf p ns k .ok) (operandOf p ns k .operand) (operandOf p ns k .next) (getD operandPayloads p none (drop k (numbersHeld ns)))
   unfolding operandPayloads operandOf immediateAt registerOperandAt indirectAt postIndirectAt preIndirectAt indirectDisplacementAt indirectIndexAt pcDisplacementAt pcIndexAt extendedAt absoluteAt
   operand-of-same zero h k = same-one Immediate (long-same k)
   operand-of-same (suc zero) h k = same-one Register (register-same k)
@@ -236,7 +236,7 @@ module _ (ns : Numbers) (w : Whole ns) where
   operand-of-same (suc (suc (suc (suc (suc (suc (suc (suc (suc (suc zero)))))))))) h k = same-one (λ x. Absolute (x .0) (x .1)) (same-both takeAddressWidth (unsigned-same (2 ^ 64 - 1) k) (address-width-same (unsignedAt (2 ^ 64 - 1) ns k .next)))
   operand-of-same (suc (suc (suc (suc (suc (suc (suc (suc (suc (suc (suc p))))))))))) h k = absurd (omega arith)
 
-  pub operand-same : (k : ℕ) → Same (listed ns) (operandAt ns k .ok) (operandAt ns k .operand) (operandAt ns k .next) (takeOperand (drop k (listed ns)))
+  pub operand-same : (k : ℕ) → Same (numbersHeld ns) (operandAt ns k .ok) (operandAt ns k .operand) (operandAt ns k .next) (takeOperand (drop k (numbersHeld ns)))
   unfolding operandAt takeOperand
   operand-same k =
       let p = unsignedAt 10 ns k in

@@ -9,7 +9,7 @@ use isa::RegisterChoice;
 use isa::RegisterOperand;
 use isa::Size;
 use isa::TrapOperand;
-pub use numeric_spec::Numbers;
+pub use numeric_places::Numbers;
 
 pub mod number; // numbers inside their declared types
 pub mod part; // enums and registers

@@ -4,8 +4,8 @@ use mathlib.Core.Path.{_≡_, ap, _∙_}
 use native.Mathlib.Omega.{arith}
 use lib.ListN.{length}
 use Rattle.isa.specs.declared.Instruction.{Instruction}
-use Rattle.numeric_spec.specs.declared.Numbers.{Numbers}
-use Rattle.numeric_push.specs.Places.{numbersFrom}
+use Rattle.numeric_places.specs.declared.Numbers.{Numbers}
+use Rattle.numeric_places.specs.Places.{numbersFrom}
 use Rattle.numeric_spec.specs.Form.{formOf}
 use Rattle.numeric_facts.specs.Length.{form-length}
 use Rattle.numeric_push.specs.Pushed.{pushedAll, none}

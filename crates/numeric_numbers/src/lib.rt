@@ -1,12 +1,12 @@
 // From an instruction to its numbers, the other way of `build`.
 ghost use Prim.Native.Nat.{_≤_};
 ghost use mathlib.Core.Path.{_≡_};
-ghost use Rattle.numeric_push.specs.Places.{numbersFrom};
+ghost use Rattle.numeric_places.specs.Places.{numbersFrom};
 ghost use Rattle.numeric_spec.specs.Form.{formOf};
 ghost use Rattle.numeric_push.specs.Pushed.{pushedAll, none};
 use isa::Instruction;
 use numeric_push::without_operand;
-pub use numeric_spec::Numbers;
+pub use numeric_places::Numbers;
 
 pub mod shape; // the instructions with operands, shape by shape
 

@@ -52,7 +52,7 @@ use numeric_push::part::push_shift_direction;
 use numeric_push::part::push_sign;
 use numeric_push::part::push_size;
 use numeric_push::part::push_target_direction;
-use numeric_spec::Numbers;
+use numeric_places::Numbers;
 
 pub fn into_register(
     operation: RegisterOperation,

@@ -5,9 +5,9 @@ use mathlib.Core.List.{List, [], _∷_}
 use lib.Dec.{ltb}
 use lib.ListN.{set}
 use lib.IntN.{ℤ, natAbs}
-use Rattle.numeric_spec.specs.declared.Numbers.{Numbers}
+use Rattle.numeric_places.specs.declared.Numbers.{Numbers}
 use Rattle.numeric_spec.specs.Entry.{Entry, entryNumber}
-use Rattle.numeric_push.specs.Places.{isNegative}
+use Rattle.numeric_places.specs.Places.{isNegative}
 use Rattle.base_facts.specs.Lists.{pad}
 
 -- n with one number more, where it has room

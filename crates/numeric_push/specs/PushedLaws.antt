@@ -10,10 +10,9 @@ use borrow.Author.Tests.{lt-ltb}
 use Rattle.base_spec.specs.Signed.{minus}
 use Rattle.isa.specs.declared.Instruction.{Instruction}
 use Rattle.numeric_spec.specs.Form.{placeOf, payloadOf, formOf}
-use Rattle.numeric_spec.specs.declared.Numbers.{Numbers}
-use Rattle.numeric_spec.specs.Build.{signedFrom, listed}
+use Rattle.numeric_places.specs.declared.Numbers.{Numbers}
+use Rattle.numeric_places.specs.Places.{signedFrom, numbersHeld, isNegative, numbersFrom}
 use Rattle.numeric_spec.specs.Entry.{Entry, entryNumber}
-use Rattle.numeric_push.specs.Places.{isNegative, numbersFrom}
 use Rattle.base_facts.specs.Lists.{pad}
 use Rattle.numeric_push.specs.Pushed.{stored, pushed, pushedAll, none}
 
@@ -59,8 +58,8 @@ listed-pad zero (e ∷ es) h = absurd (omega arith)
 listed-pad (suc m) [] h = refl
 listed-pad (suc m) (e ∷ es) h = λ i. signed-again (entryNumber e) i ∷ listed-pad m es (omega arith) i
 
-pub numbers-listed : (es : List Entry) → length es ≤ 24 → listed (numbersFrom es) ≡ map entryNumber es
-unfolding listed numbersFrom
+pub numbers-listed : (es : List Entry) → length es ≤ 24 → numbersHeld (numbersFrom es) ≡ map entryNumber es
+unfolding numbersHeld numbersFrom
 numbers-listed es h = listed-pad 24 es h
 
 -- a payload, then one more

@@ -3,7 +3,7 @@ ghost use mathlib.Core.Path.{_≡_};
 ghost use lib.IntN.{pos};
 ghost use Rattle.numeric_spec.specs.Payload.{byteForm, wordForm, longForm, flagForm, flagPlace};
 ghost use Rattle.numeric_push.specs.Pushed.{stored, pushed, pushedAll, none};
-use numeric_spec::Numbers;
+use numeric_places::Numbers;
 
 // No numbers yet.
 fn no_numbers() -> Numbers

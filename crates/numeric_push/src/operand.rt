@@ -16,7 +16,7 @@ use isa::AddressWidth;
 use isa::IndexRegister;
 use isa::Operand;
 use isa::RegisterOperand;
-use numeric_spec::Numbers;
+use numeric_places::Numbers;
 
 fn push_indirect_displacement(n: Numbers, offset: i32, base: RegisterOperand) -> Numbers
     ensures { λ r. ⌜ r ≡ pushedAll n (signedForm offset ++ registerForm base) ⌝ }

@@ -18,7 +18,7 @@ use isa::Sign;
 use isa::Size;
 use isa::TargetDirection;
 use isa::TrapOperand;
-use numeric_spec::Numbers;
+use numeric_places::Numbers;
 
 fn size_place(v: Size) -> u64
     ensures { λ r. ⌜ r ≡ sizePlace v ⌝ }

@@ -32,7 +32,7 @@ use numeric_operations::place::no_operand_operation_place;
 use numeric_operations::place::raw_operation_place;
 use numeric_operations::place::status_operation_place;
 use numeric_operations::place::vector_operation_place;
-use numeric_spec::Numbers;
+use numeric_places::Numbers;
 
 pub fn moveq(value: u8, register: RegisterOperand) -> Numbers
     ensures { λ r. ⌜ r ≡ pushedAll none (formOf (MOVEQ value register)) ⌝ }

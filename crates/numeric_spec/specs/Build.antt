@@ -1,17 +1,12 @@
 -- The instruction that numbers say: its place in encoded.rs's Instruction, then its payload, and nothing after it.
-use Prim.Native.Nat.{ℕ}
-use mathlib.Core.Bool.{Bool, cond}
 use mathlib.Core.List.{List, [], _∷_}
-use lib.Dec.{leb}
-use lib.ListN.{getD, take, drop}
-use lib.IntN.{ℤ, pos}
-use Rattle.base_spec.specs.Signed.{minus}
+use lib.ListN.{getD}
+use lib.IntN.{ℤ}
 use Rattle.isa.specs.declared.RegisterOperation.the-variants.{ADDA}
 use Rattle.isa.specs.declared.Instruction as Isa
 use Rattle.isa.specs.declared.Instruction.the-variants.{IntoRegister, MOVEM, Transfer, Pair, Quick, MOVEQ, ImmediateInto, WordIntoData, SWAP, EXG, UnsizedIntoRegister, UnsizedOne, UnsizedPair, EXT, OneOperand, Bcc, Scc, DBcc, Branch, Link, UNLK, Shift, Vector, Status, ConditionCode, MOVEUSP, Raw, NoOperand, RTD, MOVEC, TRAPcc, MULL, Pack, CAS, CAS2, BF, DIVL}
 use Rattle.numeric_spec.specs.declared.Built.{Built}
 use Rattle.numeric_spec.specs.declared.Built.the-variants.{Instruction, NotInForm}
-use Rattle.numeric_spec.specs.declared.Numbers.{Numbers}
 use Rattle.numeric_spec.specs.Take.{Taken, taken, notThere, Take, given, takeBoth, make1, make2, make3, make4, variant, takeByte, takeWord, takeLong, takeFlag, takeSize, takeTargetDirection, takeCondition, takeBranchSize, takeShiftDirection, takeSign, takeBitFieldOperation, takeRegister, takeBitField, takeTrapOperand, takeRegisterChoice, takeOperand}
 use Rattle.numeric_spec.specs.Shape.{Shape, shapes, intoRegister, movem, transfer, pair, quick, moveq, immediateInto, wordIntoData, swap, exg, unsizedIntoRegister, unsizedOne, unsizedPair, ext, oneOperand, bcc, scc, dbcc, branch, link, unlk, shift, vector, status, conditionCode, moveusp, raw, noOperand, rtd, movec, trapcc, mull, pack, cas, cas2, bf, divl}
 
@@ -68,16 +63,3 @@ whole notThere = NotInForm
 
 unfoldable pub builtOf : List ℤ → Built
 builtOf zs = whole (takeInstruction zs)
-
--- the numbers that places hold: number k is magnitude k, negated where negative k
-abbrev pub signedFrom : List Bool → List ℕ → List ℤ
-signedFrom [] ms = []
-signedFrom (s ∷ ss) [] = []
-signedFrom (s ∷ ss) (m ∷ ms) = cond s (minus m) (pos m) ∷ signedFrom ss ms
-
-unfoldable pub listed : Numbers → List ℤ
-listed ns = take (ns .count) (signedFrom (ns .negative) (ns .magnitude))
-
--- what `build` makes of the numbers from a place on; there are 24 places
-abbrev pub builtFrom : Numbers → ℕ → Built
-builtFrom ns k = cond (leb (ns .count) 24) (builtOf (drop k (listed ns))) NotInForm

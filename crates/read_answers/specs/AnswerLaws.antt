@@ -12,9 +12,9 @@ use Rattle.isa.specs.declared.Instruction.{Instruction}
 use Rattle.base_facts.specs.Tests.{cond-true, cond-false}
 use Rattle.base_spec.specs.Written.{decimalOf, signedOf}
 use Rattle.base_spec.specs.Refused.{tab, notInForm}
-use Rattle.numeric_spec.specs.declared.Numbers.{Numbers}
+use Rattle.numeric_places.specs.declared.Numbers.{Numbers}
 use Rattle.numeric_spec.specs.Entry.{Entry, unsigned, entryNumber}
-use Rattle.numeric_push.specs.Places.{isNegative, numbersFrom}
+use Rattle.numeric_places.specs.Places.{isNegative, numbersFrom}
 use Rattle.base_facts.specs.Lists.{pad, getD-pad}
 use Rattle.numeric_spec.specs.Form.{formOf, numbersOf}
 use Rattle.numeric_facts.specs.Length.{form-length}
@@ -22,13 +22,13 @@ use Rattle.read_runs.specs.declared.Run.{Run}
 use Rattle.read_runs.specs.Kept.{runOf, runText, keptAnswerOf}
 use Rattle.read_runs.specs.RunLaws.{run-count, run-places}
 use Rattle.print_spec.specs.ReadAnswer.{numbersText, readText}
-use Rattle.read_answers.specs.Put.{numberText, firstNumbers, putText}
+use Rattle.read_answers.specs.Put.{heldText, firstNumbers, putText}
 
 -- one number more
-pub first-next : (ns : Numbers) (i : ℕ) → firstNumbers ns (i + 1) ≡ firstNumbers ns i ++ numberText (getD (ns .negative) i false) (getD (ns .magnitude) i 0)
+pub first-next : (ns : Numbers) (i : ℕ) → firstNumbers ns (i + 1) ≡ firstNumbers ns i ++ heldText (getD (ns .negative) i false) (getD (ns .magnitude) i 0)
 first-next ns i = rw add-one
 
-number-text : (z : ℤ) → numberText (isNegative z) (natAbs z) ≡ signedOf z ++ tab
+number-text : (z : ℤ) → heldText (isNegative z) (natAbs z) ≡ signedOf z ++ tab
 number-text (pos n) = refl
 number-text (negsuc n) = refl
 
@@ -39,10 +39,10 @@ text-more (y ∷ zs) z =
 
 -- entry k as it is held
 module _ (es : List Entry) (k : ℕ) (h : k < 24) where
-  held : numberText (getD (numbersFrom es .negative) k false) (getD (numbersFrom es .magnitude) k 0) ≡ signedOf (entryNumber (getD es k (unsigned 0 0))) ++ tab
+  held : heldText (getD (numbersFrom es .negative) k false) (getD (numbersFrom es .magnitude) k 0) ≡ signedOf (entryNumber (getD es k (unsigned 0 0))) ++ tab
   unfolding numbersFrom
   held =
-      (λ i. numberText (n i) (m i)) ∙ number-text (entryNumber (getD es k (unsigned 0 0)))
+      (λ i. heldText (n i) (m i)) ∙ number-text (entryNumber (getD es k (unsigned 0 0)))
     where
       n : getD (pad 24 false (map (λ e. isNegative (entryNumber e)) es)) k false ≡ isNegative (entryNumber (getD es k (unsigned 0 0)))
       n = getD-pad 24 false (map (λ e. isNegative (entryNumber e)) es) k h ∙ List·getD-map (λ e. isNegative (entryNumber e)) es k (unsigned 0 0)

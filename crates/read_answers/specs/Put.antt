@@ -5,20 +5,20 @@ use Prim.Native.Nat.{ℕ, zero, suc}
 use lib.ListN.{getD}
 use Rattle.base_spec.specs.Written.{decimalOf}
 use Rattle.base_spec.specs.Refused.{tab}
-use Rattle.numeric_spec.specs.declared.Numbers.{Numbers}
+use Rattle.numeric_places.specs.declared.Numbers.{Numbers}
 
 -- `-` where it is negative
-abbrev pub signText : Bool → List ℕ
-signText negative = cond negative (45 ∷ []) []
+abbrev pub minusIf : Bool → List ℕ
+minusIf negative = cond negative (45 ∷ []) []
 
 -- a number, and a tab
-abbrev pub numberText : Bool → ℕ → List ℕ
-numberText negative n = signText negative ++ decimalOf n ++ tab
+abbrev pub heldText : Bool → ℕ → List ℕ
+heldText negative n = minusIf negative ++ decimalOf n ++ tab
 
 -- the first k of them
 abbrev pub firstNumbers : Numbers → ℕ → List ℕ
 firstNumbers ns zero = []
-firstNumbers ns (suc k) = firstNumbers ns k ++ numberText (getD (ns .negative) k false) (getD (ns .magnitude) k 0)
+firstNumbers ns (suc k) = firstNumbers ns k ++ heldText (getD (ns .negative) k false) (getD (ns .magnitude) k 0)
 
 -- all of them, => and the length
 unfoldable pub putText : Numbers → ℕ → List ℕ

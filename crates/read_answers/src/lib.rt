@@ -7,15 +7,15 @@ ghost use Rattle.base_text.specs.Wrote.{Wrote};
 ghost use Rattle.base_spec.specs.Lines.{Answered};
 ghost use Rattle.print_spec.specs.ReadAnswer.{refusalText, readingText};
 ghost use Rattle.read_runs.specs.Kept.{runText, keptAnswerOf};
-ghost use Rattle.read_answers.specs.Put.{signText, numberText, firstNumbers, putText};
+ghost use Rattle.read_answers.specs.Put.{minusIf, heldText, firstNumbers, putText};
 use base_spec::Step;
-use numeric_spec::Numbers;
+use numeric_places::Numbers;
 use read_runs::Run;
 use read_spec::Reading;
 
 fn put_sign(out: &mut [u8], at: usize, negative: bool) -> usize
     requires { ⌜ at + 1 ≤ length (now out) ⌝ }
-    ensures { λ r. ⌜ Wrote (now (out .entry)) at (signText negative) (now (out .exit)) r × (r ≤ at + 1) ⌝ }
+    ensures { λ r. ⌜ Wrote (now (out .entry)) at (minusIf negative) (now (out .exit)) r × (r ≤ at + 1) ⌝ }
 {
     if negative {
         return base_text::put_byte(out, at, b'-');
@@ -26,7 +26,7 @@ fn put_sign(out: &mut [u8], at: usize, negative: bool) -> usize
 // A number and a tab.
 fn put_number(out: &mut [u8], at: usize, negative: bool, magnitude: u64) -> usize
     requires { ⌜ at + 22 ≤ length (now out) ⌝ }
-    ensures { λ r. ⌜ Wrote (now (out .entry)) at (numberText negative magnitude) (now (out .exit)) r × (r ≤ at + 22) ⌝ }
+    ensures { λ r. ⌜ Wrote (now (out .entry)) at (heldText negative magnitude) (now (out .exit)) r × (r ≤ at + 22) ⌝ }
 {
     let mut next = put_sign(out, at, negative);
     next = base_text::put_decimal(out, next, magnitude);

@@ -1,5 +1,5 @@
 -- The reading as the code does it, by place: what follows the operation word, and the instruction that it forms.
-use Prim.Native.Nat.{ℕ, _+_, _/_, _%_, _<_, _≤_}
+use Prim.Native.Nat.{ℕ, _+_, _/_, _%_, _<_}
 use mathlib.Core.Path.{_≡_, refl}
 use mathlib.Core.List.{List, [], _∷_}
 use native.Mathlib.Omega.{arith}
@@ -22,9 +22,9 @@ use Rattle.read_spec.specs.Layouts.{layoutOf}
 use Rattle.read_spec.specs.Decoded.{decoded}
 use Rattle.read_spec.specs.Read.{readingOf, readOf}
 use Rattle.read_places.specs.Depth.{Within, depth-within, tail-depth}
-use Rattle.read_operands.specs.declared.Followed.{Followed}
-use Rattle.read_operands.specs.declared.Followed.the-variants.{Got}
-use Rattle.read_operands.specs.declared.Followed.the-variants as follow
+use Rattle.read_operands.specs.declared.TailRead.{TailRead}
+use Rattle.read_operands.specs.declared.TailRead.the-variants.{Got}
+use Rattle.read_operands.specs.declared.TailRead.the-variants as follow
 use Rattle.read_operands.specs.Read.{followed}
 
 -- r is what the tree reads after n words, whatever words are left
@@ -32,7 +32,7 @@ abbrev pub Ends : Tree Instruction → ℕ → ℕ → Reading → Type 0
 Ends t a n r = (rest : List ℕ) → r ≡ readingOf (run t a n rest)
 
 -- at most 13 words are read, so a place modulo 16 is the place
-abbrev pub ReadsAs : ℕ → Group → ℕ → ℕ → ℕ → ℕ → Followed → Reading → Type 0
+abbrev pub ReadsAs : ℕ → Group → ℕ → ℕ → ℕ → ℕ → TailRead → Reading → Type 0
 ReadsAs a s line x opmode ea (Got f n) r = Ends (decoded a s line x opmode ea (f .value) (f .source) (f .destination)) a (n % 16) r
 ReadsAs a s line x opmode ea follow.Short r = r ≡ Short
 ReadsAs a s line x opmode ea follow.Nothing r = r ≡ Nothing

@@ -3,13 +3,13 @@ ghost use mathlib.Core.Path.{_≡_};
 ghost use Prim.Native.Nat.{_<_};
 ghost use Rattle.read_spec.specs.Read.{readOf};
 ghost use Rattle.read_instruction.specs.ReadAt.{ReadsAs, FollowsAs};
-use read_operands::Followed;
+use read_operands::TailRead;
 use read_spec::Group;
 use read_spec::Reading;
 
-pub mod decoding; // the instruction of a group and its fields
+pub mod decoding; // the instruction of a group and its tail
 
-// The instruction that an operation word and what was read behind it form.
+// The instruction that an operation word and what was read behind it decode to.
 fn decoded(
     group: Group,
     address: u32,
@@ -17,15 +17,15 @@ fn decoded(
     x: u8,
     opmode: u8,
     ea: u8,
-    read: Followed,
+    read: TailRead,
 ) -> Reading
     requires { ⌜ (line < 16) × (x < 8) × (opmode < 8) × (ea < 64) ⌝ }
     ensures { λ r. ⌜ ReadsAs address group line x opmode ea read r ⌝ }
 {
     match read {
-        Followed::Got(fields, at) => {
-            let source = fields.source;
-            let destination = fields.destination;
+        TailRead::Got(tail, at) => {
+            let source = tail.source;
+            let destination = tail.destination;
             return decoding::decode(
                 group,
                 address,
@@ -33,14 +33,14 @@ fn decoded(
                 x,
                 opmode,
                 ea,
-                fields.value,
+                tail.value,
                 source,
                 destination,
                 (at % 16) as u32,
             );
         }
-        Followed::Short => return Reading::Short,
-        Followed::Nothing => return Reading::Nothing,
+        TailRead::Short => return Reading::Short,
+        TailRead::Nothing => return Reading::Nothing,
     }
 }
 

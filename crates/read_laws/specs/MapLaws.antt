@@ -1,5 +1,5 @@
 -- The operation code map: what a group says of the fields of its words, by induction over the rows; which group fields are in; and the sizes.
-use Prim.Native.Nat.{ℕ, suc, _+_, _-_, _<_, _≤_}
+use Prim.Native.Nat.{ℕ, suc, _+_, _-_, _<_}
 use mathlib.Core.Path.{_≡_, refl, ap}
 use mathlib.Core.Bool.{Bool, true, false, _&&_, cond}
 use mathlib.Core.List.{List, [], _∷_}
@@ -112,9 +112,6 @@ size-code Byte = refl
 size-code Word = refl
 size-code Long = refl
 
-pub code-size : (k : ℕ) → k < 3 → sizeCode (sizeAt k) ≡ k
-code-size k h = eqb-eq (sizeCode (sizeAt k)) k (below (λ k. eqb (sizeCode (sizeAt k)) k) 3 refl k h)
-
 -- each of the sizes
 pub each-size : (P : Size → Type 0) → P Byte → P Word → P Long → (s : Size) → P s
 each-size P b w l Byte = b
@@ -124,6 +121,3 @@ each-size P b w l Long = l
 -- in bits 7 and 6, where bit 8 is 1
 pub upper-size : (s : Size) → sizeAt (4 + sizeCode s - 4) ≡ s
 upper-size = each-size (λ s. sizeAt (4 + sizeCode s - 4) ≡ s) refl refl refl
-
-pub upper-code : (opmode : ℕ) → 4 ≤ opmode → opmode < 7 → 4 + sizeCode (sizeAt (opmode - 4)) ≡ opmode
-upper-code opmode l h = omega (arith, code-size (opmode - 4) (omega arith))

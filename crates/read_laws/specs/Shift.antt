@@ -60,9 +60,6 @@ kind-at ROd = (omega arith, refl)
 kind-at LSd = (omega arith, refl)
 kind-at ROXd = (omega arith, refl)
 
-at-kind : (k : ℕ) → k < 4 → shiftKind (shiftAt k) ≡ k
-at-kind k h = eqb-eq (shiftKind (shiftAt k)) k (below (λ k. eqb (shiftKind (shiftAt k)) k) 4 refl k h)
-
 -- ---- the count: in a data register, or 1 to 8
 data Count : Operand → Type 0 where
   inRegister : (m : ℕ) → m < 8 → Count (Register (Data m))

@@ -2,8 +2,6 @@
 use Prim.Native.Nat.{ℕ, _<_}
 use mathlib.Core.Path.{_≡_}
 use mathlib.Core.List.{List, _∷_}
-use Rattle.isa.specs.declared.TrapOperand.{TrapOperand}
-use Rattle.isa.specs.declared.TrapOperand.the-variants as trap
 use Rattle.isa.specs.declared.Instruction.{Instruction}
 use Rattle.encode_spec.specs.Encode.{wordsOf}
 use Rattle.read_spec.specs.declared.Group.{Group}

@@ -95,7 +95,7 @@ fn no_layout() -> Layout
 }
 
 // One of two sets of modes.
-fn pick(test: bool, yes: u16, no: u16) -> u16
+fn modes_if(test: bool, yes: u16, no: u16) -> u16
     ensures { λ r. ⌜ r ≡ cond test yes no ⌝ }
 {
     if test { yes } else { no }
@@ -112,7 +112,7 @@ fn long_if(test: bool) -> Size
 fn readable_modes(size: Size) -> u16
     ensures { λ r. ⌜ r ≡ readableModes size ⌝ }
 {
-    pick(is_byte(size), DATA, ALL)
+    modes_if(is_byte(size), DATA, ALL)
 }
 
 // An immediate before the destination.
@@ -130,7 +130,7 @@ fn immediate_specifier(size: Size) -> Specifier
 fn static_modes(kind: u8) -> u16
     ensures { λ r. ⌜ r ≡ staticModes kind ⌝ }
 {
-    pick(kind == 0, DATA_NOT_IMMEDIATE, DATA_ALTERABLE)
+    modes_if(kind == 0, DATA_NOT_IMMEDIATE, DATA_ALTERABLE)
 }
 
 // ORI, ANDI, SUBI, ADDI, EORI and CMPI, and to CCR and SR.
@@ -139,7 +139,7 @@ fn immediate_layout(x: u8, opmode: u8, ea: u8) -> Layout
 {
     let size = size_at(opmode);
     let specifier = immediate_specifier(size);
-    let modes = pick(x == 6, DATA_NOT_IMMEDIATE, DATA_ALTERABLE);
+    let modes = modes_if(x == 6, DATA_NOT_IMMEDIATE, DATA_ALTERABLE);
     if to_status(x, opmode, ea) {
         alone(specifier)
     } else {
@@ -152,7 +152,7 @@ fn dynamic_bit_movep_layout(opmode: u8, ea: u8) -> Layout
     ensures { λ r. ⌜ r ≡ dynamicBitMovepLayout opmode ea ⌝ }
 {
     let kind = less(opmode, 4);
-    let modes = pick(kind == 0, DATA, DATA_ALTERABLE);
+    let modes = modes_if(kind == 0, DATA, DATA_ALTERABLE);
     if ea / 8 == 1 {
         one(Specifier::Nothing, Size::Word, 40 + ea % 8, 32)
     } else {
@@ -207,7 +207,7 @@ fn move_layout(size: Size, x: u8, opmode: u8, ea: u8) -> Layout
 fn one_layout(size: Size, x: u8, ea: u8) -> Layout
     ensures { λ r. ⌜ r ≡ oneLayout size x ea ⌝ }
 {
-    let modes = pick(x == 5, readable_modes(size), DATA_ALTERABLE);
+    let modes = modes_if(x == 5, readable_modes(size), DATA_ALTERABLE);
     one(Specifier::Nothing, size, ea, modes)
 }
 
@@ -337,7 +337,7 @@ fn lea_extb_layout(x: u8, ea: u8) -> Layout
 fn quick_layout(size: Size, ea: u8) -> Layout
     ensures { λ r. ⌜ r ≡ quickLayout size ea ⌝ }
 {
-    let modes = pick(is_byte(size), DATA_ALTERABLE, ALTERABLE);
+    let modes = modes_if(is_byte(size), DATA_ALTERABLE, ALTERABLE);
     one(Specifier::Nothing, size, ea, modes)
 }
 
@@ -384,7 +384,7 @@ fn branch_layout(byte: u8) -> Layout
 fn into_data_layout(line: u8, size: Size, ea: u8) -> Layout
     ensures { λ r. ⌜ r ≡ intoDataLayout line size ea ⌝ }
 {
-    let modes = pick((line == 8) | (line == 12), DATA, readable_modes(size));
+    let modes = modes_if((line == 8) | (line == 12), DATA, readable_modes(size));
     one(Specifier::Nothing, size, ea, modes)
 }
 
@@ -426,7 +426,7 @@ fn logic_compare_layout(x: u8, opmode: u8, ea: u8) -> Layout
 fn bit_field_layout(operation: BitFieldOperation, ea: u8) -> Layout
     ensures { λ r. ⌜ r ≡ bitFieldLayout operation ea ⌝ }
 {
-    let modes = pick(
+    let modes = modes_if(
         bit_field_operation::writes(operation),
         BIT_FIELD_WRITTEN,
         BIT_FIELD_READ,

@@ -7,7 +7,6 @@ use lib.Dec.{eqb}
 use borrow.Author.Tests.{ne-eqb}
 use Rattle.isa.specs.declared.BranchSize.{BranchSize}
 use Rattle.isa.specs.declared.BranchSize.the-variants as branch
-use Rattle.isa.specs.declared.Instruction.{Instruction}
 use Rattle.isa.specs.declared.Instruction.the-variants.{Branch, Bcc}
 use Rattle.isa_spec.specs.Condition.{conditionOf}
 use Rattle.read_spec.specs.Decoded.{branchTo, branchDecoded}

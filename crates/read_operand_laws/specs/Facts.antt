@@ -6,9 +6,7 @@ use native.Mathlib.Omega.{arith}
 use lib.Dec.{ltb, leb, leb·zero, leb·suc-suc}
 use lib.IntN.{ℤ, pos, negsuc}
 use lib.Signed.{mag, leZ}
-use borrow.Author.Tests as tests
 use Rattle.isa.specs.declared.Size.{Size}
-use Rattle.isa.specs.declared.Field.{Field}
 use Rattle.isa.specs.declared.Field.the-variants as field
 use Rattle.isa_spec.specs.Field.{holds, ranges, topOf, isZero}
 use Rattle.encode_spec.specs.Ea.{distance}
@@ -44,10 +42,6 @@ signed-low h (pos n) e = rw e
 signed-low h (negsuc n) e =
     let l : n < h = ltb-is n h e in
     rw (ltb-not (h + h - 1 - n) h (omega arith)) (ap negsuc (omega arith))
-
-pub low-lt : (h : ℕ) (z : ℤ) → fits h z ≡ true → low h z < h + h
-low-lt h (pos n) e = omega (arith, ltb-is n h e)
-low-lt h (negsuc n) e = omega (arith, ltb-is n h e)
 
 pub low-signed : (h x : ℕ) → x < h + h → low h (signed h x) ≡ x
 low-signed h x g = go (lt? x h)

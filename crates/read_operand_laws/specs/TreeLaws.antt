@@ -1,18 +1,13 @@
 -- What holds of every tree: a longer run of words reads alike, zeros complete what is short, and how the parts of a composed
 -- reading read.
-use Prim.Native.Nat.{ℕ, suc, _+_, _<_, _≤_}
+use Prim.Native.Nat.{ℕ, suc, _+_}
 use mathlib.Core.Path.{_≡_, refl, ap, sym, _∙_, subst}
 use mathlib.Core.Bool.{Bool, true, false}
 use mathlib.Core.List.{List, [], _∷_, _++_}
-use native.Mathlib.Omega.{arith}
-use lib.ListN.{length, replicate, drop, getD, drop-of-length-le}
-use lib.Seq.{drop-cons}
+use lib.ListN.{replicate}
 use Rattle.encode_spec.specs.Item.{wordAddress}
-use Rattle.read_places.specs.Depth.{atOut}
 use Rattle.read_spec.specs.Tree.{Tree, ret, fail, more, Out, got, short, none, run, guard, bind}
-use Rattle.read_places.specs.RunAt.{runAt}
 use Rattle.read_spec.specs.Accepted.{Words}
-use Rattle.base_facts.specs.Tests.{Lt, less, past, lt?}
 
 pub words-append : (us vs : List ℕ) → Words us → Words vs → Words (us ++ vs)
 words-append [] vs h g = g
@@ -110,26 +105,6 @@ module _ {A : Type 0} where
   guard-alive b t e l = rw e l
 
   -- ---- by place
-  step-more : (k : ℕ → ℕ → Tree A) (a n : ℕ) (ws : List ℕ) → n < length ws
-      → run (more k) a n (drop n ws) ≡ run (k (wordAddress a n) (getD ws n 0)) a (n + 1) (drop (n + 1) ws)
-  step-more k a n ws h =
-      let e : suc n ≡ n + 1 = omega arith in
-      ap (λ (l : List ℕ). run (more k) a n l) (drop-cons ws n 0 h ∙ ap (λ (j : ℕ). getD ws n 0 ∷ drop j ws) e)
-
-  step-short : (k : ℕ → ℕ → Tree A) (a n : ℕ) (ws : List ℕ) → length ws ≤ n → run (more k) a n (drop n ws) ≡ short
-  step-short k a n ws h = rw (drop-of-length-le ws h)
-
-  pub run-at : (t : Tree A) (a : ℕ) (ws : List ℕ) (n : ℕ) → n ≤ length ws → runAt t a ws n ≡ atOut (run t a n (drop n ws))
-  run-at (ret x) a ws n h = refl
-  run-at fail a ws n h = refl
-  run-at (more k) a ws n h = go (run-at (k (wordAddress a n) (getD ws n 0)) a ws (n + 1)) (lt? n (length ws))
-    where
-      go : (n + 1 ≤ length ws → runAt (k (wordAddress a n) (getD ws n 0)) a ws (n + 1) ≡ atOut (run (k (wordAddress a n) (getD ws n 0)) a (n + 1) (drop (n + 1) ws)))
-          → Lt n (length ws)
-          → runAt (more k) a ws n ≡ atOut (run (more k) a n (drop n ws))
-      go ih (less p e) = rw e (ih (omega arith) ∙ ap atOut (sym (step-more k a n ws p)))
-      go ih (past p e) = rw e (ap atOut (sym (step-short k a n ws p)))
-
 -- ---- one tree after another
 module _ {A B : Type 0} where
   abbrev pub after : Out A → ℕ → (A → Tree B) → Out B

@@ -10,8 +10,8 @@ use Rattle.read_operands.specs.declared.DisplacementRead.{DisplacementRe
 use Rattle.read_operands.specs.declared.DisplacementRead.the-variants as displacement
 use Rattle.read_operands.specs.declared.OperandRead.{OperandRead}
 use Rattle.read_operands.specs.declared.OperandRead.the-variants as operand
-use Rattle.read_operands.specs.declared.Followed.{Followed}
-use Rattle.read_operands.specs.declared.Followed.the-variants as fields
+use Rattle.read_operands.specs.declared.TailRead.{TailRead}
+use Rattle.read_operands.specs.declared.TailRead.the-variants as fields
 
 abbrev pub numberRead : At ℕ → NumberRead
 numberRead (found v n) = number.Got v n
@@ -28,7 +28,7 @@ operandRead (found o n) = operand.Got o n
 operandRead ended = operand.Short
 operandRead refused = operand.Nothing
 
-abbrev pub followed : At Tail → Followed
+abbrev pub followed : At Tail → TailRead
 followed (found f n) = fields.Got f n
 followed ended = fields.Short
 followed refused = fields.Nothing

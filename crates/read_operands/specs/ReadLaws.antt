@@ -3,7 +3,6 @@ use Prim.Native.Nat.{ℕ}
 use mathlib.Core.Path.{_≡_, refl}
 use lib.IntN.{ℤ}
 use Rattle.isa.specs.declared.Operand.{Operand}
-use Rattle.read_spec.specs.declared.Tail.{Tail}
 use Rattle.read_places.specs.RunAt.{At, found, ended, refused}
 use Rattle.read_operands.specs.declared.NumberRead.{NumberRead}
 use Rattle.read_operands.specs.declared.NumberRead.the-variants as number
@@ -11,9 +10,7 @@ use Rattle.read_operands.specs.declared.DisplacementRead.{DisplacementRe
 use Rattle.read_operands.specs.declared.DisplacementRead.the-variants as displacement
 use Rattle.read_operands.specs.declared.OperandRead.{OperandRead}
 use Rattle.read_operands.specs.declared.OperandRead.the-variants as operand
-use Rattle.read_operands.specs.declared.Followed.{Followed}
-use Rattle.read_operands.specs.declared.Followed.the-variants as fields
-use Rattle.read_operands.specs.Read.{numberRead, displacementRead, operandRead, followed}
+use Rattle.read_operands.specs.Read.{numberRead, displacementRead, operandRead}
 
 pub number-found : (x : At ℕ) {r : NumberRead} {v n : ℕ} → r ≡ numberRead x → r ≡ number.Got v n → x ≡ found v n
 number-found (found y k) e h = cc
@@ -59,18 +56,3 @@ pub operand-refused : (x : At Operand) {r : OperandRead} → r ≡ operandRead x
 operand-refused (found y k) e h = cc
 operand-refused ended e h = cc
 operand-refused refused e h = refl
-
-pub fields-found : (x : At Tail) {r : Followed} {f : Tail} {n : ℕ} → r ≡ followed x → r ≡ fields.Got f n → x ≡ found f n
-fields-found (found y k) e h = cc
-fields-found ended e h = cc
-fields-found refused e h = cc
-
-pub fields-ended : (x : At Tail) {r : Followed} → r ≡ followed x → r ≡ fields.Short → x ≡ ended
-fields-ended (found y k) e h = cc
-fields-ended ended e h = refl
-fields-ended refused e h = cc
-
-pub fields-refused : (x : At Tail) {r : Followed} → r ≡ followed x → r ≡ fields.Nothing → x ≡ refused
-fields-refused (found y k) e h = cc
-fields-refused ended e h = cc
-fields-refused refused e h = refl

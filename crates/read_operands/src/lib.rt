@@ -34,7 +34,7 @@ pub enum OperandRead {
     Nothing,
 }
 
-pub enum Followed {
+pub enum TailRead {
     Got(Tail, usize),
     Short,
     Nothing,
@@ -57,13 +57,13 @@ fn with_destination(
     value: u32,
     source: Operand,
     at: usize,
-) -> Followed
+) -> TailRead
     ensures { λ r. ⌜ r ≡ followed (runAt (destinationTree layout value source) address (now (words .entry)) at) ⌝ }
 {
     let size = layout.size;
     let read = operand::operand(words, address, at, size, layout.destination);
     match read {
-        OperandRead::Got(destination, next) => Followed::Got(
+        OperandRead::Got(destination, next) => TailRead::Got(
             Tail {
                 value,
                 source,
@@ -71,13 +71,13 @@ fn with_destination(
             },
             next,
         ),
-        OperandRead::Short => Followed::Short,
-        OperandRead::Nothing => Followed::Nothing,
+        OperandRead::Short => TailRead::Short,
+        OperandRead::Nothing => TailRead::Nothing,
     }
 }
 
 // The operands, after a specifier.
-fn with_source(words: &[u16], address: u32, layout: Layout, value: u32, at: usize) -> Followed
+fn with_source(words: &[u16], address: u32, layout: Layout, value: u32, at: usize) -> TailRead
     ensures { λ r. ⌜ r ≡ followed (runAt (sourceTree layout value) address (now (words .entry)) at) ⌝ }
 {
     let size = layout.size;
@@ -86,31 +86,31 @@ fn with_source(words: &[u16], address: u32, layout: Layout, value: u32, at: usiz
         OperandRead::Got(source, next) => {
             with_destination(words, address, layout, value, source, next)
         }
-        OperandRead::Short => Followed::Short,
-        OperandRead::Nothing => Followed::Nothing,
+        OperandRead::Short => TailRead::Short,
+        OperandRead::Nothing => TailRead::Nothing,
     }
 }
 
 // The specifier and the operands.
-fn specified(words: &[u16], address: u32, layout: Layout) -> Followed
+fn specified(words: &[u16], address: u32, layout: Layout) -> TailRead
     ensures { λ r. ⌜ r ≡ followed (runAt (specifiedTree layout) address (now (words .entry)) 1) ⌝ }
 {
     let kind = layout.specifier;
     let read = specifier::specifier(words, 1, kind);
     match read {
         NumberRead::Got(value, next) => with_source(words, address, layout, value, next),
-        NumberRead::Short => Followed::Short,
-        NumberRead::Nothing => Followed::Nothing,
+        NumberRead::Short => TailRead::Short,
+        NumberRead::Nothing => TailRead::Nothing,
     }
 }
 
 // What follows the operation word at an address, in this layout.
-pub fn follow(words: &[u16], address: u32, layout: Layout) -> Followed
+pub fn follow(words: &[u16], address: u32, layout: Layout) -> TailRead
     ensures { λ r. ⌜ r ≡ followed (runAt (tailTree layout) address (now (words .entry)) 1) ⌝ }
 {
     if accepts(layout) {
         specified(words, address, layout)
     } else {
-        Followed::Nothing
+        TailRead::Nothing
     }
 }

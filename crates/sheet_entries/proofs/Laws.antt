@@ -12,7 +12,7 @@ use denote.Laws.{Is}
 use denote.Struct.Declared.{row}
 use mir.Val.{Val}
 use Rattle.numeric_spec.specs.declared.Built.the-variants as built
-use Rattle.numeric_spec.specs.Build.{builtFrom}
+use Rattle.numeric_places.specs.Places.{builtFrom}
 use Rattle.sheet_tokens.specs.declared.Entries.{Entries}
 use Rattle.sheet_tokens.proofs.Entries as entries
 use Rattle.sheet_spec.specs.Made.{addressIn}
@@ -59,8 +59,8 @@ module _ (n : ℕ) (ts : List Bool) (ks : List ℕ) where
   names-end all i h = rw (drop-of-length-le ts {i = i} h) (and-true all)
 
 -- d with the first i places those of z
-turned-next : (d z : List ℕ) (i : ℕ) → i < length d → i < length z → set (take i z ++ drop i d) i (getD z i 0) ≡ take (i + 1) z ++ drop (i + 1) d
-turned-next d z i h g =
+filled-next : (d z : List ℕ) (i : ℕ) → i < length d → i < length z → set (take i z ++ drop i d) i (getD z i 0) ≡ take (i + 1) z ++ drop (i + 1) d
+filled-next d z i h g =
     rw (
       add-one,
       drop-cons d i 0 h,
@@ -69,8 +69,8 @@ turned-next d z i h g =
       append-snoc (take i z) (getD z i 0) (drop (suc i) d),
     )
 
-turned-end : (d z : List ℕ) (i : ℕ) → length d ≤ i → length z ≤ i → take i z ++ drop i d ≡ z
-turned-end d z i h g = rw (drop-of-length-le d {i = i} h, take-all i z g) (append-nil z)
+filled-end : (d z : List ℕ) (i : ℕ) → length d ≤ i → length z ≤ i → take i z ++ drop i d ≡ z
+filled-end d z i h g = rw (drop-of-length-le d {i = i} h, take-all i z g) (append-nil z)
 
 module _ (addresses : List ℕ) where
   numbers-length : (ts : List Bool) (ks : List ℕ) → length ts ≡ length ks → length (resolvedNumbers addresses ts ks) ≡ length ks
@@ -98,10 +98,10 @@ module _ (addresses : List ℕ) where
     numbers-next h =
         ap (set (numbersTo e i) i)
         (sym (number-at (e .named) (e .magnitude) i (omega (arith, named-places e vs good)) (omega (arith, magnitude-places e vs good))))
-        ∙ turned-next (replicate 24 0) (resolvedNumbers addresses (e .named) (e .magnitude)) i h (omega (arith, all-places))
+        ∙ filled-next (replicate 24 0) (resolvedNumbers addresses (e .named) (e .magnitude)) i h (omega (arith, all-places))
 
     pub numbers-end : 24 ≤ i → numbersTo e i ≡ resolvedNumbers addresses (e .named) (e .magnitude)
-    numbers-end h = turned-end (replicate 24 0) (resolvedNumbers addresses (e .named) (e .magnitude)) i h (omega (arith, all-places))
+    numbers-end h = filled-end (replicate 24 0) (resolvedNumbers addresses (e .named) (e .magnitude)) i h (omega (arith, all-places))
 
   pub address-line : (k : ℕ) → (k ≡ 0 → ⊥) → addressIn addresses k ≡ getD addresses (k - 1) 0
   address-line zero h = absurd (h refl)

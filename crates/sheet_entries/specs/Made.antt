@@ -3,10 +3,10 @@ use Prim.Native.Nat.{ℕ}
 use mathlib.Core.Bool.{Bool, true, cond, not, _&&_, _||_}
 use mathlib.Core.List.{List, [], _∷_}
 use lib.Dec.{leb}
-use Rattle.numeric_spec.specs.declared.Numbers.{Numbers}
+use Rattle.numeric_places.specs.declared.Numbers.{Numbers}
 use Rattle.numeric_spec.specs.declared.Built.{Built}
 use Rattle.numeric_spec.specs.declared.Built.the-variants as built
-use Rattle.numeric_spec.specs.Build.{builtFrom}
+use Rattle.numeric_places.specs.Places.{builtFrom}
 use Rattle.sheet_tokens.specs.declared.Entries.{Entries}
 use Rattle.sheet_spec.specs.Made.{addressIn}
 

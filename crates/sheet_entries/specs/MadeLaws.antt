@@ -11,7 +11,8 @@ use borrow.Author.Tests.{le-leb, lt-leb, leb-false}
 use Rattle.base_facts.specs.Lists.{pad}
 use Rattle.base_facts.specs.Tests.{cond-true}
 use Rattle.base_spec.specs.Signed.{minus}
-use Rattle.numeric_spec.specs.Build.{builtOf, signedFrom, listed}
+use Rattle.numeric_spec.specs.Build.{builtOf}
+use Rattle.numeric_places.specs.Places.{signedFrom, numbersHeld}
 use Rattle.sheet_spec.specs.Line.{Token, literal, label, invalid, Parsed, says, no, lineOf}
 use Rattle.sheet_spec.specs.Spell.{numberAs}
 use Rattle.sheet_spec.specs.Made.{madeAs, madeOf, names, namesAll, namesIn, addressIn}
@@ -79,8 +80,8 @@ module _ (addresses : List ℕ) (few : length addresses ≤ 4096) where
   numbers-pad (suc m) [] h = refl
   numbers-pad (suc m) (v ∷ vs) h = λ i. number-token v i ∷ numbers-pad m vs (omega arith) i
 
-  numbers-listed : (vs : List Token) → length vs ≤ 24 → listed (numbersWith (entriesFrom vs) addresses) ≡ map (numberAs (addressIn addresses)) vs
-  unfolding listed numbersWith entriesFrom
+  numbers-listed : (vs : List Token) → length vs ≤ 24 → numbersHeld (numbersWith (entriesFrom vs) addresses) ≡ map (numberAs (addressIn addresses)) vs
+  unfolding numbersHeld numbersWith entriesFrom
   numbers-listed vs h = numbers-pad 24 vs h
 
   made-from : (vs : List Token) → length vs ≤ 24 → madeWith (entriesFrom vs) addresses ≡ builtOf (map (numberAs (addressIn addresses)) vs)

@@ -1,17 +1,14 @@
 -- Laws of one field more. Assumes nothing.
-use Prim.Native.Nat.{ℕ, zero, suc, _≤_, _<_}
+use Prim.Native.Nat.{ℕ, zero, suc, _<_}
 use mathlib.Core.Path.{_≡_, refl, ap}
-use mathlib.Core.Bool.{Bool, true, false}
+use mathlib.Core.Bool.{false}
 use mathlib.Core.List.{List, [], _∷_, _++_, map}
 use native.Mathlib.Omega.{arith}
 use lib.ListN.{length, set, length-append, length-map}
-use borrow.Author.Tests.{lt-ltb, le-ltb}
+use borrow.Author.Tests.{lt-ltb}
 use Rattle.base_facts.specs.Lists.{pad, map-more}
-use Rattle.sheet_tokens.specs.declared.Value.{Value}
-use Rattle.sheet_tokens.specs.declared.Value.the-variants as value
-use Rattle.sheet_tokens.specs.declared.Entries.{Entries}
 use Rattle.sheet_spec.specs.Line.{Token, literal, label, invalid}
-use Rattle.sheet_tokens.specs.Entries.{valueOf, isLine, negativeIn, magnitudeIn, noEntries, entriesFrom}
+use Rattle.sheet_tokens.specs.Entries.{valueOf, isLine, negativeIn, magnitudeIn, entriesFrom}
 use Rattle.sheet_entries.specs.With.{placedEntry, withValue}
 
 module _ {A : Type 0} where
@@ -41,25 +38,3 @@ pub with-more : (vs : List Token) (v : Token) → length vs < 24 → (v ≡ inva
 with-more vs (literal s n) h t = place vs (literal s n) h
 with-more vs (label n) h t = place vs (label n) h
 with-more vs invalid h t = absurd (t refl)
-
-pub with-nothing : (e : Entries) → withValue e (valueOf invalid) ≡ noEntries
-with-nothing e = refl
-
-full : (vs : List Token) (t s : Bool) (n : ℕ) → 24 ≤ length vs → placedEntry (entriesFrom vs) t s n ≡ noEntries
-unfolding placedEntry entriesFrom
-full vs t s n h = rw (le-ltb (length vs) 24 h)
-
--- a 25th field is in no form
-pub with-full : (vs : List Token) (v : Value) → 24 ≤ length vs → withValue (entriesFrom vs) v ≡ noEntries
-with-full vs (value.Number s n) h = full vs false s n h
-with-full vs (value.Line n) h = full vs true false n h
-with-full vs value.None h = refl
-
-none : (t s : Bool) (n : ℕ) → placedEntry noEntries t s n ≡ noEntries
-unfolding placedEntry noEntries
-none t s n = refl
-
-pub with-none : (v : Value) → withValue noEntries v ≡ noEntries
-with-none (value.Number s n) = none false s n
-with-none (value.Line n) = none true false n
-with-none value.None = refl

@@ -6,7 +6,7 @@ ghost use Rattle.sheet_tokens.specs.Entries.{noEntries, entriesFrom};
 ghost use Rattle.sheet_entries.specs.With.{placedEntry, withValue};
 ghost use Rattle.sheet_entries.specs.Made.{namesOne, namesLines, resolvedNumber, numbersWith, madeWith};
 use numeric_spec::Built;
-use numeric_spec::Numbers;
+use numeric_places::Numbers;
 use sheet_tokens::Entries;
 use sheet_tokens::Value;
 

@@ -13,9 +13,9 @@ use Rattle.base_spec.specs.Number.{isDecimal, value, unsignedOf, negated, numbe
 use Rattle.sheet_spec.specs.declared.Kind.{Kind}
 use Rattle.sheet_spec.specs.declared.Kind.the-variants as kind
 use Rattle.sheet_spec.specs.Names.{bytes, namesOf}
-use Rattle.sheet_spec.specs.Line.{Token, literal, label, invalid, asNumber, asName, isName, asVariant}
+use Rattle.sheet_spec.specs.Line.{Token, literal, label, invalid, asNumber, asLabel, isLabel, asVariant}
 use Rattle.sheet_spec.specs.Line as line
-use Rattle.sheet_spec.specs.Spell.{signText, nameText, Written, Named, Either, Variant, Suits}
+use Rattle.sheet_spec.specs.Spell.{signText, nameText, Written, Labelled, Either, Variant, Suits}
 use Rattle.sheet_spec.specs.Spell as spell
 use Rattle.sheet_facts.specs.Names.{Place, place-is}
 use Rattle.base_facts.specs.Tests.{and-true}
@@ -107,7 +107,7 @@ number-suits f v e h = go (numberOf f) refl e
     go number.No w q = absurd (h (sym q))
 
 -- a line's name: `@`, and digits in plain form
-pub name-is : (f : List ℕ) (v : Token) → asName f ≡ v → (v ≡ invalid → ⊥) → (g : List ℕ) × (f ≡ 64 ∷ g) × (isDecimal g ≡ true) × (v ≡ label (value g))
+pub name-is : (f : List ℕ) (v : Token) → asLabel f ≡ v → (v ≡ invalid → ⊥) → (g : List ℕ) × (f ≡ 64 ∷ g) × (isDecimal g ≡ true) × (v ≡ label (value g))
 name-is [] v e h = absurd (h (sym e))
 name-is (b ∷ bs) v e h = go (eqb b 64 && isDecimal bs) refl e
   where
@@ -118,13 +118,13 @@ name-is (b ∷ bs) v e h = go (eqb b 64 && isDecimal bs) refl e
         (bs, (λ i. x i ∷ bs), d .1, sym q)
     go false t q = absurd (h (sym q))
 
-name-suits : (f : List ℕ) (v : Token) → asName f ≡ v → (v ≡ invalid → ⊥) → Either v × Named v
+name-suits : (f : List ℕ) (v : Token) → asLabel f ≡ v → (v ≡ invalid → ⊥) → Either v × Labelled v
 name-suits f v e h = rw (name-is f v e h .3) (tt, tt)
 
 place-suits : (f : List ℕ) (v : Token) → line.token kind.Place f ≡ v → (v ≡ invalid → ⊥) → Either v
-place-suits f v e h = go (isName f) e
+place-suits f v e h = go (isLabel f) e
   where
-    go : (t : Bool) → cond t (asName f) (asNumber (numberOf f)) ≡ v → Either v
+    go : (t : Bool) → cond t (asLabel f) (asNumber (numberOf f)) ≡ v → Either v
     go true q = name-suits f v q h .0
     go false q = number-suits f v q h .0
 

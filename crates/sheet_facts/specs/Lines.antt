@@ -9,7 +9,7 @@ use Rattle.sheet_spec.specs.declared.Kind.{Kind}
 use Rattle.sheet_spec.specs.declared.Kind.the-variants as kind
 use Rattle.sheet_spec.specs.Grammar.{kindsOf}
 use Rattle.sheet_spec.specs.Line.{Token, literal, label, invalid, token, Parsed, says, no, with, after, lineFrom, lineOf}
-use Rattle.sheet_spec.specs.Spell.{nextKinds, Fits}
+use Rattle.sheet_spec.specs.Spell.{nextKinds, SuitAll}
 use Rattle.sheet_facts.specs.Fields.{token-suits}
 
 no-says : {vs : List Token} → no ≡ says vs → ⊥
@@ -47,5 +47,5 @@ module _ (P : List Kind → List (List ℕ) → List Token → Type 0) (none : P
   unfolding lineOf
   by-line t vs e = by-fields (kind.Instruction ∷ []) (fields t) vs e
 
-pub line-fits : (t : List ℕ) (vs : List Token) → lineOf t ≡ says vs → Fits (kind.Instruction ∷ []) vs
-line-fits = by-line (λ ks fs vs. Fits ks vs) tt (λ k ks f fs v vs e h r. (token-suits k f v e h, r))
+pub line-fits : (t : List ℕ) (vs : List Token) → lineOf t ≡ says vs → SuitAll (kind.Instruction ∷ []) vs
+line-fits = by-line (λ ks fs vs. SuitAll ks vs) tt (λ k ks f fs v vs e h r. (token-suits k f v e h, r))

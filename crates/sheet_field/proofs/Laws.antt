@@ -16,7 +16,7 @@ use Rattle.base_spec.specs.Number.{isDigit, allDigits, valueFrom, numberOf}
 use Rattle.base_text.specs.NumberLaws.{value-grows}
 use Rattle.sheet_spec.specs.declared.Kind.the-variants as kind
 use Rattle.sheet_tokens.specs.declared.Value.the-variants as value
-use Rattle.sheet_spec.specs.Line.{literal, label, invalid, equal, isNone, placeFrom, asName, asNumber, token}
+use Rattle.sheet_spec.specs.Line.{literal, label, invalid, equal, isNone, placeFrom, asLabel, asNumber, token}
 use Rattle.sheet_tokens.specs.Entries.{capped, valueOf}
 use Rattle.base_facts.specs.Tests as facts
 use Rattle.sheet_field.specs.LineNumber.{lineAfter}
@@ -96,16 +96,16 @@ pub line-end : (f : List ℕ) (i a : ℕ) → length f ≤ i → a ≤ 4097 → 
 line-end f i a h g = rw (drop-of-length-le f h) (ap value.Line (capped-same a g))
 
 -- `@` and a number, by its first bytes
-pub name-short : (f : List ℕ) → length f < 2 → asName f ≡ invalid
+pub name-short : (f : List ℕ) → length f < 2 → asLabel f ≡ invalid
 name-short [] h = refl
 name-short (b ∷ []) h = rw (and-false (eqb b 64))
 name-short (b ∷ (d ∷ bs)) h = absurd (omega arith)
 
-pub name-other : (f : List ℕ) → (getD f 0 0 ≡ 64 → ⊥) → asName f ≡ invalid
+pub name-other : (f : List ℕ) → (getD f 0 0 ≡ 64 → ⊥) → asLabel f ≡ invalid
 name-other [] e = refl
 name-other (b ∷ bs) e = rw (ne-eqb b 64 e)
 
-pub name-zeros : (f : List ℕ) → eqb (getD f 1 0) 48 && ltb 2 (length f) ≡ true → asName f ≡ invalid
+pub name-zeros : (f : List ℕ) → eqb (getD f 1 0) 48 && ltb 2 (length f) ≡ true → asLabel f ≡ invalid
 name-zeros [] e = refl
 name-zeros (b ∷ []) e = rw (and-false (eqb b 64))
 name-zeros (b ∷ (d ∷ [])) e = let z : _≡_ {A = ℕ} 0 1 = cc (and-false (eqb d 48)) in absurd (omega arith)
@@ -116,7 +116,7 @@ label-if true n = refl
 label-if false n = refl
 
 pub name-digits : (f : List ℕ) → 2 ≤ length f → getD f 0 0 ≡ 64 → eqb (getD f 1 0) 48 && ltb 2 (length f) ≡ false
-    → valueOf (asName f) ≡ lineAfter 0 (take (length f - 1) (drop 1 f))
+    → valueOf (asLabel f) ≡ lineAfter 0 (take (length f - 1) (drop 1 f))
 name-digits [] h e t = absurd (omega arith)
 name-digits (b ∷ []) h e t = absurd (omega arith)
 name-digits (b ∷ (d ∷ [])) h e t = rw (eq-eqb b 64 e, and-true (isDigit d)) (label-if (isDigit d) (valueFrom 0 (d ∷ [])))
@@ -159,7 +159,7 @@ pub token-none : (f : List ℕ) → length f ≡ 0 → token kind.Place f ≡ in
 token-none [] h = refl
 token-none (b ∷ bs) h = absurd (omega arith)
 
-pub token-name : (f : List ℕ) → getD f 0 0 ≡ 64 → token kind.Place f ≡ asName f
+pub token-name : (f : List ℕ) → getD f 0 0 ≡ 64 → token kind.Place f ≡ asLabel f
 token-name [] e = refl
 token-name (b ∷ bs) e = rw (eq-eqb b 64 e)
 

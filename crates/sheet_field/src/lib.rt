@@ -2,7 +2,7 @@
 ghost use mathlib.Core.Path.{_≡_};
 ghost use Rattle.base_spec.specs.Parts.{fields};
 ghost use Rattle.base_spec.specs.Number.{numberOf};
-ghost use Rattle.sheet_spec.specs.Line.{asNumber, asName, asVariant, placeFrom, token};
+ghost use Rattle.sheet_spec.specs.Line.{asNumber, asLabel, asVariant, placeFrom, token};
 ghost use Rattle.sheet_spec.specs.Line as line;
 ghost use Rattle.sheet_tokens.specs.Entries.{valueOf};
 ghost use Rattle.sheet_tokens.specs.Entries as entries;
@@ -100,7 +100,7 @@ fn line_number(f: &[u8]) -> Value
 
 // `@` and a line's number.
 fn line_name(f: &[u8]) -> Value
-    ensures { λ r. ⌜ r ≡ valueOf (asName (now (f .entry))) ⌝ }
+    ensures { λ r. ⌜ r ≡ valueOf (asLabel (now (f .entry))) ⌝ }
 {
     if f.len() < 2 {
         return Value::None;

@@ -1,11 +1,10 @@
 -- Every instruction whose numbers are inside their types has a line, IllegalWord and SIMHALT excepted, whatever lines its targets name. Assumes nothing.
 use Prim.Native.Nat.{ℕ, _<_}
 use mathlib.Core.Path.{_≡_, refl, sym, ap, _∙_, subst}
-use mathlib.Core.Bool.{true, false}
 use mathlib.Core.List.{List, [], _∷_, map, append-nil}
 use native.Mathlib.Omega.{arith}
 use lib.ListN.{length, getD}
-use lib.IntN.{ℤ, pos, natAbs}
+use lib.IntN.{ℤ, pos}
 use Rattle.isa.specs.declared.RawOperation.the-variants.{IllegalWord}
 use Rattle.isa.specs.declared.NoOperandOperation.the-variants.{SIMHALT}
 use Rattle.isa.specs.declared.Instruction.{Instruction}
@@ -13,14 +12,11 @@ use Rattle.isa.specs.declared.Instruction.the-variants.{Raw, NoOperand}
 use Rattle.numeric_spec.specs.Entry.{entryNumber, Inside}
 use Rattle.numeric_spec.specs.Form.{placeOf, formOf, numbersOf}
 use Rattle.numeric_spec.specs.Form as numeric
-use Rattle.numeric_spec.specs.declared.Built.the-variants as built
 use Rattle.sheet_spec.specs.declared.Kind.the-variants as kind
 use Rattle.sheet_spec.specs.Names.{bytes, namesOf}
-use Rattle.sheet_spec.specs.Line.{Token, literal, label, invalid}
-use Rattle.sheet_spec.specs.Spell.{numberAs, Variant, Fits, spell, Line}
-use Rattle.sheet_spec.specs.Made.{madeOf}
+use Rattle.sheet_spec.specs.Line.{Token}
+use Rattle.sheet_spec.specs.Spell.{SuitAll, Line}
 use Rattle.sheet_size_facts.specs.Says.{entries, place-named}
-use Rattle.sheet_form_laws.specs.InForm.{form-complete}
 use Rattle.sheet_size_facts.specs.Fitting.{fields-numbers, Fitting}
 use Rattle.sheet_spec.specs.Told.{Mark, saying, unaimed, HasLine, Told}
 use Rattle.sheet_size_facts.specs.Sorts.{variant-fitting}
@@ -41,12 +37,8 @@ every-line m i l h =
     let n = append-nil (numeric.payloadOf i) in
     let e : entries (f .bare) ≡ unaimed m (kind.Instruction ∷ []) (entries i) = sym (append-nil (entries (f .bare))) ∙ sym (rw n at (f .leaves [])) in
     let b = fields-numbers m (kind.Instruction ∷ []) (entries i) h in
-    let g : Fits (kind.Instruction ∷ []) (saying m (kind.Instruction ∷ []) (entries i)) = (rw n at (f .fits [])) h (λ i. tt) in
+    let g : SuitAll (kind.Instruction ∷ []) (saying m (kind.Instruction ∷ []) (entries i)) = (rw n at (f .fits [])) h (λ i. tt) in
     record { bare = f .bare; form = e; line = record { grammar = g; numbers = b .0 ∙ ap (map entryNumber) (sym e); inside = subst Inside (sym e) (b .1) } }
-
--- each such line is in the form
-pub every-line-in-form : (m : ℕ → Mark) (i : Instruction) (l : HasLine i) (h : Inside (formOf i)) → madeOf (λ n. 0) (spell (saying m (kind.Instruction ∷ []) (formOf i))) ≡ built.Instruction (every-line m i l h .bare)
-every-line-in-form m i l h = form-complete _ _ (every-line m i l h .line)
 
 -- IllegalWord and SIMHALT have none
 line-named : (vs : List Token) (i : Instruction) → Line vs i → 0 < length (getD (map bytes (namesOf kind.Instruction)) (placeOf i) [])

@@ -11,8 +11,8 @@ use Rattle.base_spec.specs.Number.{isDigit, allDigits, value, isDecimal, number
 use Rattle.base_spec.specs.Written.{decimalOf}
 use Rattle.sheet_spec.specs.declared.Kind.{Kind}
 use Rattle.sheet_spec.specs.declared.Kind.the-variants as kind
-use Rattle.sheet_spec.specs.Line.{Token, literal, label, invalid, asNumber, asName, isName, asVariant, token}
-use Rattle.sheet_spec.specs.Spell.{signText, numberText, nameText, spelled, Written, Named, Either, Variant, Suits}
+use Rattle.sheet_spec.specs.Line.{Token, literal, label, invalid, asNumber, asLabel, isLabel, asVariant, token}
+use Rattle.sheet_spec.specs.Spell.{signText, numberText, nameText, spelled, Written, Labelled, Either, Variant, Suits}
 use Rattle.sheet_facts.specs.Names.{solid, name-back, name-solid}
 use Rattle.sheet_facts.specs.Fields.{Sorted, of-number, of-target, of-place, of-variant, sorted, name-is, variant-token}
 use Rattle.sheet_form_laws.specs.NumberForm.{digit, decimal-plain, decimal-value, plain-digits, plain-decimal, number-form, number-back}
@@ -29,16 +29,16 @@ digits-solid (b ∷ bs) e =
 pub decimal-solid : (n : ℕ) → solid (decimalOf n) ≡ true
 decimal-solid n = digits-solid (decimalOf n) (plain-digits (decimalOf n) (decimal-plain n))
 
-digits-name : (l : List ℕ) → allDigits l ≡ true → isName l ≡ false
+digits-name : (l : List ℕ) → allDigits l ≡ true → isLabel l ≡ false
 digits-name [] e = refl
 digits-name (b ∷ bs) e = let d = digit b (and-true (isDigit b) (allDigits bs) e .0) in ne-eqb b 64 (λ q. omega (arith, d))
 
-number-name : (s : Bool) (n : ℕ) → isName (signText s ++ decimalOf n) ≡ false
+number-name : (s : Bool) (n : ℕ) → isLabel (signText s ++ decimalOf n) ≡ false
 number-name true n = refl
 number-name false n = digits-name (decimalOf n) (plain-digits (decimalOf n) (decimal-plain n))
 
 -- what is spelled says what it was
-label-back : (n : ℕ) → asName (64 ∷ decimalOf n) ≡ label n
+label-back : (n : ℕ) → asLabel (64 ∷ decimalOf n) ≡ label n
 label-back n = cond-true (isDecimal (decimalOf n)) (label (value (decimalOf n))) invalid (decimal-plain n) ∙ ap label (decimal-value n)
 
 literal-back : (s : Bool) (n : ℕ) → Written (literal s n) → asNumber (numberOf (signText s ++ decimalOf n)) ≡ literal s n
@@ -50,7 +50,7 @@ written-back (literal false n) h = literal-back false n h
 written-back (label n) h = absurd h
 written-back invalid h = absurd h
 
-named-back : (v : Token) → Named v → asName (numberText v) ≡ v
+named-back : (v : Token) → Labelled v → asLabel (numberText v) ≡ v
 named-back (literal s n) h = absurd h
 named-back (label n) h = label-back n
 named-back invalid h = absurd h
@@ -58,7 +58,7 @@ named-back invalid h = absurd h
 either-back : (v : Token) → Either v → token kind.Place (numberText v) ≡ v
 either-back (literal s n) h =
     let f : List ℕ = signText s ++ decimalOf n in
-    cond-false (isName f) (asName f) (asNumber (numberOf f)) (number-name s n) ∙ literal-back s n h
+    cond-false (isLabel f) (asLabel f) (asNumber (numberOf f)) (number-name s n) ∙ literal-back s n h
 either-back (label n) h = label-back n
 either-back invalid h = absurd h
 
@@ -85,15 +85,15 @@ number-token f v e h = go (numberOf f) refl e
     go (number.Is s n) w q = rw (← q) (number-form f s n w .0)
     go number.No w q = absurd (h (sym q))
 
-name-token : (f : List ℕ) (v : Token) → asName f ≡ v → (v ≡ invalid → ⊥) → f ≡ numberText v
+name-token : (f : List ℕ) (v : Token) → asLabel f ≡ v → (v ≡ invalid → ⊥) → f ≡ numberText v
 name-token f v e h =
     let d = name-is f v e h in
     rw (d .3) (d .1 ∙ ap (λ (g : List ℕ). 64 ∷ g) (sym (plain-decimal (d .0) (d .2))))
 
 either-token : (f : List ℕ) (v : Token) → token kind.Place f ≡ v → (v ≡ invalid → ⊥) → f ≡ numberText v
-either-token f v e h = go (isName f) e
+either-token f v e h = go (isLabel f) e
   where
-    go : (t : Bool) → cond t (asName f) (asNumber (numberOf f)) ≡ v → f ≡ numberText v
+    go : (t : Bool) → cond t (asLabel f) (asNumber (numberOf f)) ≡ v → f ≡ numberText v
     go true q = name-token f v q h
     go false q = number-token f v q h
 

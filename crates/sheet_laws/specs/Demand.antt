@@ -23,7 +23,7 @@ use Rattle.sheet_spec.specs.Promises.{AcceptedSheet, wordsAt}
 use Rattle.sheet_size_facts.specs.Bounds.{line-at, count-some, names-bounded, addresses-bounded}
 use Rattle.sheet_size_facts.specs.Counted.{measured}
 use Rattle.sheet_size_facts.specs.Counted as counted
-use Rattle.sheet_laws.specs.InTypes.{inside-typed}
+use Rattle.sheet_laws.specs.InTypes.{inside-in-types}
 use Rattle.sheet_laws.specs.Follows.{Aims, Within, LineStands, AllStand}
 
 -- ---- where a line goes: to the address t, and to line k of m; its target is even
@@ -79,7 +79,7 @@ module _ (text : List ℕ) (places room : ℕ) (ok : AcceptedSheet text places r
 
     line-accepted : reads.Accepted a i
     line-accepted = (
-      inside-typed i (l .inside A (addresses-bounded text (measured text places room ok))),
+      inside-in-types i (l .inside A (addresses-bounded text (measured text places room ok))),
       counted.is-in-order text places room ok n h g l,
       l .follows .read A a (address-even n) (goes (l .follows .goes) .2),
     )

@@ -18,7 +18,7 @@ use Rattle.sheet_facts.specs.Listing.{both-in-order, in-order-zero, measured-si
 use Rattle.m68k_encode.specs.Lays.{instruction-lays}
 use Rattle.m68k_encode.specs.Laws.{places-law, encode-most}
 use Rattle.sheet_spec.specs.Sheet.{sizedAs, sizedOf, counted, total, addressesFrom, encodedLine, lineEncoded}
-use Rattle.sheet_spec.specs.Translate.{Outcome, inOrder, asOutcome, sizesOutcome, lineWords}
+use Rattle.sheet_spec.specs.Translate.{inOrder, asOutcome, sizesOutcome, lineWords}
 use Rattle.sheet_passes.specs.Passes.{filledOf}
 
 -- ---- an encoded line has eleven places, and so many words count

@@ -1,7 +1,7 @@
 -- The definitions at work.
 use mathlib.Core.Path.{_≡_, refl}
 use mathlib.Core.List.{[], _∷_}
-use lib.IntN.{pos, negsuc}
+use lib.IntN.{negsuc}
 use Rattle.base_spec.specs.Written.{decimalOf}
 use Rattle.sheet_spec.specs.Names.{bytes}
 use Rattle.sheet_spec.specs.Translate.{outcomeOf}

@@ -22,14 +22,9 @@ use Rattle.sheet_size_facts.specs.Outcomes.{accepted}
 use Rattle.sheet_spec.specs.Promises.{AcceptedSheet, MeasuredSheet, wordsAt}
 use Rattle.sheet_size_facts.specs.Made.{LineMade}
 use Rattle.sheet_size_facts.specs.Bounds.{size-is, line-at, addresses-bounded}
+use Rattle.m68k_encode.specs.Laws.{encoded-fine}
 
 -- ---- verdicts of the encoder
-encoded-fine : (v : item.Verdict) (ws : List ℕ) → encode.encodedAs v ws .number ≡ 0 → v ≡ item.fine
-encoded-fine item.fine ws h = refl
-encoded-fine item.malformed ws h = absurd (omega arith)
-encoded-fine (item.outOfRange f z) ws h = absurd (omega arith)
-encoded-fine (item.noEncoding r) ws h = absurd (omega arith)
-
 -- the words that count
 taken : (v : item.Verdict) (ws : List ℕ) → v ≡ item.fine → take (encode.encodedAs v ws .count) (encode.encodedAs v ws .words) ≡ ws
 taken v ws e = rw e (take-at ws (replicate {A = ℕ} (11 - length ws) 0) (length ws) refl)

@@ -8,7 +8,7 @@ use Rattle.numeric_spec.specs.Entry.{Entry, unsigned, signed, entryNumber, insi
 use Rattle.sheet_spec.specs.declared.Kind.{Kind}
 use Rattle.sheet_spec.specs.declared.Kind.the-variants as kind
 use Rattle.sheet_spec.specs.Line.{Token}
-use Rattle.sheet_spec.specs.Spell.{numberAs, Fits, nextKinds}
+use Rattle.sheet_spec.specs.Spell.{numberAs, SuitAll, nextKinds}
 use Rattle.sheet_spec.specs.Told.{Mark, named, numbered, unmarked, field, saying, unaimed}
 
 -- ---- numbers and types, whatever the kinds
@@ -38,4 +38,4 @@ pub record Fitting {X : Type 0} (form : X → List Entry) (kinds : List Kind) (x
   pub bare : X
   pub next : ℕ → Mark
   pub leaves : (es : List Entry) → unaimed m (kinds ++ ks) (form x ++ es) ≡ form bare ++ unaimed next ks es
-  pub fits : (es : List Entry) → Inside (form x ++ es) → (Inside es → Fits ks (saying next ks es)) → Fits (kinds ++ ks) (saying m (kinds ++ ks) (form x ++ es))
+  pub fits : (es : List Entry) → Inside (form x ++ es) → (Inside es → SuitAll ks (saying next ks es)) → SuitAll (kinds ++ ks) (saying m (kinds ++ ks) (form x ++ es))

@@ -15,7 +15,7 @@ use Rattle.numeric_spec.specs.Form.{formOf, numbersOf}
 use Rattle.numeric_facts.specs.Built.{build-complete}
 use Rattle.sheet_spec.specs.declared.Kind.the-variants as kind
 use Rattle.sheet_spec.specs.Line.{Token, says, lineOf}
-use Rattle.sheet_spec.specs.Spell.{numberAs, Fits}
+use Rattle.sheet_spec.specs.Spell.{numberAs, SuitAll}
 use Rattle.sheet_spec.specs.Made.{madeAs, madeOf, namesAll, namesIn}
 use Rattle.sheet_size_facts.specs.Says.{entries, says-line}
 use Rattle.sheet_spec.specs.Sheet.{sizedAs, sizedOf, counted}
@@ -36,7 +36,7 @@ sized-is (built.Instruction i) true h = record { instruction = i; is = refl; nam
 sized-is (built.Instruction i) false h = absurd (omega arith)
 sized-is built.NotInForm named h = absurd (omega arith)
 
-empty-spelt : (f : ℕ → ℕ) (vs : List Token) → Fits [] vs → Spelt f vs []
+empty-spelt : (f : ℕ → ℕ) (vs : List Token) → SuitAll [] vs → Spelt f vs []
 empty-spelt f [] h = refl
 empty-spelt f (v ∷ vs) h = absurd h
 
@@ -55,7 +55,7 @@ module _ (n : ℕ) (line : List ℕ) (i : Instruction) (vs : List Token) (l : li
   unfolding madeOf formOf numbersOf
   made-as f j s g = ap (madeAs f) l ∙ ap builtOf s ∙ build-complete j g
 
-  line-turned : Fits (kind.Instruction ∷ []) vs → namesAll n vs ≡ true → map (numberAs (λ k. 0)) vs ≡ numbersOf i → Inside (formOf i) → Turned n Instruction entries (Follows n i) [] vs []
+  line-turned : SuitAll (kind.Instruction ∷ []) vs → namesAll n vs ≡ true → map (numberAs (λ k. 0)) vs ≡ numbersOf i → Inside (formOf i) → Turned n Instruction entries (Follows n i) [] vs []
   unfolding numbersOf formOf
   line-turned h g e s = instruction-turned i vs (record { fits = h; named = g; zeros = subst (Spelt (λ k. 0) vs) (sym (append-nil (entries i))) e }) s
 

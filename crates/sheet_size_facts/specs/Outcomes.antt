@@ -10,12 +10,7 @@ use lib.ListN.{length, take, getD}
 use borrow.Author.Tests.{eq-eqb, le-leb, eqb-true, leb-true, ltb-true}
 use Rattle.base_spec.specs.declared.Number.{Number}
 use Rattle.base_spec.specs.declared.Number.the-variants as number
-use Rattle.base_spec.specs.Parts.{fields}
-use Rattle.base_spec.specs.Number.{numberOf}
-use Rattle.sheet_spec.specs.Names.{bytes}
-use Rattle.sheet_spec.specs.Line.{equal}
 use Rattle.sheet_spec.specs.Sheet.{isSheet, startLine, linesIn, Start, at, notInForm, startAs, startOf, sizedOf, counted, total, lineEncoded}
-use Rattle.sheet_spec.specs.Sheet as sheet
 use Rattle.sheet_spec.specs.Translate.{Outcome, inOrder, andThen, require, startOutcome, startNumber, asOutcome, sizesOutcome, rangesOutcome, startIn, countIn, addressesIn, needIn, outcomeOf}
 use Rattle.sheet_spec.specs.Promises.{AcceptedSheet}
 use Rattle.sheet_facts.specs.SheetLaws.{outline, count-feeds}
@@ -35,16 +30,6 @@ as-low number.No = omega arith
 named-low : (b : Bool) (k : Number) → startNumber (cond b (startAs k) notInForm) < 2 ^ 32
 named-low true k = as-low k
 named-low false k = omega arith
-
-fields-low : (fs : List (List ℕ)) → startNumber (sheet.startFields fs) < 2 ^ 32
-fields-low [] = omega arith
-fields-low (f ∷ []) = omega arith
-fields-low (f ∷ (g ∷ [])) = named-low (equal f (bytes "START")) (numberOf g)
-fields-low (f ∷ (g ∷ (h ∷ fs))) = omega arith
-
--- a start is of 32 bits
-pub start-low : (text : List ℕ) → startIn text < 2 ^ 32
-start-low text = fields-low (fields (startLine text))
 
 start-even : (s : Start) → startOutcome s ≡ inOrder → (s ≡ at (startNumber s)) × (startNumber s % 2 ≡ 0)
 start-even (at n) e = (refl, eqb-true (n % 2) 0 (require-true (eqb (n % 2) 0) 9 e))

@@ -37,12 +37,11 @@ use Rattle.read_spec.specs.Plain as plain
 use Rattle.read_spec.specs.LeftOut.{leftOut}
 use Rattle.sheet_spec.specs.Follow as follow
 use Rattle.sheet_spec.specs.Follow.{Next, nextOf}
-use Rattle.sheet_size_facts.specs.Says.{entries}
+use Rattle.sheet_size_facts.specs.Says.{entries, place-named}
 use Rattle.sheet_size_facts.specs.Turned.{Input, Turned}
 use Rattle.sheet_size_facts.specs.Sorts.{chosen}
 use Rattle.sheet_size_facts.specs.Rows.{Row, row}
 use Rattle.sheet_spec.specs.Told.{HasLine}
-use Rattle.sheet_size_facts.specs.Says.{place-named}
 use Rattle.sheet_size_facts.specs.Sizes as sizes
 use Rattle.sheet_size_facts.specs.Sizes.{bare-size, aim-size}
 use Rattle.sheet_size_facts.specs.Lawful.{branch-stays, quiet, Goes, quietly, aimed, Follows}

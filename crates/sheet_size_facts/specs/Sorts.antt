@@ -17,7 +17,8 @@ use Rattle.sheet_spec.specs.Grammar.{kindsOf}
 use Rattle.sheet_spec.specs.Line.{Token, literal, label, invalid}
 use Rattle.sheet_spec.specs.Spell.{numberAs, Suits, Variant, nextKinds}
 use Rattle.sheet_spec.specs.Made.{names, namesAll}
-use Rattle.sheet_size_facts.specs.Turned.{Input, Turned, Turn, head-is, tail-is, inside-append, inside-parts}
+use Rattle.sheet_size_facts.specs.Turned.{Input, Turned, Turn, head-is, tail-is}
+use Rattle.numeric_facts.specs.Exact.{inside-both, inside-parts}
 use Rattle.sheet_size_facts.specs.Fitting.{Fitting}
 use Rattle.sheet_spec.specs.Told.{Mark, numbered, named, field, unaimed}
 use Rattle.base_facts.specs.Tests.{and-true, below, all}
@@ -54,7 +55,7 @@ both-turned s t z ks vs es h g =
       made = λ f. (a .made f, b .made f);
       good = (λ f j. (a .good .0 f j, b .good .0 f j), (a .good .1, b .good .1));
       spells = λ f k us q. rw (append-assoc (s .form (a .made f)) (t .form (b .made f)) us) (a .spells f k (t .form (b .made f) ++ us) (b .spells f k us q));
-      stays = λ f k. inside-append (s .form (a .made f)) (t .form (b .made f)) (a .stays f k) (b .stays f k);
+      stays = λ f k. inside-both (s .form (a .made f)) (t .form (b .made f)) (a .stays f k) (b .stays f k);
     }
 
 infixl 60 _⊗_

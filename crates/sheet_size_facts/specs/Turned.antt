@@ -2,12 +2,12 @@
 use Prim.Native.Nat.{ℕ, _^_, _≤_, _<_}
 use mathlib.Core.Path.{_≡_}
 use mathlib.Core.Bool.{true}
-use mathlib.Core.List.{List, [], _∷_, _++_, map}
+use mathlib.Core.List.{List, _∷_, _++_, map}
 use lib.IntN.{ℤ}
 use Rattle.numeric_spec.specs.Entry.{Entry, entryNumber, Inside}
 use Rattle.sheet_spec.specs.declared.Kind.{Kind}
 use Rattle.sheet_spec.specs.Line.{Token}
-use Rattle.sheet_spec.specs.Spell.{numberAs, Fits}
+use Rattle.sheet_spec.specs.Spell.{numberAs, SuitAll}
 use Rattle.sheet_spec.specs.Made.{namesAll}
 
 -- the entries' numbers are what the fields say
@@ -20,21 +20,13 @@ head-is e = cc
 pub tail-is : {x y : ℤ} {xs ys : List ℤ} → x ∷ xs ≡ y ∷ ys → xs ≡ ys
 tail-is e = cc
 
-pub inside-append : (xs ys : List Entry) → Inside xs → Inside ys → Inside (xs ++ ys)
-inside-append [] ys h k = k
-inside-append (x ∷ xs) ys h k = (h .0, inside-append xs ys (h .1) k)
-
-pub inside-parts : (xs ys : List Entry) → Inside (xs ++ ys) → Inside xs × Inside ys
-inside-parts [] ys h = (tt, h)
-inside-parts (x ∷ xs) ys h = let r = inside-parts xs ys (h .1) in ((h .0, r .0), r .1)
-
 -- what the name of one of n lines is made is of 32 bits
 abbrev pub Bounded : ℕ → (ℕ → ℕ) → Type 0
 Bounded n f = (k : ℕ) → 1 ≤ k → k ≤ n → f k < 2 ^ 32
 
 -- fields in the grammar that name lines, and the entries that they spell where names are 0
 pub record Input (n : ℕ) (ks : List Kind) (vs : List Token) (es : List Entry) : Type 0 where
-  pub fits : Fits ks vs
+  pub fits : SuitAll ks vs
   pub named : namesAll n vs ≡ true
   pub zeros : Spelt (λ k. 0) vs es
 

@@ -23,13 +23,13 @@ asNumber (number.Is negative n) = literal negative n
 asNumber number.No = invalid
 
 -- `@` and a line's number, of any length
-abbrev pub asName : List ℕ → Token
-asName [] = invalid
-asName (b ∷ bs) = cond (eqb b 64 && isDecimal bs) (label (value bs)) invalid
+abbrev pub asLabel : List ℕ → Token
+asLabel [] = invalid
+asLabel (b ∷ bs) = cond (eqb b 64 && isDecimal bs) (label (value bs)) invalid
 
-abbrev pub isName : List ℕ → Bool
-isName [] = false
-isName (b ∷ bs) = eqb b 64
+abbrev pub isLabel : List ℕ → Bool
+isLabel [] = false
+isLabel (b ∷ bs) = eqb b 64
 
 abbrev pub equal : List ℕ → List ℕ → Bool
 equal [] [] = true
@@ -51,8 +51,8 @@ asVariant k f = placeFrom 0 f (map bytes (namesOf k))
 
 abbrev pub token : Kind → List ℕ → Token
 token kind.Number f = asNumber (numberOf f)
-token kind.Target f = asName f
-token kind.Place f = cond (isName f) (asName f) (asNumber (numberOf f))
+token kind.Target f = asLabel f
+token kind.Place f = cond (isLabel f) (asLabel f) (asNumber (numberOf f))
 token kind.Size f = asVariant kind.Size f
 token kind.TargetDirection f = asVariant kind.TargetDirection f
 token kind.RegisterOperand f = asVariant kind.RegisterOperand f

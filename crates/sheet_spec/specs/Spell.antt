@@ -58,10 +58,10 @@ Written (literal false n) = n < 2 ^ 64
 Written (label n) = ⊥
 Written invalid = ⊥
 
-abbrev pub Named : Token → Type 0
-Named (literal negative n) = ⊥
-Named (label n) = Unit {0}
-Named invalid = ⊥
+abbrev pub Labelled : Token → Type 0
+Labelled (literal negative n) = ⊥
+Labelled (label n) = Unit {0}
+Labelled invalid = ⊥
 
 abbrev pub Either : Token → Type 0
 Either (literal negative n) = Written (literal negative n)
@@ -76,7 +76,7 @@ Variant k invalid = ⊥
 
 abbrev pub Suits : Kind → Token → Type 0
 Suits kind.Number v = Written v
-Suits kind.Target v = Named v
+Suits kind.Target v = Labelled v
 Suits kind.Place v = Either v
 Suits kind.Size v = Variant kind.Size v
 Suits kind.TargetDirection v = Variant kind.TargetDirection v
@@ -100,11 +100,11 @@ nextKinds k (label n) = []
 nextKinds k invalid = []
 
 -- entries that suit the grammar, and their fields
-abbrev pub Fits : List Kind → List Token → Type 0
-Fits [] [] = Unit {0}
-Fits [] (v ∷ vs) = ⊥
-Fits (k ∷ ks) [] = ⊥
-Fits (k ∷ ks) (v ∷ vs) = Suits k v × Fits (nextKinds k v ++ ks) vs
+abbrev pub SuitAll : List Kind → List Token → Type 0
+SuitAll [] [] = Unit {0}
+SuitAll [] (v ∷ vs) = ⊥
+SuitAll (k ∷ ks) [] = ⊥
+SuitAll (k ∷ ks) (v ∷ vs) = Suits k v × SuitAll (nextKinds k v ++ ks) vs
 
 abbrev pub fieldsFrom : List Kind → List Token → List (List ℕ)
 fieldsFrom [] [] = []
@@ -130,6 +130,6 @@ numberAs f invalid = pos 0
 
 -- a line: an instruction, with 0 for each target that a line's name stands for
 pub record Line (vs : List Token) (i : Instruction) : Type 0 where
-  pub grammar : Fits (kind.Instruction ∷ []) vs
+  pub grammar : SuitAll (kind.Instruction ∷ []) vs
   pub numbers : map (numberAs (λ n. 0)) vs ≡ numbersOf i
   pub inside : Inside (formOf i)

@@ -3,8 +3,7 @@ use mathlib.Core.Path.{_≡_, sym, ap, _∙_}
 use Prim.Native.Nat.{_+_, _-_, _≤_}
 use native.Mathlib.Omega.{arith}
 use lib.ListN.{length}
-use Rattle.base_text.specs.Numbers.{withNumber}
-use Rattle.base_text.specs.Numbers.{lineNumbers}
+use Rattle.base_text.specs.Numbers.{withNumber, lineNumbers}
 use Rattle.base_text.specs.NumbersLaws.{gatheredOn, numbersFrom, numbers-start, numbers-on, numbers-end}
 use Rattle.base_text.proofs.read_numbers.Statement.{statement}
 use Rattle.base_text.proofs.read_numbers.Tie as tie

@@ -3,7 +3,7 @@ use mathlib.Core.Path.{_∙_}
 use native.Mathlib.Omega.{arith}
 use Rattle.m68k_encode.specs.Laws.{encode-most, places-law}
 use Rattle.m68k_round_trip.specs.RoundTrip.{back, reads-back, take-count}
-use Rattle.m68k_round_trip.proofs.InTypes.{instruction-typed}
+use Rattle.m68k_round_trip.proofs.InTypes.{instruction-in-types}
 use Rattle.m68k_round_trip.proofs.read_back.Statement.{statement}
 use Rattle.m68k_round_trip.proofs.read_back.Tie as tie
 
@@ -23,7 +23,7 @@ returns : tie.Need-returns
 returns c =
     let s = c .before .before .before .before in
     let e = c .read .ensures ∙ back (s .args .instruction) (s .args .address) (c .before .before .before .encode .result) (c .before .before .before .encode .ensures) in
-    (e, reads-back (s .args .instruction) (s .args .address) (c .read .result) (instruction-typed (s .args .instruction) _ (s .good .0)) e)
+    (e, reads-back (s .args .instruction) (s .args .address) (c .read .result) (instruction-in-types (s .args .instruction) _ (s .good .0)) e)
 
 pub read-back-spec : {M : Type 1} → statement M
 read-back-spec =

@@ -7,7 +7,7 @@ returns : tie.Need-returns
 returns c = rw (c .one .ensures, eq-eqb _ _ (c .before .if1 .taken))
 
 returns-2 : tie.Need-returns-2
-returns-2 c = rw (c .one2 .ensures, c .before .before .pick .ensures, c .before .before .before .less .ensures, ne-eqb _ _ (c .before .if1 .left))
+returns-2 c = rw (c .one2 .ensures, c .before .before .modes-if .ensures, c .before .before .before .less .ensures, ne-eqb _ _ (c .before .if1 .left))
 
 pub dynamic-bit-movep-layout-spec : {M : Type 1} → statement M
 dynamic-bit-movep-layout-spec =

@@ -3,7 +3,7 @@ use Rattle.read_layouts.proofs.quick_layout.Statement.{statement}
 use Rattle.read_layouts.proofs.quick_layout.Tie as tie
 
 returns : tie.Need-returns
-returns c = rw (c .one .ensures, c .before .pick .ensures, c .before .before .is-byte .ensures)
+returns c = rw (c .one .ensures, c .before .modes-if .ensures, c .before .before .is-byte .ensures)
 
 pub quick-layout-spec : {M : Type 1} → statement M
 quick-layout-spec = tie.close (tie.spec (λ c κs. search needs) (λ c κs. search needs) (λ c κs. search needs) returns)

@@ -1,7 +1,7 @@
 use mathlib.Core.Path.{sym, ap, _∙_}
 use borrow.Author.Needs.{needs}
-use Rattle.numeric_spec.specs.declared.Numbers.{Numbers}
-use Rattle.numeric_spec.specs.Build.{builtFrom}
+use Rattle.numeric_places.specs.declared.Numbers.{Numbers}
+use Rattle.numeric_places.specs.Places.{builtFrom}
 use Rattle.sheet_entries.proofs.Laws.{made-ok, made-not}
 use Rattle.sheet_entries.proofs.made.Statement.{statement}
 use Rattle.sheet_entries.proofs.made.Tie as tie

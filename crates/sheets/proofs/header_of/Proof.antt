@@ -1,7 +1,7 @@
 use borrow.Author.Needs.{needs}
 use Rattle.sheets.proofs.header_of.Statement.{statement}
 use Rattle.sheets.proofs.header_of.Tie as tie
-use mathlib.Core.Path.{_≡_, sym, _∙_}
+use mathlib.Core.Path.{_∙_}
 use borrow.Author.Tests.{lt-ltb, le-ltb, le-leb, lt-leb}
 use Rattle.sheets.specs.Headers.{headerOf, none-within}
 

@@ -1,1 +1,0 @@
--- What is left of a match on a number. Assumes nothing.
