@@ -1,4 +1,4 @@
--- Which operands the groups take, and what they form of them. Assumes nothing.
+-- Which operands the groups take, and what they decode to. Assumes nothing.
 use Prim.Native.Nat.{ℕ, _-_, _/_, _<_}
 use mathlib.Core.Path.{_≡_, refl, sym, ap, subst, _∙_}
 use mathlib.Core.Bool.{Bool, true, false, not, _&&_, _||_, true≢false, false≢true, cond}
@@ -124,7 +124,7 @@ cmpm-is s d (Absolute a width.Word) = refl
 cmpm-is s d (Absolute a width.Long) = refl
 cmpm-is s d (Extended b w z outer) = rw (extended-mode b .1)
 
--- what a group forms of the operands that it takes, and only of them
+-- what a group decodes to with the operands that it takes, and only with them
 taken : (t u : Bool) (i j : Instruction) (m : Tree Instruction) → m ≡ cond u (ret i) fail → cond t m (ret j) ≡ cond (not t || u) (ret (cond t i j)) fail
 taken true u i j m e = e
 taken false u i j m e = refl
@@ -189,8 +189,8 @@ module _ (a line x opmode ea v : ℕ) (o d : Operand) where
   abbrev Fails : Group → Type 0
   Fails s = decoded a s line x opmode ea v o d ≡ fail
 
-  pub forms-not : (s : Group) → takes s ea o d ≡ false → Fails s
-  forms-not s = go (eqb (groupNumber s) 0) refl (eqb (groupNumber s) 3) refl (eqb (groupNumber s) 27) refl
+  pub decodes-not : (s : Group) → takes s ea o d ≡ false → Fails s
+  decodes-not s = go (eqb (groupNumber s) 0) refl (eqb (groupNumber s) 3) refl (eqb (groupNumber s) 27) refl
     where
       go : (p : Bool) → eqb (groupNumber s) 0 ≡ p → (q : Bool) → eqb (groupNumber s) 3 ≡ q → (r : Bool) → eqb (groupNumber s) 27 ≡ r → cond p false (cond q (movepTakes ea o) (cond r (cmpmTakes ea o d) true)) ≡ false → Fails s
       go true e q f r g h = subst Fails (sym (same-group s group.Unused (eqb-true _ _ e))) refl

@@ -85,10 +85,10 @@ stands-immediate v Byte h = let e = eqb-eq (v / 256) 0 (h .1) in omega arith
 stands-immediate v Word h = h .0
 stands-immediate v Long h = h .0
 
-immediate-form : (a : ℕ) (op : ImmediateOperation) (v : ℕ) (o : Operand) (s : Size)
+immediate-laying : (a : ℕ) (op : ImmediateOperation) (v : ℕ) (o : Operand) (s : Size)
     → Laying a (ImmediateInto op v o s) 0 (immediateKind op) (sizeCode s) (immediateSpecifier s) s (immediateModes op) v o (v < suc (topOf s))
 unfolding immediateParts
-immediate-form a op v o s =
+immediate-laying a op v o s =
     form-as
     (form-is [] [] (immediateItems v s) (immediateReason op) (wordAddress (wordAddress a 0) (countOf (immediateItems v s) + 1)) refl (immediate-at a v s) refl
     (λ c. immediate-words v s (immediate-lt v s c)))
@@ -117,7 +117,7 @@ pub immediate-into-reads : (a : ℕ) (op : ImmediateOperation) (v : ℕ) (o : Op
     → Reads a (ImmediateInto op v o s)
 immediate-into-reads a op v o s (n, e, l) =
     let (c, d, t) = immediate-code op in
-    laying-reads (immediate-form a op v o s) (t s) e n (λ h m.
+    laying-reads (immediate-laying a op v o s) (t s) e n (λ h m.
     let q = not-sixty (eqb (immediateKind op) 6) (eaField o) (rw d m) in
     (rw (q, size-code s, d), immediate-stands v s h, rw (q, size-code s, c)))
 
@@ -216,7 +216,7 @@ immediate-into-sound a line x opmode ea hl hx ho he e f h p i r =
     word-as a j _ _ _ (omega arith) (alone-encodes a j _ (immediateSpecifier s) f g (to-status-encodes a x opmode v hx o t (g .1))))
     (λ q g.
     word-as a k _ _ _ (omega (arith, w))
-    (laying-encodes ea f (immediate-form a (immediateAt x) v (f .source) s) (stands-immediate v s (g .1)) (rw m at g) p (λ n. n) refl (λ e. rw e)))
+    (laying-encodes ea f (immediate-laying a (immediateAt x) v (f .source) s) (stands-immediate v s (g .1)) (rw m at g) p (λ n. n) refl (λ e. rw e)))
 
 -- ---- BTST BCHG BCLR BSET, by their number
 parts-are : (k : ℕ) → k < 4 → (o d : Operand) → unsizedPairParts (bitAt k) o d ≡ bitParts k o d
@@ -232,10 +232,10 @@ items-are a k h o d = ap (λ (ps : List Part). laid (typedTwo o d ∷ ps) a) (pa
 abbrev staticItems : ℕ → List Item
 staticItems v = range field.BitNumber (pos v) ∷ word (v % 256) ∷ []
 
-static-form : (a k : ℕ) → k < 4 → (v : ℕ) (d : Operand)
+static-laying : (a k : ℕ) → k < 4 → (v : ℕ) (d : Operand)
     → Laying a (UnsizedPair (bitAt k) (Immediate v) d) 0 4 k specifier.Byte Byte (staticModes k) v d (v < 256)
 unfolding bitParts staticParts
-static-form a k h v d =
+static-laying a k h v d =
     let back : Passing (typed (Immediate v) ∷ staticItems v) → v < 256 = λ c. ltb-is v 256 (sym (bit-number-holds v) ∙ c .1 .0) in
     form-as
     (form-is (typed (Immediate v) ∷ []) [] (staticItems v) (staticReason k) (wordAddress (wordAddress a 0) 2) (items-are a k h (Immediate v) d) (omega arith) refl
@@ -245,14 +245,14 @@ static-form a k h v d =
 static-reads : (a k : ℕ) → k < 4 → (v : ℕ) (d : Operand) → Accepted a (UnsizedPair (bitAt k) (Immediate v) d) → Reads a (UnsizedPair (bitAt k) (Immediate v) d)
 unfolding groupAt map
 static-reads a k h v d (n, e, l) =
-    laying-reads (static-form a k h v d) (at-below group.StaticBit 0 4 4 refl k h) e (n .1) (λ c m. (refl, (omega arith, eqb-is (v / 256) 0 (omega arith)), refl))
+    laying-reads (static-laying a k h v d) (at-below group.StaticBit 0 4 4 refl k h) e (n .1) (λ c m. (refl, (omega arith, eqb-is (v / 256) 0 (omega arith)), refl))
 
 -- the bit number in a data register
-dynamic-form : (a k : ℕ) → k < 4 → (r : RegisterOperand) (d : Operand) (v : ℕ)
+dynamic-laying : (a k : ℕ) → k < 4 → (r : RegisterOperand) (d : Operand) (v : ℕ)
     → Laying a (UnsizedPair (bitAt k) (Register r) d) 0 (registerBits r) (4 + k) specifier.Nothing Byte (dynamicModes k) v d
     (Passing (typed (Register r) ∷ dataRegister r ∷ []))
 unfolding bitParts dynamicParts withData
-dynamic-form a k h r d v =
+dynamic-laying a k h r d v =
     form-is (typed (Register r) ∷ []) [] (dataRegister r ∷ []) (dynamicReason k) (wordAddress (wordAddress a 0) 1) (items-are a k h (Register r) d) (omega arith)
     refl (λ c. refl)
 
@@ -269,7 +269,7 @@ dynamic-reads : (a k : ℕ) → k < 4 → (r : RegisterOperand) (d : Operand) �
     → Reads a (UnsizedPair (bitAt k) (Register r) d)
 dynamic-reads a k h r d (n, e, l) =
     let z : 4 + k - 4 ≡ k = omega arith in
-    laying-reads (dynamic-form a k h r d 0) (dynamic-at (registerBits r) (4 + k) (omega arith) (omega arith) (omega arith)) e (n .1) (λ c m.
+    laying-reads (dynamic-laying a k h r d 0) (dynamic-at (registerBits r) (4 + k) (omega arith) (omega arith) (omega arith)) e (n .1) (λ c m.
     let q = not-address (eqb k 0) (eaField d) m in
     (rw (q, z), refl, rw (q, z, data-bits r (c .1 .0))))
 
@@ -290,7 +290,7 @@ static-bit-sound a line x opmode ea hl hx ho he e f h p i r =
     let v = f .value in
     let z = eqb-eq (v / 256) 0 (h .1 .1) in
     decoded-as a i (UnsizedPair (bitAt opmode) (Immediate v) (f .source)) _ _ _ r (omega arith)
-    (laying-encodes ea f (static-form a opmode (ltb-is opmode 4 o) v (f .source)) (omega arith) h p (λ n. (tt, n)) refl (λ e. rw e))
+    (laying-encodes ea f (static-laying a opmode (ltb-is opmode 4 o) v (f .source)) (omega arith) h p (λ n. (tt, n)) refl (λ e. rw e))
 
 -- ---- MOVEP: the opmode
 abbrev movepMode : TargetDirection → Size → ℕ
@@ -394,5 +394,5 @@ dynamic-bit-sound a line x opmode ea hl hx ho he e f h p i r = go (eq? (ea / 8) 
         let (l, (u, z)) = facts in
         let n = leb-is 4 opmode u in
         rw g (decoded-as a i (UnsizedPair (bitAt (opmode - 4)) (Register (Data x)) (f .source)) _ _ _ (rw g at r) (omega arith)
-        (laying-encodes ea f (dynamic-form a (opmode - 4) (omega arith) (Data x) (f .source) (f .value)) (refl, (lt-number x hx, tt))
+        (laying-encodes ea f (dynamic-laying a (opmode - 4) (omega arith) (Data x) (f .source) (f .value)) (refl, (lt-number x hx, tt))
         (rw g at h) p (λ n. (tt, n)) refl (λ e. rw e)))

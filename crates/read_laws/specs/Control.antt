@@ -62,11 +62,11 @@ use Rattle.base_facts.specs.Tests.{Lt, lt?, and-true, true-and, leb-is, leb-tru
 abbrev quickOpmode : QuickOperation → Size → ℕ
 quickOpmode op s = 4 * quickBit op + sizeCode s
 
-quick-form : (a : ℕ) (op : QuickOperation) (n : ℕ) (o : Operand) (s : Size) (v : ℕ)
+quick-laying : (a : ℕ) (op : QuickOperation) (n : ℕ) (o : Operand) (s : Size) (v : ℕ)
     → Laying a (Quick op n o s) 5 (n % 8) (quickOpmode op s) specifier.Nothing s (cond (isByte s) dataAlterable alterable) v o
     (Passing (range field.Count (pos n) ∷ []))
 unfolding quickParts single
-quick-form a op n o s v =
+quick-laying a op n o s v =
     form-byte alterable dataAlterable 55 refl
     (form-as
     (form-behind [] (range field.Count (pos n) ∷ allow (not (byteOfAddress s o)) 55 ∷ []) [] 56 refl refl refl)
@@ -99,7 +99,7 @@ count-eight n e = go (eq? (n % 8) 0) (leb-is 1 n (t .0)) (leb-is n 8 (t .1))
 pub quick-reads : (a : ℕ) (op : QuickOperation) (n : ℕ) (o : Operand) (s : Size) → Accepted a (Quick op n o s) → Reads a (Quick op n o s)
 quick-reads a op n o s (y, e, l) =
     let (t, z, q) = quick-code op s in
-    laying-reads (quick-form a op n o s 0) (t (n % 8) (omega arith)) e y (λ c m. (rw z, refl, rw (z, count-eight n (c .0), q)))
+    laying-reads (quick-laying a op n o s 0) (t (n % 8) (omega arith)) e y (λ c m. (rw z, refl, rw (z, count-eight n (c .0), q)))
 
 pub quick-sound : Sound group.Quick
 unfolding map
@@ -108,7 +108,7 @@ quick-sound a line x opmode ea hl hx ho he e f h p i r =
     (wordOf l x o 0)
     ∷ yes (leb 1 (countAt x) && leb (countAt x) 8) ∷ []) refl line x opmode e in
     decoded-as a i (quickDecoded x opmode (f .source)) _ _ _ r (omega (arith, w))
-    (laying-encodes ea f (quick-form a (cond (leb 4 opmode) SUBQ ADDQ) (countAt x) (f .source) (sizeAt (opmode % 4)) (f .value)) (count-holds (countAt x) ∙ c, tt)
+    (laying-encodes ea f (quick-laying a (cond (leb 4 opmode) SUBQ ADDQ) (countAt x) (f .source) (sizeAt (opmode % 4)) (f .value)) (count-holds (countAt x) ∙ c, tt)
     h p (λ n. n) refl (λ e. rw e))
 
 -- ---- a word that holds a distance from itself, or a long sign-extended
@@ -155,14 +155,14 @@ condition-back c =
     let k : high c * 2 + opmodeOf c / 4 ≡ conditionCode c = omega arith in
     ap conditionOf k ∙ of-code c
 
-scc-form : (a : ℕ) (o : Operand) (c : Condition) (v : ℕ) → Laying a (Scc o c) 5 (high c) (opmodeOf c) specifier.Nothing Byte dataAlterable v o (Unit {0})
+scc-laying : (a : ℕ) (o : Operand) (c : Condition) (v : ℕ) → Laying a (Scc o c) 5 (high c) (opmodeOf c) specifier.Nothing Byte dataAlterable v o (Unit {0})
 unfolding sccParts single
-scc-form a o c v = form-bare [] 35 refl refl
+scc-laying a o c v = form-bare [] 35 refl refl
 
 -- the modes of Scc are none of DBcc's and TRAPcc's
 pub scc-reads : (a : ℕ) (o : Operand) (c : Condition) → Accepted a (Scc o c) → Reads a (Scc o c)
 scc-reads a o c (n, e, l) =
-    laying-reads (scc-form a o c 0) (condition-at c) e n (λ d m.
+    laying-reads (scc-laying a o c 0) (condition-at c) e n (λ d m.
     let (t, (u, z)) = modes-say dataAlterable (λ ea. no (eqb (ea / 8) 1) ∷ no (leb 58 ea && leb ea 60) ∷ []) refl (eaField o) m in
     (rw (t, u), refl, rw (t, u, condition-back c)))
 
@@ -250,7 +250,7 @@ conditional-sound a line x opmode ea hl hx ho he e f h p i r =
     (dbcc-encodes a (ea % 8) v c (omega arith) (g .1 .0))))
     (λ q g. either-encodes a (cond b t s) t s (wordOf line x opmode ea) b (alone (trapSpecifier ea)) (one specifier.Nothing Byte ea dataAlterable) f g refl
     (λ q g. word-as a t _ _ _ (omega (arith, w)) (alone-encodes a t _ (trapSpecifier ea) f g (trap-encodes a v c ea he q (g .1))))
-    (λ q g. word-as a s _ _ _ (omega (arith, w)) (laying-encodes ea f (scc-form a (f .source) c v) tt g p (λ n. n) refl (λ e. rw e))))
+    (λ q g. word-as a s _ _ _ (omega (arith, w)) (laying-encodes ea f (scc-laying a (f .source) c v) tt g p (λ n. n) refl (λ e. rw e))))
 
 -- ---- Bcc BRA BSR
 -- what a branch of a size holds: its specifier, the value of that, and the byte of its operation word; p is the word after that

@@ -49,10 +49,10 @@ use Rattle.read_laws.specs.LayingLaws.{Passing, passed, checked, Laying,
 abbrev boundsAt : ℕ → RegisterOperation
 boundsAt trap = cond (eqb trap 1) CHK2 CMP2
 
-bounds-form : (a trap : ℕ) → trap < 2 → (o : Operand) (r : RegisterOperand) (s : Size) (v : ℕ) → generalWord r trap ≡ v
+bounds-laying : (a trap : ℕ) → trap < 2 → (o : Operand) (r : RegisterOperand) (s : Size) (v : ℕ) → generalWord r trap ≡ v
     → Laying a (IntoRegister (boundsAt trap) o r s) 0 (sizeCode s) 3 specifier.General s control v o (Passing (register (numberOfRegister r) ∷ []))
 unfolding registerParts boundsParts
-bounds-form a trap h o r s v e = go (eq? trap 1)
+bounds-laying a trap h o r s v e = go (eq? trap 1)
   where
     go : Eq trap 1 → Laying a (IntoRegister (boundsAt trap) o r s) 0 (sizeCode s) 3 specifier.General s control v o (Passing (register (numberOfRegister r) ∷ []))
     go (Eq.same p g) =
@@ -70,7 +70,7 @@ bounds-reads : (a trap : ℕ) → trap < 2 → (o : Operand) (r : RegisterOperan
     → Reads a (IntoRegister (boundsAt trap) o r s)
 bounds-reads a trap h o r s (n, e, l) =
     let w = word-fields r trap h in
-    laying-reads (bounds-form a trap h o r s (generalWord r trap) refl) (bounds-at s) e n
+    laying-reads (bounds-laying a trap h o r s (generalWord r trap) refl) (bounds-at s) e n
     (λ c m. (rw (size-code s), w .2, rw (w .0, w .1, size-code s, general-of r (number-lt (numberOfRegister r) (c .0)))))
 
 pub chk2-reads : (a : ℕ) (o : Operand) (r : RegisterOperand) (s : Size) → Accepted a (IntoRegister CHK2 o r s) → Reads a (IntoRegister CHK2 o r s)
@@ -86,14 +86,14 @@ bounds-sound a line x opmode ea hl hx ho he e f h p i r =
     let v = f .value in
     let (g, k) = of-general (v / 4096 % 16) (omega arith) in
     decoded-as a i (boundsDecoded x v (f .source)) _ _ _ r (omega (arith, w))
-    (laying-encodes ea f (bounds-form a (v / 2048 % 2) (omega arith) (f .source) (generalOf (v / 4096 % 16)) (sizeAt x) v (fields-word v (h .1)))
+    (laying-encodes ea f (bounds-laying a (v / 2048 % 2) (omega arith) (f .source) (generalOf (v / 4096 % 16)) (sizeAt x) v (fields-word v (h .1)))
     (lt-number (numberOfRegister (generalOf (v / 4096 % 16))) k, tt) h p (λ n. n) refl (λ e. rw e))
 
 -- ---- MOVES
-moves-form : (a : ℕ) (direction : TargetDirection) (s : Size) (r : RegisterOperand) (o : Operand) (v : ℕ) → generalWord r (toMemory direction) ≡ v
+moves-laying : (a : ℕ) (direction : TargetDirection) (s : Size) (r : RegisterOperand) (o : Operand) (v : ℕ) → generalWord r (toMemory direction) ≡ v
     → Laying a (Transfer MOVES direction s r o) 0 7 (sizeCode s) specifier.General s memoryAlterable v o (Passing (register (numberOfRegister r) ∷ []))
 unfolding transferParts movesParts
-moves-form a direction s r o v e =
+moves-laying a direction s r o v e =
     form-word (register (numberOfRegister r) ∷ word (generalWord r (toMemory direction)) ∷ []) 24 refl refl (ap (λ (w : ℕ). w ∷ []) e)
 
 to-memory : (direction : TargetDirection) → (toMemoryAt (toMemory direction) ≡ direction) × (toMemory direction < 2)
@@ -106,7 +106,7 @@ unfolding groupAt map
 moves-reads a direction s r o (n, e, l) =
     let d = to-memory direction in
     let w = word-fields r (toMemory direction) (d .1) in
-    laying-reads (moves-form a direction s r o (generalWord r (toMemory direction)) refl) (at-sizes group.MOVES 0 7 refl s) e n
+    laying-reads (moves-laying a direction s r o (generalWord r (toMemory direction)) refl) (at-sizes group.MOVES 0 7 refl s) e n
     (λ c m. (rw (size-code s), w .2, rw (w .0, w .1, d .0, size-code s, general-of r (number-lt (numberOfRegister r) (c .0)))))
 
 pub moves-sound : Sound group.MOVES
@@ -117,7 +117,7 @@ moves-sound a line x opmode ea hl hx ho he e f h p i r =
     let (g, k) = of-general (v / 4096 % 16) (omega arith) in
     let d = facts-below 2 (λ k. equal (toMemory (toMemoryAt k)) k ∷ []) refl (v / 2048 % 2) (omega arith) .0 in
     decoded-as a i (movesDecoded opmode v (f .source)) _ _ _ r (omega (arith, w))
-    (laying-encodes ea f (moves-form a (toMemoryAt (v / 2048 % 2)) (sizeAt opmode) (generalOf (v / 4096 % 16)) (f .source) v (rw d (fields-word v (h .1))))
+    (laying-encodes ea f (moves-laying a (toMemoryAt (v / 2048 % 2)) (sizeAt opmode) (generalOf (v / 4096 % 16)) (f .source) v (rw d (fields-word v (h .1))))
     (lt-number (numberOfRegister (generalOf (v / 4096 % 16))) k, tt) h p (λ n. n) refl (λ e. rw e))
 
 -- ---- MULS.L MULU.L DIVS.L DIVU.L
@@ -170,10 +170,10 @@ again n h = omega arith
 abbrev divlWord : ℕ → ℕ → Bool → Sign → ℕ
 divlWord q r wide sign = longWord (q % 8) (signedBit sign) (bit wide) (r % 8)
 
-divl-form : (a : ℕ) (o : Operand) (q r : ℕ) (wide : Bool) (sign : Sign) (v : ℕ) → divlWord q r wide sign ≡ v
+divl-laying : (a : ℕ) (o : Operand) (q r : ℕ) (wide : Bool) (sign : Sign) (v : ℕ) → divlWord q r wide sign ≡ v
     → Laying a (DIVL o q r wide sign) 4 6 1 specifier.Divide Long dataModes v o (Passing (register q ∷ register r ∷ []))
 unfolding divlParts
-divl-form a o q r wide sign v e =
+divl-laying a o q r wide sign v e =
     form-word (register q ∷ register r ∷ word (divlWord q r wide sign) ∷ []) 29 refl refl (ap (λ (w : ℕ). w ∷ []) e)
 
 pub divl-reads : (a : ℕ) (o : Operand) (q r : ℕ) (wide : Bool) (sign : Sign) → Accepted a (DIVL o q r wide sign) → Reads a (DIVL o q r wide sign)
@@ -182,7 +182,7 @@ divl-reads a o q r wide sign (n, e, l) =
     let s = sign-bit sign in
     let b = wide-bit wide in
     let w = long-fields (q % 8) (signedBit sign) (bit wide) (r % 8) (omega arith) (s .1) (b .1) (omega arith) in
-    laying-reads (divl-form a o q r wide sign (divlWord q r wide sign) refl) (at-code group.DIVL 4 6 1 refl) e n
+    laying-reads (divl-laying a o q r wide sign (divlWord q r wide sign) refl) (at-code group.DIVL 4 6 1 refl) e n
     (λ c m. (refl, w .4, rw (w .0, w .1, w .2, w .3, s .0, b .0, again q (number-lt q (c .0)), again r (number-lt r (c .1 .0)))))
 
 pub divl-sound : Sound group.DIVL
@@ -196,7 +196,7 @@ divl-sound a line x opmode ea hl hx ho he e f h p i r =
     rw (bit-sign (v / 2048 % 2) (omega arith), bit-wide (v / 1024 % 2) (omega arith), again (v / 4096 % 8) (omega arith), again (v % 8) (omega arith))
     (fields-long v (h .1)) in
     decoded-as a i (divlDecoded v (f .source)) _ _ _ r (omega (arith, u))
-    (laying-encodes ea f (divl-form a (f .source) (v / 4096 % 8) (v % 8) wide s v c)
+    (laying-encodes ea f (divl-laying a (f .source) (v / 4096 % 8) (v % 8) wide s v c)
     (lt-number (v / 4096 % 8) (omega arith), (lt-number (v % 8) (omega arith), tt))
     h p (λ n. n) refl (λ e. rw e))
 
@@ -227,10 +227,10 @@ is-high v e = go (eq? (v / 1024 % 2) 1)
     go (Eq.same p g) = rw g (sym p, omega arith, omega arith)
     go (Eq.other p g) = let z = eqb-eq (v % 8) 0 (rw g at e) in rw g (omega (arith, p), sym z, omega arith)
 
-mull-form : (a : ℕ) (o : Operand) (low : ℕ) (high : RegisterChoice) (sign : Sign) (v : ℕ) → mullWord low high sign ≡ v
+mull-laying : (a : ℕ) (o : Operand) (low : ℕ) (high : RegisterChoice) (sign : Sign) (v : ℕ) → mullWord low high sign ≡ v
     → Laying a (MULL o low high sign) 4 6 0 specifier.Multiply Long dataModes v o (Passing (register (highNumber high) ∷ register low ∷ []))
 unfolding mullParts
-mull-form a o low high sign v e =
+mull-laying a o low high sign v e =
     form-word (register (highNumber high) ∷ register low ∷ word (mullWord low high sign) ∷ []) 28 refl refl (ap (λ (w : ℕ). w ∷ []) e)
 
 pub mull-reads : (a : ℕ) (o : Operand) (low : ℕ) (high : RegisterChoice) (sign : Sign) → Accepted a (MULL o low high sign) → Reads a (MULL o low high sign)
@@ -238,7 +238,7 @@ unfolding groupAt map
 mull-reads a o low high sign (n, e, l) =
     let s = sign-bit sign in
     let v = longWord (low % 8) (signedBit sign) (highBit high) (highNumber high % 8) in
-    laying-reads (mull-form a o low high sign v (mull-as low high sign)) (at-code group.MULL 4 6 0 refl) e n (λ c m.
+    laying-reads (mull-laying a o low high sign v (mull-as low high sign)) (at-code group.MULL 4 6 0 refl) e n (λ c m.
     let b = high-is high (number-lt (highNumber high) (c .0)) in
     let w = long-fields (low % 8) (signedBit sign) (highBit high) (highNumber high % 8) (omega arith) (s .1) (b .0) (omega arith) in
     let y : valid specifier.Multiply v ≡ true = true-and (valid specifier.Divide v) (eqb (v / 1024 % 2) 1 || eqb (v % 8) 0) (w .4 .1)
@@ -257,17 +257,17 @@ mull-sound a line x opmode ea hl hx ho he e f h p i r =
     let c : mullWord l (highAt v) s ≡ v =
     mull-as l (highAt v) s ∙ rw (bit-sign (v / 2048 % 2) (omega arith), n .0, n .1, again l (omega arith)) (fields-long v (h .1 .0, t .0)) in
     decoded-as a i (mullDecoded v (f .source)) _ _ _ r (omega (arith, u))
-    (laying-encodes ea f (mull-form a (f .source) l (highAt v) s v c) (lt-number (highNumber (highAt v)) (n .2), (lt-number l (omega arith), tt))
+    (laying-encodes ea f (mull-laying a (f .source) l (highAt v) s v c) (lt-number (highNumber (highAt v)) (n .2), (lt-number l (omega arith), tt))
     h p (λ n. n) refl (λ e. rw e))
 
 -- ---- CAS
 abbrev casWord : ℕ → ℕ → ℕ
 casWord compare update = update % 8 * 64 + compare % 8
 
-cas-form : (a compare update : ℕ) (o : Operand) (s : Size) (v : ℕ) → casWord compare update ≡ v
+cas-laying : (a compare update : ℕ) (o : Operand) (s : Size) (v : ℕ) → casWord compare update ≡ v
     → Laying a (CAS compare update o s) 0 (5 + sizeCode s) 3 specifier.Compare s memoryAlterable v o (Passing (register update ∷ register compare ∷ []))
 unfolding casParts
-cas-form a compare update o s v e =
+cas-laying a compare update o s v e =
     form-word (register update ∷ register compare ∷ word (casWord compare update) ∷ []) 30 refl refl (ap (λ (w : ℕ). w ∷ []) e)
 
 cas-fields : (compare update : ℕ) → compare < 8 → update < 8
@@ -334,7 +334,7 @@ cas-at = each-size (λ s. At group.CAS 0 (5 + sizeCode s) 3) (at-code group.CAS 
 pub cas-reads : (a compare update : ℕ) (o : Operand) (s : Size) → Accepted a (CAS compare update o s) → Reads a (CAS compare update o s)
 cas-reads a compare update o s (n, e, l) =
     let k : 5 + sizeCode s - 5 ≡ sizeCode s = omega arith in
-    laying-reads (cas-form a compare update o s (casWord compare update) refl) (cas-at s) e n (λ c m.
+    laying-reads (cas-laying a compare update o s (casWord compare update) refl) (cas-at s) e n (λ c m.
     let f = cas-fields compare update (number-lt compare (c .1 .0)) (number-lt update (c .0)) in
     let t = modes-say memoryAlterable (λ ea. no (eqb ea 60) ∷ []) refl (eaField o) m .0 in
     (rw (t, k, size-code s), f .2, rw (t, k, size-code s, f .0, f .1)))
@@ -417,6 +417,6 @@ cas-sound a line x opmode ea hl hx ho he e f h p i r =
     (alone-encodes a j _ specifier.CompareTwo f g (rw (fields-cas2 high (omega (arith, g .1 .0)) (g .1 .1), fields-cas2 low (omega arith) (g .1 .2)) at m)))
     (λ q g.
     word-as a k _ _ _ (omega (arith, w))
-    (laying-encodes ea f (cas-form a (v % 8) (v / 64 % 8) (f .source) s v (fields-cas v (g .1)))
+    (laying-encodes ea f (cas-laying a (v % 8) (v / 64 % 8) (f .source) s v (fields-cas v (g .1)))
     (lt-number (v / 64 % 8) (omega arith), (lt-number (v % 8) (omega arith), tt))
     g p (λ n. n) refl (λ e. rw e)))

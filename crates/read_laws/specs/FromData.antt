@@ -68,20 +68,20 @@ from-is =
     (λ r c. ap Register (data-bits r (c .1 .1 .0)))
     (λ o e c. true-not-false (unless-reason (isRegister o) 3 (c .1 .0)) e)
 
-abbrev FromForm : ℕ → ℕ → ℕ → Operand → Operand → Size → PairOperation → ℕ → Type 0
-FromForm a v modes o d s op line = Laying a (Pair op o d s) line (numberFrom o) (4 + sizeCode s) specifier.Nothing s modes v d (Passing (sourceChecks o))
+abbrev FromLaying : ℕ → ℕ → ℕ → Operand → Operand → Size → PairOperation → ℕ → Type 0
+FromLaying a v modes o d s op line = Laying a (Pair op o d s) line (numberFrom o) (4 + sizeCode s) specifier.Nothing s modes v d (Passing (sourceChecks o))
 
 -- to memory, of the four that have another form into a register
 abbrev memoryLines : List ℕ
 memoryLines = 8 ∷ 9 ∷ 12 ∷ 13 ∷ []
 
-pair-form : (a v : ℕ) (o d : Operand) (s : Size) → isRegister d ≡ false → (line : ℕ) → among memoryLines line ≡ true
-    → FromForm a v memoryAlterable o d s (pairAt line) line
+pair-laying : (a v : ℕ) (o d : Operand) (s : Size) → isRegister d ≡ false → (line : ℕ) → among memoryLines line ≡ true
+    → FromLaying a v memoryAlterable o d s (pairAt line) line
 unfolding pairParts arithmeticParts logicalParts fromData withData
-pair-form a v o d s e =
+pair-laying a v o d s e =
     let pre = allow (isRegister o) 3 ∷ [] in
     let xs = dataRegister (registerIn o) ∷ [] in
-    each (λ line. FromForm a v memoryAlterable o d s (pairAt line) line) memoryLines (
+    each (λ line. FromLaying a v memoryAlterable o d s (pairAt line) line) memoryLines (
       form-behind (typed o ∷ []) pre xs 58 (rw e) refl refl,
       (
         form-behind (typed o ∷ []) pre xs 60 (rw e) refl refl,
@@ -109,7 +109,7 @@ Slot sh op line modes s =
     × ((a x ea v : ℕ) (o d : Operand) → permitted modes ea ≡ true → decoded a sh line x (4 + sizeCode s) ea v o d ≡ ret (Pair op (dataOperand x) o s))
 
 from-reads : (a : ℕ) (sh : Group) (op : PairOperation) (line modes : ℕ) (o d : Operand) (s : Size)
-    → Slot sh op line modes s → FromForm a 0 modes o d s op line → Accepted a (Pair op o d s) → Reads a (Pair op o d s)
+    → Slot sh op line modes s → FromLaying a 0 modes o d s op line → Accepted a (Pair op o d s) → Reads a (Pair op o d s)
 from-reads a sh op line modes o d s (t, l, p) form (n, e, y) =
     laying-reads form (t (numberFrom o) (omega arith)) e (n .1) (λ c m. (
       l (numberFrom o) (eaField d) m,
@@ -119,7 +119,7 @@ from-reads a sh op line modes o d s (t, l, p) form (n, e, y) =
     ))
 
 from-encodes : (a x ea : ℕ) (op : PairOperation) (line modes : ℕ) (s : Size) (f : Tail) → x < 8
-    → FromForm a (f .value) modes (dataOperand x) (f .source) s op line
+    → FromLaying a (f .value) modes (dataOperand x) (f .source) s op line
     → TailStands a (one specifier.Nothing s ea modes) f → plainTail f ≡ f
     → Encodes a (Pair op (dataOperand x) (f .source) s) (wordOf line x (4 + sizeCode s) ea ∷ tailWords a (one specifier.Nothing s ea modes) f)
 from-encodes a x ea op line modes s f hx form h p =
@@ -138,7 +138,7 @@ beside-encodes a line x ea s k f i j b t hx g h p r =
     (λ q h. alone-encodes a j _ k f h (g q (h .1)))
     (λ q h.
     let e = memory-not (f .source) (one-back a specifier.Nothing s ea memoryAlterable f h .0 .0) in
-    from-encodes a x ea (pairAt line) line memoryAlterable s f hx (pair-form a (f .value) (dataOperand x) (f .source) s e line t) h p)
+    from-encodes a x ea (pairAt line) line memoryAlterable s f hx (pair-laying a (f .value) (dataOperand x) (f .source) s e line t) h p)
 
 -- ---- the forms Dy,Dx and -(Ay),-(Ax): x in bits 11 to 9, y in bits 2 to 0, and bit 3 says which; what the encoder checks of them
 abbrev pairingChecks : ℕ → Operand → Operand → List Item
@@ -424,7 +424,7 @@ pair-as : (line : ℕ) → among memoryLines line ≡ true → ((s : Size) → S
     → (a : ℕ) (o d : Operand) (s : Size) → Accepted a (Pair (pairAt line) o d s) → Reads a (Pair (pairAt line) o d s)
 pair-as line t slots into a o d s =
     by-register (λ d. Accepted a (Pair (pairAt line) o d s) → Reads a (Pair (pairAt line) o d s)) (λ r. into a o r s)
-    (λ d e. from-reads a (slots s .0) (pairAt line) line memoryAlterable o d s (slots s .1) (pair-form a 0 o d s e line t)) d
+    (λ d e. from-reads a (slots s .0) (pairAt line) line memoryAlterable o d s (slots s .1) (pair-laying a 0 o d s e line t)) d
 
 pub add-reads : (a : ℕ) (o d : Operand) (s : Size) → Accepted a (Pair ADD o d s) → Reads a (Pair ADD o d s)
 add-reads = pair-as 13 refl (λ s. (group.ArithmeticExtended, arithmetic-slot 13 refl s)) (into-reads 13 refl)
@@ -457,13 +457,13 @@ not-address ea m = modes-say dataAlterable (λ ea. no (eqb (ea / 8) 1) ∷ []) r
 eor-slot : (s : Size) → Slot group.LogicCompare EOR 11 dataAlterable s
 eor-slot s = ((λ x. compare-at x s), (λ x ea m. rw (upper-size s, not-address ea m)), (λ a x ea v o d m. rw (upper-size s, not-address ea m)))
 
-eor-form : (a v : ℕ) (o d : Operand) (s : Size) → FromForm a v dataAlterable o d s EOR 11
+eor-laying : (a v : ℕ) (o d : Operand) (s : Size) → FromLaying a v dataAlterable o d s EOR 11
 unfolding pairParts fromData withData
-eor-form a v o d s =
+eor-laying a v o d s =
     form-behind (typed o ∷ []) (allow (isRegister o) 3 ∷ []) (dataRegister (registerIn o) ∷ []) 42 refl refl refl
 
 pub eor-reads : (a : ℕ) (o d : Operand) (s : Size) → Accepted a (Pair EOR o d s) → Reads a (Pair EOR o d s)
-eor-reads a o d s = from-reads a group.LogicCompare EOR 11 dataAlterable o d s (eor-slot s) (eor-form a 0 o d s)
+eor-reads a o d s = from-reads a group.LogicCompare EOR 11 dataAlterable o d s (eor-slot s) (eor-laying a 0 o d s)
 
 abbrev cmpmOf : Size → ℕ → ℕ → Instruction
 cmpmOf s x y = Pair CMPM (PostIndirect y) (PostIndirect x) s
@@ -532,4 +532,4 @@ compare-sound a line x opmode ea hl hx ho he e f h p i r =
         (cmpm-encodes a x (ea % 8) s hx (omega arith)))
     go false g h r =
         decoded-as a i (Pair EOR (dataOperand x) (f .source) s) _ _ _ r refl (from-encodes a x ea EOR 11 dataAlterable s f hx
-        (eor-form a (f .value) (dataOperand x) (f .source) s) h p)
+        (eor-laying a (f .value) (dataOperand x) (f .source) s) h p)

@@ -48,16 +48,16 @@ addressLines = 9 ∷ 11 ∷ 13 ∷ []
 abbrev addressOpmode : Size → ℕ
 addressOpmode s = 3 + 4 * longBit s
 
-abbrev AddressForm : ℕ → Operand → RegisterOperand → Size → ℕ → ℕ → Type 0
-AddressForm a o r s v line =
+abbrev AddressLaying : ℕ → Operand → RegisterOperand → Size → ℕ → ℕ → Type 0
+AddressLaying a o r s v line =
     Laying a (IntoRegister (addressAt line) o r s) line (registerBits r) (addressOpmode s) specifier.Nothing s everyMode v o
     (Passing (allow (not (isByte s)) 61 ∷ addressRegister r ∷ []))
 
-address-form : (a : ℕ) (o : Operand) (r : RegisterOperand) (s : Size) (v line : ℕ) → among addressLines line ≡ true → AddressForm a o r s v line
+address-laying : (a : ℕ) (o : Operand) (r : RegisterOperand) (s : Size) (v line : ℕ) → among addressLines line ≡ true → AddressLaying a o r s v line
 unfolding registerParts intoAddressParts withAddress
-address-form a o r s v =
+address-laying a o r s v =
     let pre = allow (not (isByte s)) 61 ∷ [] in
-    each (AddressForm a o r s v) addressLines (
+    each (AddressLaying a o r s v) addressLines (
       form-behind [] pre (addressRegister r ∷ []) 37 refl refl refl,
       (form-behind [] pre (addressRegister r ∷ []) 40 refl refl refl, (form-behind [] pre (addressRegister r ∷ []) 44 refl refl refl, tt)),
     )
@@ -71,7 +71,7 @@ into-address-reads : (line : ℕ) → among addressLines line ≡ true → (a : 
     → Accepted a (IntoRegister (addressAt line) o r s) → Reads a (IntoRegister (addressAt line) o r s)
 unfolding groupAt map
 into-address-reads line t a o r s (n, e, l) =
-    let form = address-form a o r s 0 line t in
+    let form = address-laying a o r s 0 line t in
     let (k, z) = address-code s (unless-reason (not (isByte s)) 61 (form .back e .0 .0)) in
     laying-reads form (at-among group.IntoAddress addressLines (3 ∷ 7 ∷ []) refl line (addressOpmode s) (registerBits r) t k (omega arith)) e n
     (λ c m. (rw z, refl, rw (z, address-bits r (c .1 .0))))
@@ -92,7 +92,7 @@ into-address-sound a line x opmode ea hl hx ho he e f h p i r =
     ∷ []) refl line x opmode e in
     let s = longAt opmode in
     decoded-as a i (IntoRegister (addressAt line) (f .source) (Address x) s) _ _ _ r (omega (arith, k))
-    (laying-encodes ea f (address-form a (f .source) (Address x) s (f .value) line t) (true-unless (not (isByte s)) (noEncoding 61) z, (lt-number x hx, tt))
+    (laying-encodes ea f (address-laying a (f .source) (Address x) s (f .value) line t) (true-unless (not (isByte s)) (noEncoding 61) z, (lt-number x hx, tt))
     h p (λ n. n) refl (λ e. rw e))
 
 -- ---- DIVS DIVU MULS MULU of a word: the line, and bits 8 to 6
@@ -103,11 +103,11 @@ lineOf MULx = 12
 abbrev signOpmode : Sign → ℕ
 signOpmode sign = 3 + 4 * signedBit sign
 
-word-form : (a : ℕ) (op : WordOperation) (o : Operand) (r : RegisterOperand) (sign : Sign) (v : ℕ)
+word-laying : (a : ℕ) (op : WordOperation) (o : Operand) (r : RegisterOperand) (sign : Sign) (v : ℕ)
     → Laying a (WordIntoData op o r sign) (lineOf op) (registerBits r) (signOpmode sign) specifier.Nothing Word dataModes v o (Passing (dataRegister r ∷ []))
 unfolding wordParts withData
-word-form a DIVx o r sign v = form-bare (dataRegister r ∷ []) 29 refl refl
-word-form a MULx o r sign v = form-bare (dataRegister r ∷ []) 28 refl refl
+word-laying a DIVx o r sign v = form-bare (dataRegister r ∷ []) 29 refl refl
+word-laying a MULx o r sign v = form-bare (dataRegister r ∷ []) 28 refl refl
 
 abbrev WordCode : WordOperation → Sign → Type 0
 WordCode op sign =
@@ -124,7 +124,7 @@ pub word-into-data-reads : (a : ℕ) (op : WordOperation) (o : Operand) (r : Reg
     → Accepted a (WordIntoData op o r sign) → Reads a (WordIntoData op o r sign)
 word-into-data-reads a op o r sign (n, e, l) =
     let (t, u, k) = word-code op sign in
-    laying-reads (word-form a op o r sign 0) (k (registerBits r) (omega arith)) e n (λ c m. (refl, refl, rw (t, u, data-bits r (c .0))))
+    laying-reads (word-laying a op o r sign 0) (k (registerBits r) (omega arith)) e n (λ c m. (refl, refl, rw (t, u, data-bits r (c .0))))
 
 pub word-into-data-sound : Sound group.WordIntoData
 unfolding map
@@ -132,7 +132,7 @@ word-into-data-sound a line x opmode ea hl hx ho he e f h p i r =
     let (w, u) = in-group group.WordIntoData (λ l x o. equal (wordOf (lineOf (wordAt l)) x (signOpmode (signAt (o / 4))) 0) (wordOf l x o 0) ∷ []) refl
     line x opmode e in
     decoded-as a i (WordIntoData (wordAt line) (f .source) (Data x) (signAt (opmode / 4))) _ _ _ r (omega (arith, w))
-    (laying-encodes ea f (word-form a (wordAt line) (f .source) (Data x) (signAt (opmode / 4)) (f .value)) (lt-number x hx, tt)
+    (laying-encodes ea f (word-laying a (wordAt line) (f .source) (Data x) (signAt (opmode / 4)) (f .value)) (lt-number x hx, tt)
     h p (λ n. n) refl (λ e. rw e))
 
 -- ---- <ea>,Dn of OR, SUB, CMP, AND and ADD, by their line
@@ -145,13 +145,13 @@ intoOf line o r s = cond (eqb line 11) (IntoRegister CMP o r s) (Pair (pairAt li
 abbrev intoModes : ℕ → Size → ℕ
 intoModes line s = cond (eqb line 8 || eqb line 12) dataModes (readableModes s)
 
-abbrev IntoForm : ℕ → Operand → RegisterOperand → Size → ℕ → ℕ → ℕ → Type 0
-IntoForm a o r s v modes line = Laying a (intoOf line o r s) line (registerBits r) (sizeCode s) specifier.Nothing s modes v o (dataVerdict r ≡ fine)
+abbrev IntoLaying : ℕ → Operand → RegisterOperand → Size → ℕ → ℕ → ℕ → Type 0
+IntoLaying a o r s v modes line = Laying a (intoOf line o r s) line (registerBits r) (sizeCode s) specifier.Nothing s modes v o (dataVerdict r ≡ fine)
 
 -- what holds of each line
 abbrev Into : ℕ → Operand → RegisterOperand → Size → ℕ → ℕ → Type 0
 Into a o r s v line =
-    IntoForm a o r s v (intoModes line s) line
+    IntoLaying a o r s v (intoModes line s) line
     × (InstructionInTypes (intoOf line o r s) → InTypes o)
     × (InTypes o → InstructionInTypes (intoOf line o r s))
     × (leftOut (intoOf line o r s) a ≡ false)
@@ -168,13 +168,13 @@ module _ (a : ℕ) (o : Operand) (r : RegisterOperand) (s : Size) (v : ℕ) wher
       let near = wordAddress (wordAddress a 0) 1 in
       let far = wordAddress (wordAddress (wordAddress a 0) 0) 1 in
       let logical : (line : ℕ) → itemsOf (intoOf line o r s) a ≡ formItems [] (second ∷ []) line (registerBits r) (sizeCode s) xs o s dataModes 57 near
-      → IntoForm a o r s v dataModes line = λ line q.
+      → IntoLaying a o r s v dataModes line = λ line q.
       form-as (form-is [] (second ∷ []) xs 57 near q (omega arith) refl (λ c. refl)) (λ c. c .1 .0) (λ d. (refl, (d, tt))) in
       let arithmetic : (line : ℕ) → itemsOf (intoOf line o r s) a ≡ formItems [] (second ∷ byte ∷ []) line (registerBits r) (sizeCode s) xs o s everyMode 59 far
-      → IntoForm a o r s v (readableModes s) line = λ line q.
+      → IntoLaying a o r s v (readableModes s) line = λ line q.
       form-byte everyMode dataModes 7 refl
       (form-as (form-behind [] (second ∷ byte ∷ []) xs 59 q refl refl) (λ c. (c .1 .0, c .1 .1 .0)) (λ d. (refl, (d .0, (d .1, tt))))) in
-      let compare : IntoForm a o r s v (readableModes s) 11 = form-byte everyMode dataModes 7 refl
+      let compare : IntoLaying a o r s v (readableModes s) 11 = form-byte everyMode dataModes 7 refl
       (form-as (form-behind [] (byte ∷ []) xs 39 refl refl refl) (λ c. (c .0, c .1 .0)) (λ d. (d .0, (d .1, tt)))) in
       each (Into a o r s v) lines (
         (logical 8 refl, (λ n. n .0), (λ n. (n, tt)), refl, refl),

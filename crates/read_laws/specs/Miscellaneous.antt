@@ -64,14 +64,14 @@ oneCode TST = 5
 abbrev oneModes : OneOperation → Size → ℕ
 oneModes op s = cond (eqb (oneCode op) 5) (readableModes s) dataAlterable
 
-one-form : (a : ℕ) (op : OneOperation) (o : Operand) (s : Size) (v : ℕ)
+one-laying : (a : ℕ) (op : OneOperation) (o : Operand) (s : Size) (v : ℕ)
     → Laying a (OneOperand op o s) 4 (oneCode op) (sizeCode s) specifier.Nothing s (oneModes op s) v o (Unit {0})
 unfolding oneParts tstParts single
-one-form a CLR o s v = form-bare [] 54 refl refl
-one-form a NEG o s v = form-bare [] 54 refl refl
-one-form a NEGX o s v = form-bare [] 54 refl refl
-one-form a NOT o s v = form-bare [] 54 refl refl
-one-form a TST o s v =
+one-laying a CLR o s v = form-bare [] 54 refl refl
+one-laying a NEG o s v = form-bare [] 54 refl refl
+one-laying a NEGX o s v = form-bare [] 54 refl refl
+one-laying a NOT o s v = form-bare [] 54 refl refl
+one-laying a TST o s v =
     form-byte everyMode dataModes 7 refl
     (form-behind [] (allow (not (byteOfAddress s o)) 7 ∷ []) [] 12 refl refl refl)
 
@@ -86,7 +86,7 @@ one-code TST = (refl, at-sizes group.OneOperand 4 5 refl)
 pub one-operand-reads : (a : ℕ) (op : OneOperation) (o : Operand) (s : Size) → Accepted a (OneOperand op o s) → Reads a (OneOperand op o s)
 one-operand-reads a op o s (n, e, l) =
     let c = one-code op in
-    laying-reads (one-form a op o s 0) (c .1 s) e n (λ d m. (rw (size-code s), refl, rw (c .0, size-code s)))
+    laying-reads (one-laying a op o s 0) (c .1 s) e n (λ d m. (rw (size-code s), refl, rw (c .0, size-code s)))
 
 pub one-operand-sound : Sound group.OneOperand
 unfolding map
@@ -96,7 +96,7 @@ one-operand-sound a line x opmode ea hl hx ho he e f h p i r =
     let op = oneAt x in
     let s = sizeAt opmode in
     decoded-as a i (OneOperand op (f .source) s) _ _ _ r (rw (c, k, l))
-    (laying-encodes ea f (one-form a op (f .source) s (f .value)) tt (rw c h) p (λ n. n) refl (λ e. rw e))
+    (laying-encodes ea f (one-laying a op (f .source) s (f .value)) tt (rw c h) p (λ n. n) refl (λ e. rw e))
 
 -- ---- PEA NBCD JSR JMP TAS, and MOVE to and from CCR and SR: bits 11 to 9, and bits 8 to 6
 abbrev codeOf : UnsizedOneOperation → ℕ
@@ -121,44 +121,44 @@ opmodeOf MOVEfromCCR = 3
 opmodeOf MOVEtoSR = 3
 opmodeOf MOVEfromSR = 3
 
-unsized-form : (a : ℕ) (op : UnsizedOneOperation) (o : Operand) (v : ℕ)
+unsized-laying : (a : ℕ) (op : UnsizedOneOperation) (o : Operand) (v : ℕ)
     → Laying a (UnsizedOne op o) 4 (codeOf op) (opmodeOf op) specifier.Nothing (unsizedSize op) (unsizedModes op) v o (Unit {0})
 unfolding unsizedOneParts single
-unsized-form a PEA o v = form-bare [] 18 refl refl
-unsized-form a NBCD o v = form-bare [] 17 refl refl
-unsized-form a JSR o v = form-bare [] 25 refl refl
-unsized-form a JMP o v = form-bare [] 26 refl refl
-unsized-form a TAS o v = form-bare [] 23 refl refl
-unsized-form a MOVEtoCCR o v = form-bare [] 15 refl refl
-unsized-form a MOVEfromCCR o v = form-bare [] 14 refl refl
-unsized-form a MOVEtoSR o v = form-bare [] 16 refl refl
-unsized-form a MOVEfromSR o v = form-bare [] 13 refl refl
+unsized-laying a PEA o v = form-bare [] 18 refl refl
+unsized-laying a NBCD o v = form-bare [] 17 refl refl
+unsized-laying a JSR o v = form-bare [] 25 refl refl
+unsized-laying a JMP o v = form-bare [] 26 refl refl
+unsized-laying a TAS o v = form-bare [] 23 refl refl
+unsized-laying a MOVEtoCCR o v = form-bare [] 15 refl refl
+unsized-laying a MOVEfromCCR o v = form-bare [] 14 refl refl
+unsized-laying a MOVEtoSR o v = form-bare [] 16 refl refl
+unsized-laying a MOVEfromSR o v = form-bare [] 13 refl refl
 
 -- SWAP, BKPT, LINK and ILLEGAL stand where these have no mode
 pub unsized-one-reads : (a : ℕ) (op : UnsizedOneOperation) (o : Operand) → Accepted a (UnsizedOne op o) → Reads a (UnsizedOne op o)
 unfolding groupAt map
 unsized-one-reads a PEA o (n, e, l) =
-    laying-reads (unsized-form a PEA o 0) (at-code group.PeaSwapBkpt 4 4 1 refl) e n (λ c m.
+    laying-reads (unsized-laying a PEA o 0) (at-code group.PeaSwapBkpt 4 4 1 refl) e n (λ c m.
     let (t, (u, z)) = modes-say control (λ ea. no (ltb ea 16) ∷ no (ltb ea 8) ∷ []) refl (eaField o) m in
     (rw t, refl, rw (t, u)))
 unsized-one-reads a NBCD o (n, e, l) =
-    laying-reads (unsized-form a NBCD o 0) (at-code group.NbcdLink 4 4 0 refl) e n (λ c m.
+    laying-reads (unsized-laying a NBCD o 0) (at-code group.NbcdLink 4 4 0 refl) e n (λ c m.
     let t = modes-say dataAlterable (λ ea. no (eqb (ea / 8) 1) ∷ []) refl (eaField o) m .0 in
     (rw t, refl, rw t))
-unsized-one-reads a JSR o (n, e, l) = laying-reads (unsized-form a JSR o 0) (at-code group.UnsizedOneIllegal 4 7 2 refl) e n (λ c m. (refl, refl, refl))
-unsized-one-reads a JMP o (n, e, l) = laying-reads (unsized-form a JMP o 0) (at-code group.UnsizedOneIllegal 4 7 3 refl) e n (λ c m. (refl, refl, refl))
+unsized-one-reads a JSR o (n, e, l) = laying-reads (unsized-laying a JSR o 0) (at-code group.UnsizedOneIllegal 4 7 2 refl) e n (λ c m. (refl, refl, refl))
+unsized-one-reads a JMP o (n, e, l) = laying-reads (unsized-laying a JMP o 0) (at-code group.UnsizedOneIllegal 4 7 3 refl) e n (λ c m. (refl, refl, refl))
 unsized-one-reads a TAS o (n, e, l) =
-    laying-reads (unsized-form a TAS o 0) (at-code group.UnsizedOneIllegal 4 5 3 refl) e n (λ c m.
+    laying-reads (unsized-laying a TAS o 0) (at-code group.UnsizedOneIllegal 4 5 3 refl) e n (λ c m.
     let t = modes-say dataAlterable (λ ea. no (eqb ea 60) ∷ []) refl (eaField o) m .0 in
     (rw t, refl, rw t))
-unsized-one-reads a MOVEtoCCR o (n, e, l) = laying-reads (unsized-form a MOVEtoCCR o 0) (at-code group.UnsizedOneIllegal 4 2 3 refl) e n (λ c m. (refl, refl, refl))
-unsized-one-reads a MOVEfromCCR o (n, e, l) = laying-reads (unsized-form a MOVEfromCCR o 0) (at-code group.UnsizedOneIllegal 4 1 3 refl) e n (λ c m. (refl, refl, refl))
-unsized-one-reads a MOVEtoSR o (n, e, l) = laying-reads (unsized-form a MOVEtoSR o 0) (at-code group.UnsizedOneIllegal 4 3 3 refl) e n (λ c m. (refl, refl, refl))
-unsized-one-reads a MOVEfromSR o (n, e, l) = laying-reads (unsized-form a MOVEfromSR o 0) (at-code group.UnsizedOneIllegal 4 0 3 refl) e n (λ c m. (refl, refl, refl))
+unsized-one-reads a MOVEtoCCR o (n, e, l) = laying-reads (unsized-laying a MOVEtoCCR o 0) (at-code group.UnsizedOneIllegal 4 2 3 refl) e n (λ c m. (refl, refl, refl))
+unsized-one-reads a MOVEfromCCR o (n, e, l) = laying-reads (unsized-laying a MOVEfromCCR o 0) (at-code group.UnsizedOneIllegal 4 1 3 refl) e n (λ c m. (refl, refl, refl))
+unsized-one-reads a MOVEtoSR o (n, e, l) = laying-reads (unsized-laying a MOVEtoSR o 0) (at-code group.UnsizedOneIllegal 4 3 3 refl) e n (λ c m. (refl, refl, refl))
+unsized-one-reads a MOVEfromSR o (n, e, l) = laying-reads (unsized-laying a MOVEfromSR o 0) (at-code group.UnsizedOneIllegal 4 0 3 refl) e n (λ c m. (refl, refl, refl))
 
 unsized-encodes : (a ea : ℕ) (op : UnsizedOneOperation) (f : Tail) → TailStands a (unsizedLayout op ea) f → plainTail f ≡ f
     → Encodes a (UnsizedOne op (f .source)) (wordOf 4 (codeOf op) (opmodeOf op) ea ∷ tailWords a (unsizedLayout op ea) f)
-unsized-encodes a ea op f h p = laying-encodes ea f (unsized-form a op (f .source) (f .value)) tt h p (λ n. n) refl (λ e. rw e)
+unsized-encodes a ea op f h p = laying-encodes ea f (unsized-laying a op (f .source) (f .value)) tt h p (λ n. n) refl (λ e. rw e)
 
 -- ---- ILLEGAL
 illegal-encodes : (a : ℕ) → Encodes a (NoOperand ILLEGAL) (wordOf 4 5 3 60 ∷ [])
@@ -308,11 +308,11 @@ movemCode direction = 4 + 2 * fromMemory direction
 abbrev movemOpmode : Size → ℕ
 movemOpmode s = 2 + longBit s
 
-movem-form : (a : ℕ) (direction : TargetDirection) (s : Size) (mask : ℕ) (o : Operand)
+movem-laying : (a : ℕ) (direction : TargetDirection) (s : Size) (mask : ℕ) (o : Operand)
     → Laying a (MOVEM direction s mask o) 4 (movemCode direction) (movemOpmode s) specifier.Word s (movemModes direction) mask o
     (Passing (allow (not (isByte s)) 20 ∷ []))
 unfolding movemParts
-movem-form a direction s mask o =
+movem-laying a direction s mask o =
     form-word (allow (not (isByte s)) 20 ∷ word mask ∷ []) (movemReason direction) refl refl refl
 
 movem-code : (direction : TargetDirection) (s : Size) → not (isByte s) ≡ true
@@ -332,7 +332,7 @@ not-ext FromMemory ea m = refl
 pub movem-reads : (a : ℕ) (direction : TargetDirection) (s : Size) (mask : ℕ) (o : Operand) → Accepted a (MOVEM direction s mask o)
     → Reads a (MOVEM direction s mask o)
 movem-reads a direction s mask o ((h, n), e, l) =
-    let form = movem-form a direction s mask o in
+    let form = movem-laying a direction s mask o in
     let (c, y, z) = movem-code direction s (unless-reason (not (isByte s)) 20 (form .back e .0 .0)) in
     let k : mask % 65536 ≡ mask = omega arith in
     laying-reads form c e n (λ d m. let q = not-ext direction (eaField o) m in (rw (q, y, z), (h, refl), rw (q, y, z, k)))
@@ -355,20 +355,20 @@ movem-sound a line x opmode ea hl hx ho he e f h p i r =
     (λ q g.
     let m : f .value % 65536 ≡ f .value = omega (arith, g .1 .0) in
     rw m (word-as a (MOVEM direction s (f .value) (f .source)) _ _ _ (omega (arith, w))
-    (laying-encodes ea f (movem-form a direction s (f .value) (f .source)) (true-unless (not (isByte s)) (noEncoding 20) z, tt) g p (λ n. (g .1 .0, n)) refl
+    (laying-encodes ea f (movem-laying a direction s (f .value) (f .source)) (true-unless (not (isByte s)) (noEncoding 20) z, tt) g p (λ n. (g .1 .0, n)) refl
     (λ e. rw e))))
 
 -- ---- LEA, and CHK of a word or of a long
-lea-form : (a : ℕ) (o : Operand) (r : RegisterOperand) (v : ℕ)
+lea-laying : (a : ℕ) (o : Operand) (r : RegisterOperand) (v : ℕ)
     → Laying a (UnsizedIntoRegister LEA o r) 4 (registerBits r) 7 specifier.Nothing Long control v o (Passing (addressRegister r ∷ []))
 unfolding unsizedRegisterParts withAddress
-lea-form a o r v = form-bare (addressRegister r ∷ []) 34 refl refl
+lea-laying a o r v = form-bare (addressRegister r ∷ []) 34 refl refl
 
 -- EXTB.L stands where LEA has no mode
 lea-reads : (a : ℕ) (o : Operand) (r : RegisterOperand) → Accepted a (UnsizedIntoRegister LEA o r) → Reads a (UnsizedIntoRegister LEA o r)
 unfolding groupAt map
 lea-reads a o r (n, e, l) =
-    laying-reads (lea-form a o r 0) (at-registers group.LeaExtb 4 7 refl (registerBits r) (omega arith)) e n (λ c m.
+    laying-reads (lea-laying a o r 0) (at-registers group.LeaExtb 4 7 refl (registerBits r) (omega arith)) e n (λ c m.
     let t = modes-say control (λ ea. no (ltb ea 8) ∷ []) refl (eaField o) m .0 in
     let u = and-false (eqb (registerBits r) 4) in
     (rw (t, u), refl, rw (t, u, address-bits r (c .0))))
@@ -385,30 +385,30 @@ lea-sound a line x opmode ea hl hx ho he e f h p i r =
     word-as a j _ _ _ (omega (arith, eqb-eq x 4 b)) (alone-encodes a j _ specifier.Nothing f g (ext-encodes a ea Byte Long (ltb-is ea 8 d) refl)))
     (λ q g.
     word-as a (UnsizedIntoRegister LEA (f .source) (Address x)) _ _ _ (omega arith)
-    (laying-encodes ea f (lea-form a (f .source) (Address x) (f .value)) (lt-number x hx, tt) g p (λ n. n) refl (λ e. rw e)))
+    (laying-encodes ea f (lea-laying a (f .source) (Address x) (f .value)) (lt-number x hx, tt) g p (λ n. n) refl (λ e. rw e)))
 
 abbrev checkAt : Bool → UnsizedRegisterOperation
 checkAt b = cond b CHKL CHK
 
-chk-form : (a : ℕ) (b : Bool) (o : Operand) (r : RegisterOperand) (v : ℕ)
+chk-laying : (a : ℕ) (b : Bool) (o : Operand) (r : RegisterOperand) (v : ℕ)
     → Laying a (UnsizedIntoRegister (checkAt b) o r) 4 (registerBits r) (cond b 4 6) specifier.Nothing (cond b Long Word) dataModes v o
     (Passing (dataRegister r ∷ []))
 unfolding unsizedRegisterParts withData
-chk-form a true o r v = form-bare (dataRegister r ∷ []) 27 refl refl
-chk-form a false o r v = form-bare (dataRegister r ∷ []) 27 refl refl
+chk-laying a true o r v = form-bare (dataRegister r ∷ []) 27 refl refl
+chk-laying a false o r v = form-bare (dataRegister r ∷ []) 27 refl refl
 
 pub unsized-into-register-reads : (a : ℕ) (op : UnsizedRegisterOperation) (o : Operand) (r : RegisterOperand)
     → Accepted a (UnsizedIntoRegister op o r) → Reads a (UnsizedIntoRegister op o r)
 unfolding groupAt map
 unsized-into-register-reads a LEA o r h = lea-reads a o r h
 unsized-into-register-reads a CHK o r (n, e, l) =
-    laying-reads (chk-form a false o r 0) (at-registers group.CHK 4 6 refl (registerBits r) (omega arith)) e n (λ c m. (refl, refl, rw (data-bits r (c .0))))
+    laying-reads (chk-laying a false o r 0) (at-registers group.CHK 4 6 refl (registerBits r) (omega arith)) e n (λ c m. (refl, refl, rw (data-bits r (c .0))))
 unsized-into-register-reads a CHKL o r (n, e, l) =
-    laying-reads (chk-form a true o r 0) (at-registers group.CHK 4 4 refl (registerBits r) (omega arith)) e n (λ c m. (refl, refl, rw (data-bits r (c .0))))
+    laying-reads (chk-laying a true o r 0) (at-registers group.CHK 4 4 refl (registerBits r) (omega arith)) e n (λ c m. (refl, refl, rw (data-bits r (c .0))))
 
 pub chk-sound : Sound group.CHK
 unfolding map
 chk-sound a line x opmode ea hl hx ho he e f h p i r =
     let (w, u) = in-group group.CHK (λ l x o. equal (wordOf 4 x (cond (eqb o 4) 4 6) 0) (wordOf l x o 0) ∷ []) refl line x opmode e in
     decoded-as a i (UnsizedIntoRegister (checkAt (eqb opmode 4)) (f .source) (Data x)) _ _ _ r (omega (arith, w))
-    (laying-encodes ea f (chk-form a (eqb opmode 4) (f .source) (Data x) (f .value)) (lt-number x hx, tt) h p (λ n. n) refl (λ e. rw e))
+    (laying-encodes ea f (chk-laying a (eqb opmode 4) (f .source) (Data x) (f .value)) (lt-number x hx, tt) h p (λ n. n) refl (λ e. rw e))

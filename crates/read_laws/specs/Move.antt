@@ -157,16 +157,16 @@ move-reads a o d s h =
     (rw (m, move-size s .0)) (rw y (move-words a o d s))
 
 -- ---- MOVEA
-movea-form : (a : ℕ) (o : Operand) (r : RegisterOperand) (s : Size) (v : ℕ)
+movea-laying : (a : ℕ) (o : Operand) (r : RegisterOperand) (s : Size) (v : ℕ)
     → Laying a (IntoRegister MOVEA o r s) (moveCode s) (registerBits r) 1 specifier.Nothing s everyMode v o
     (Passing (allow (not (isByte s)) 10 ∷ addressRegister r ∷ []))
 unfolding registerParts moveaParts withAddress
-movea-form a o r s v = form-behind [] (allow (not (isByte s)) 10 ∷ []) (addressRegister r ∷ []) 11 refl refl refl
+movea-laying a o r s v = form-behind [] (allow (not (isByte s)) 10 ∷ []) (addressRegister r ∷ []) 11 refl refl refl
 
 pub movea-reads : (a : ℕ) (o : Operand) (r : RegisterOperand) (s : Size) → Accepted a (IntoRegister MOVEA o r s) → Reads a (IntoRegister MOVEA o r s)
 movea-reads a o r s (n, e, l) =
     let z = move-size s .0 in
-    laying-reads (movea-form a o r s 0) (move-at s (registerBits r) 1 (omega arith) (omega arith)) e n (λ c m.
+    laying-reads (movea-laying a o r s 0) (move-at s (registerBits r) 1 (omega arith) (omega arith)) e n (λ c m.
     let b = not-true (isByte s) (unless-reason (not (isByte s)) 10 (c .0)) in
     (rw (z, b), refl, rw (z, address-bits r (c .1 .0))))
 
@@ -178,7 +178,7 @@ movea-encodes : (a x ea : ℕ) (s : Size) (f : Tail) (b : Bool) → isByte s ≡
 movea-encodes a x ea s f true n hx h p = absurd (false≢true (h .0))
 movea-encodes a x ea s f false n hx h p =
     let w : x % 8 ≡ x = omega arith in
-    rw w at (laying-encodes ea f (movea-form a (f .source) (Address x) s (f .value)) (rw n, (lt-number x hx, tt)) h p (λ n. n) refl (λ e. rw e))
+    rw w at (laying-encodes ea f (movea-laying a (f .source) (Address x) s (f .value)) (rw n, (lt-number x hx, tt)) h p (λ n. n) refl (λ e. rw e))
 
 move-encodes : (a x opmode ea : ℕ) (s : Size) (f : Tail) → x < 8 → TailStands a (two specifier.Nothing s ea (readableModes s) (opmode * 8 + x) dataAlterable) f
     → plainTail f ≡ f

@@ -187,11 +187,11 @@ one-is =
     (λ v e. ap Immediate (eqb-eq v 1 e))
     (λ o e i h. absurd (false≢true (rw i at h)))
 
-memory-form : (a : ℕ) (op : ShiftOperation) (count o : Operand) (direction : ShiftDirection) (s : Size) (v : ℕ) → isRegister o ≡ false
+memory-laying : (a : ℕ) (op : ShiftOperation) (count o : Operand) (direction : ShiftDirection) (s : Size) (v : ℕ) → isRegister o ≡ false
     → Laying a (Shift op count o direction s) 14 (shiftKind op) (4 * leftBit direction + 3) specifier.Nothing Word memoryAlterable v o
     (Passing (typed count ∷ allow (isOne count && isWord s) 64 ∷ []))
 unfolding shiftParts shiftMemoryParts single
-memory-form a op count o direction s v e =
+memory-laying a op count o direction s v e =
     form-behind (typed count ∷ []) (allow (isOne count && isWord s) 64 ∷ []) [] 65 (rw e) refl refl
 
 memory-at : (direction : ShiftDirection)
@@ -205,7 +205,7 @@ memory-reads : (a : ℕ) (op : ShiftOperation) (count o : Operand) (direction : 
 memory-reads a op count o direction s e (n, f, l) =
     let k = kind-at op in
     let d = memory-at direction in
-    laying-reads (memory-form a op count o direction s 0 e) (d .0 (shiftKind op) (k .0)) f (n .1) (λ c m.
+    laying-reads (memory-laying a op count o direction s 0 e) (d .0 (shiftKind op) (k .0)) f (n .1) (λ c m.
     let t = and-true (isOne count) _ (unless-reason (isOne count && isWord s) 64 (c .1 .0)) in
     (refl, refl, rw (one-is count (t .0), word-is s (t .1), k .1, d .1)))
 
@@ -223,7 +223,7 @@ shift-memory-sound a line x opmode ea hl hx ho he e f h p i r =
     let n = memory-not (f .source) (one-back a specifier.Nothing Word ea memoryAlterable f h .0 .0) in
     let direction = directionAt (opmode / 4) in
     decoded-as a i (Shift (shiftAt x) (Immediate 1) (f .source) direction Word) _ _ _ r (omega (arith, w))
-    (laying-encodes ea f (memory-form a (shiftAt x) (Immediate 1) (f .source) direction Word (f .value) n) (refl, (refl, tt)) h p (λ n. (tt, n)) refl (λ e. rw e))
+    (laying-encodes ea f (memory-laying a (shiftAt x) (Immediate 1) (f .source) direction Word (f .value) n) (refl, (refl, tt)) h p (λ n. (tt, n)) refl (λ e. rw e))
 
 -- ---- the bit-field instructions: an offset or a width
 part-lt : (x : FieldValue) → valueBits x < 64
@@ -281,10 +281,10 @@ codeX op = 4 + bitFieldCode op / 2
 abbrev codeOpmode : BitFieldOperation → ℕ
 codeOpmode op = 4 * (bitFieldCode op % 2) + 3
 
-field-form : (a : ℕ) (op : BitFieldOperation) (o : Operand) (f : BitField) (r v : ℕ) → wordIn f r ≡ v
+field-laying : (a : ℕ) (op : BitFieldOperation) (o : Operand) (f : BitField) (r v : ℕ) → wordIn f r ≡ v
     → Laying a (BF op o f r) 14 (codeX op) (codeOpmode op) specifier.BitField Byte (cond (writes op) bitFieldWritten bitFieldRead) v o (Holding f r)
 unfolding bitFieldParts
-field-form a op o f r v e =
+field-laying a op o f r v e =
     form-as
     (form-word (check (bitFieldVerdict f) ∷ register r ∷ word (wordIn f r) ∷ []) (cond (writes op) 32 33) refl refl (ap (λ (w : ℕ). w ∷ []) e))
     (λ c. holding-back f r (c .0) (c .1 .0)) (λ d. (true-unless _ _ (true-and _ _ (d .0) (d .1)), (lt-number r (d .2), tt)))
@@ -306,7 +306,7 @@ code-is Insert = (at-code group.BitField 14 7 7 refl, refl)
 pub bf-reads : (a : ℕ) (op : BitFieldOperation) (o : Operand) (f : BitField) (r : ℕ) → Accepted a (BF op o f r) → Reads a (BF op o f r)
 bf-reads a op o f r (n, e, l) =
     let (t, c) = code-is op in
-    laying-reads (field-form a op o f r (wordIn f r) refl) t e n (λ d m.
+    laying-reads (field-laying a op o f r (wordIn f r) refl) t e n (λ d m.
     let w = word-fields f r (d .2) in
     (rw c, word-stands f r (d .2), rw (c, w .1, w .2, w .3, value-bits (f .offset) (d .0), value-bits (f .width) (d .1))))
 
@@ -329,4 +329,4 @@ bit-field-sound a line x opmode ea hl hx ho he e f h p i r =
     let d = field-in (f .value) (h .1 .1) in
     let n = f .value / 4096 % 8 in
     decoded-as a i (BF op (f .source) (fieldIn (f .value)) n) _ _ _ r (omega (arith, w))
-    (laying-encodes ea f (field-form a op (f .source) (fieldIn (f .value)) n (f .value) (d .1)) (d .0) h p (λ n. n) refl (λ e. rw e))
+    (laying-encodes ea f (field-laying a op (f .source) (fieldIn (f .value)) n (f .value) (d .1)) (d .0) h p (λ n. n) refl (λ e. rw e))

@@ -56,7 +56,7 @@ sorted kind.Instruction = of-variant (record { token = λ f. refl; spelled = λ 
 pub record Numbered (f : List ℕ) (s : Bool) (n : ℕ) : Type 0 where
   pub digits : List ℕ
   pub spells : f ≡ signText s ++ digits
-  pub in-plain : isDecimal digits ≡ true
+  pub in-decimal : isDecimal digits ≡ true
   pub writes : value digits ≡ n
   pub written : Written (literal s n)
 
@@ -86,7 +86,7 @@ number-is (b ∷ bs) s n e = go (eqb b 45) refl e
     minus h m false p v l z e =
         let x : true ≡ s = cc in
         let y : m ≡ n = cc in
-        rw (← x, ← y) (record { digits = bs; spells = λ i. h i ∷ bs; in-plain = p; writes = v; written = (omega (arith, eqb-false m 0 z), l) })
+        rw (← x, ← y) (record { digits = bs; spells = λ i. h i ∷ bs; in-decimal = p; writes = v; written = (omega (arith, eqb-false m 0 z), l) })
 
     below : b ≡ 45 → (u : Number) → unsignedOf bs ≡ u → negated u ≡ number.Is s n → Numbered (b ∷ bs) s n
     below h (number.Is t m) w e = let d = unsigned-is bs t m w in minus h m (eqb m 0) (d .1) (d .2) (d .3) refl e
@@ -96,7 +96,7 @@ number-is (b ∷ bs) s n e = go (eqb b 45) refl e
     go true h e = below (eqb-true b 45 h) (unsignedOf bs) refl e
     go false h e =
         let d = unsigned-is (b ∷ bs) s n e in
-        rw (d .0) (record { digits = b ∷ bs; spells = refl; in-plain = d .1; writes = d .2; written = d .3 })
+        rw (d .0) (record { digits = b ∷ bs; spells = refl; in-decimal = d .1; writes = d .2; written = d .3 })
 
 -- ---- a field that says something
 number-suits : (f : List ℕ) (v : Token) → asNumber (numberOf f) ≡ v → (v ≡ invalid → ⊥) → Either v × Written v

@@ -15,7 +15,7 @@ use Rattle.sheet_spec.specs.Line.{Token, literal, label, invalid, asNumber, asL
 use Rattle.sheet_spec.specs.Spell.{signText, numberText, nameText, spelled, Written, Labelled, Either, Variant, Suits}
 use Rattle.sheet_facts.specs.Names.{solid, name-back, name-solid}
 use Rattle.sheet_facts.specs.Fields.{Sorted, of-number, of-target, of-place, of-variant, sorted, name-is, variant-token}
-use Rattle.sheet_form_laws.specs.NumberForm.{digit, decimal-plain, decimal-value, plain-digits, plain-decimal, number-form, number-back}
+use Rattle.sheet_form_laws.specs.NumberForm.{digit, decimal-is, decimal-value, decimal-all, decimal-again, number-form, number-back}
 use Rattle.base_facts.specs.Tests.{and-true, cond-true, cond-false}
 
 -- digits are no tab, no line feed and no `@`
@@ -27,7 +27,7 @@ digits-solid (b ∷ bs) e =
     rw (lt-ltb 10 b (omega (arith, d))) (digits-solid bs (t .1))
 
 pub decimal-solid : (n : ℕ) → solid (decimalOf n) ≡ true
-decimal-solid n = digits-solid (decimalOf n) (plain-digits (decimalOf n) (decimal-plain n))
+decimal-solid n = digits-solid (decimalOf n) (decimal-all (decimalOf n) (decimal-is n))
 
 digits-name : (l : List ℕ) → allDigits l ≡ true → isLabel l ≡ false
 digits-name [] e = refl
@@ -35,11 +35,11 @@ digits-name (b ∷ bs) e = let d = digit b (and-true (isDigit b) (allDigits bs) 
 
 number-name : (s : Bool) (n : ℕ) → isLabel (signText s ++ decimalOf n) ≡ false
 number-name true n = refl
-number-name false n = digits-name (decimalOf n) (plain-digits (decimalOf n) (decimal-plain n))
+number-name false n = digits-name (decimalOf n) (decimal-all (decimalOf n) (decimal-is n))
 
 -- what is spelled says what it was
 label-back : (n : ℕ) → asLabel (64 ∷ decimalOf n) ≡ label n
-label-back n = cond-true (isDecimal (decimalOf n)) (label (value (decimalOf n))) invalid (decimal-plain n) ∙ ap label (decimal-value n)
+label-back n = cond-true (isDecimal (decimalOf n)) (label (value (decimalOf n))) invalid (decimal-is n) ∙ ap label (decimal-value n)
 
 literal-back : (s : Bool) (n : ℕ) → Written (literal s n) → asNumber (numberOf (signText s ++ decimalOf n)) ≡ literal s n
 literal-back s n h = ap asNumber (number-back s n h)
@@ -88,7 +88,7 @@ number-token f v e h = go (numberOf f) refl e
 name-token : (f : List ℕ) (v : Token) → asLabel f ≡ v → (v ≡ invalid → ⊥) → f ≡ numberText v
 name-token f v e h =
     let d = name-is f v e h in
-    rw (d .3) (d .1 ∙ ap (λ (g : List ℕ). 64 ∷ g) (sym (plain-decimal (d .0) (d .2))))
+    rw (d .3) (d .1 ∙ ap (λ (g : List ℕ). 64 ∷ g) (sym (decimal-again (d .0) (d .2))))
 
 either-token : (f : List ℕ) (v : Token) → token kind.Place f ≡ v → (v ≡ invalid → ⊥) → f ≡ numberText v
 either-token f v e h = go (isLabel f) e

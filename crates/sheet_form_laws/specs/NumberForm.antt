@@ -19,23 +19,23 @@ use Rattle.base_facts.specs.Tests.{and-true}
 pub digit : (b : ℕ) → isDigit b ≡ true → (48 ≤ b) × (b ≤ 57)
 digit b e = let t = and-true (leb 48 b) (leb b 57) e in (leb-true 48 b (t .0), leb-true b 57 (t .1))
 
-digits-plain : (n : ℕ) (l : List ℕ) → Digits n l → isDecimal l ≡ true
-digits-plain n [] d = absurd (omega (arith, d .some))
-digits-plain n (b ∷ []) d = and-true (isDigit b) true (d .digits) .0
-digits-plain n (b ∷ (x ∷ bs)) d = rw (ne-eqb b 48 (λ e. omega (arith, d .first))) (d .digits)
+digits-decimal : (n : ℕ) (l : List ℕ) → Digits n l → isDecimal l ≡ true
+digits-decimal n [] d = absurd (omega (arith, d .some))
+digits-decimal n (b ∷ []) d = and-true (isDigit b) true (d .digits) .0
+digits-decimal n (b ∷ (x ∷ bs)) d = rw (ne-eqb b 48 (λ e. omega (arith, d .first))) (d .digits)
 
-pub decimal-plain : (n : ℕ) → isDecimal (decimalOf n) ≡ true
-decimal-plain zero = rw (decimal-small 0 (omega arith))
-decimal-plain (suc n) = digits-plain (suc n) (decimalOf (suc n)) (decimal-digits (suc (suc n)) (suc n) (omega arith) (omega arith))
+pub decimal-is : (n : ℕ) → isDecimal (decimalOf n) ≡ true
+decimal-is zero = rw (decimal-small 0 (omega arith))
+decimal-is (suc n) = digits-decimal (suc n) (decimalOf (suc n)) (decimal-digits (suc (suc n)) (suc n) (omega arith) (omega arith))
 
 pub decimal-value : (n : ℕ) → value (decimalOf n) ≡ n
 decimal-value zero = rw (decimal-small 0 (omega arith))
 decimal-value (suc n) = decimal-digits (suc (suc n)) (suc n) (omega arith) (omega arith) .writes
 
-pub plain-digits : (l : List ℕ) → isDecimal l ≡ true → allDigits l ≡ true
-plain-digits [] e = absurd (false≢true e)
-plain-digits (b ∷ []) e = rw e
-plain-digits (b ∷ (x ∷ bs)) e = and-true (not (eqb b 48)) (allDigits (b ∷ (x ∷ bs))) e .1
+pub decimal-all : (l : List ℕ) → isDecimal l ≡ true → allDigits l ≡ true
+decimal-all [] e = absurd (false≢true e)
+decimal-all (b ∷ []) e = rw e
+decimal-all (b ∷ (x ∷ bs)) e = and-true (not (eqb b 48)) (allDigits (b ∷ (x ∷ bs))) e .1
 
 -- digits after those of a number that is not 0
 value-decimal : (a : ℕ) (l : List ℕ) → 1 ≤ a → allDigits l ≡ true → decimalOf (valueFrom a l) ≡ decimalOf a ++ l
@@ -55,10 +55,10 @@ decimal-digit b e =
     let q : 48 + (0 * 10 + (b - 48)) ≡ b = omega (arith, d) in
     decimal-small (0 * 10 + (b - 48)) (omega (arith, d)) ∙ ap (λ (x : ℕ). x ∷ []) q
 
-pub plain-decimal : (f : List ℕ) → isDecimal f ≡ true → decimalOf (value f) ≡ f
-plain-decimal [] e = absurd (false≢true e)
-plain-decimal (b ∷ []) e = decimal-digit b e
-plain-decimal (b ∷ (x ∷ bs)) e =
+pub decimal-again : (f : List ℕ) → isDecimal f ≡ true → decimalOf (value f) ≡ f
+decimal-again [] e = absurd (false≢true e)
+decimal-again (b ∷ []) e = decimal-digit b e
+decimal-again (b ∷ (x ∷ bs)) e =
     let t = and-true (not (eqb b 48)) (allDigits (b ∷ (x ∷ bs))) e in
     let u = and-true (isDigit b) (allDigits (x ∷ bs)) (t .1) in
     let d = digit b (u .0) in
@@ -69,7 +69,7 @@ plain-decimal (b ∷ (x ∷ bs)) e =
 pub number-form : (f : List ℕ) (s : Bool) (n : ℕ) → numberOf f ≡ number.Is s n → (f ≡ signText s ++ decimalOf n) × Written (literal s n)
 number-form f s n e =
     let d = number-is f s n e in
-    (d .spells ∙ ap (λ (g : List ℕ). signText s ++ g) (sym (plain-decimal (d .digits) (d .in-plain)) ∙ ap decimalOf (d .writes)), d .written)
+    (d .spells ∙ ap (λ (g : List ℕ). signText s ++ g) (sym (decimal-again (d .digits) (d .in-decimal)) ∙ ap decimalOf (d .writes)), d .written)
 
 pub number-back : (s : Bool) (n : ℕ) → Written (literal s n) → numberOf (signText s ++ decimalOf n) ≡ number.Is s n
 number-back true zero h = absurd (omega (arith, h .0))

@@ -4,7 +4,7 @@ use mathlib.Core.Path.{_≡_, refl, sym, ap, _∙_, subst}
 use mathlib.Core.Bool.{true}
 use mathlib.Core.List.{List}
 use native.Mathlib.Omega.{arith}
-use lib.ListN.{length, take, drop, replicate}
+use lib.ListN.{length, take, replicate}
 use lib.Seq.{take-at}
 use Rattle.isa.specs.declared.Measured.{Measured}
 use Rattle.isa.specs.declared.Instruction.{Instruction}
@@ -14,10 +14,10 @@ use Rattle.encode_spec.specs.Encode.{wordsOf, refusalOf, encodeOf}
 use Rattle.numeric_spec.specs.declared.Built.{Built}
 use Rattle.numeric_spec.specs.declared.Built.the-variants as built
 use Rattle.sheet_spec.specs.Made.{madeOf, addressIn}
-use Rattle.sheet_spec.specs.Sheet.{encodedLine, lineEncoded, linesIn, total}
+use Rattle.sheet_spec.specs.Sheet.{encodedLine, lineEncoded, linesIn}
 use Rattle.sheet_spec.specs.Translate.{inOrder, startIn, countIn, addressesIn, needIn, imageIn, outcomeOf}
 use Rattle.sheet_spec.specs.Follow.{lineAt, addressOf, countedAt}
-use Rattle.sheet_size_facts.specs.Image.{Counts, image-length, words-stand}
+use Rattle.sheet_size_facts.specs.Image.{Counts, image-length}
 use Rattle.sheet_size_facts.specs.Outcomes.{accepted}
 use Rattle.sheet_spec.specs.Promises.{AcceptedSheet, MeasuredSheet, wordsAt}
 use Rattle.sheet_size_facts.specs.Made.{LineMade}
@@ -69,8 +69,3 @@ module _ (text : List ℕ) (places room : ℕ) (ok : AcceptedSheet text places r
 -- the image has the words of all lines
 pub image-counts : (text : List ℕ) (places room : ℕ) → outcomeOf text places room ≡ inOrder → length (imageIn text) ≡ needIn text
 image-counts text places room e = image-length text (counts text places room (accepted text places room e))
-
--- each line's words, those of `encode`, stand at its offset
-pub each-stands : (text : List ℕ) (places room : ℕ) → outcomeOf text places room ≡ inOrder → (n : ℕ) → suc n ≤ countIn text
-    → take (countedAt text (suc n)) (drop (total (countIn text) (take n (linesIn text))) (imageIn text)) ≡ wordsAt text (suc n)
-each-stands text places room e n h = words-stand text (counts text places room (accepted text places room e)) n h

@@ -90,12 +90,12 @@ module _ {n : ℕ} {i : Instruction} (r : Row n i) where
         },
       )) [] vs [] (subst (λ (es : List Entry). Input n (kind.Instruction ∷ []) vs (es ++ [])) (form (r .z)) h) (subst Inside (form (r .z)) g)
 
-  shape : Read → Going → Kept → Made i
-  shape read goes kept = subst Made (r .is) (made read goes kept)
+  made-row : Read → Going → Kept → Made i
+  made-row read goes kept = subst Made (r .is) (made read goes kept)
 
   -- without a target
   still : (HasLine (r .con (r .z)) → (w : r .Z) → _≡_ {A = Next × (ℕ → Bool) × Bool} (nextOf (plain.plain (r .con w)), leftOut (r .con w), quiet (nextOf (r .con w))) (nextOf (r .con w), λ a. false, true)) → Kept → Made i
-  still law = shape (λ l w. (ap (λ t. t .0) (law l w), λ a e t. ap (λ t. t .1 a) (law l w))) (λ l y a. quietly (λ f. ap (λ t. t .2) (law l (y f))))
+  still law = made-row (λ l w. (ap (λ t. t .0) (law l w), λ a e t. ap (λ t. t .1 a) (law l w))) (λ l y a. quietly (λ f. ap (λ t. t .2) (law l (y f))))
 
 pub instruction-turned : {n : ℕ} (i : Instruction) (vs : List Token) → Input n (kind.Instruction ∷ []) vs (entries i ++ []) → Inside (entries i) → Turned n Instruction entries (Follows n i) [] vs []
 instruction-turned (IntoRegister op o r s) =
@@ -123,10 +123,10 @@ instruction-turned (UnsizedPair op o d) =
     (λ l w. elim op [ ABCD ↦ refl | SBCD ↦ refl | BTST ↦ refl | BCLR ↦ refl | BSET ↦ refl | BCHG ↦ refl ]) (λ w. bare-size sizes.unsized-source _ ∙ bare-size sizes.unsized-destination _)
 instruction-turned (EXT r s v) = still (row (EXT r s v)) (λ l w. refl) (λ w. refl)
 instruction-turned (OneOperand op o s) = still (row (OneOperand op o s)) (λ l w. elim op [ CLR ↦ refl | NEG ↦ refl | NEGX ↦ refl | NOT ↦ refl | TST ↦ refl ]) (λ w. bare-size sizes.one-operand _)
-instruction-turned (Bcc t c s) = shape (row (Bcc t c s)) (λ l w. (refl, branch-stays (w .0 .0) (w .1))) (λ l y a. aimed (a .0 .0)) (λ w. aim-size sizes.bcc _)
+instruction-turned (Bcc t c s) = made-row (row (Bcc t c s)) (λ l w. (refl, branch-stays (w .0 .0) (w .1))) (λ l y a. aimed (a .0 .0)) (λ w. aim-size sizes.bcc _)
 instruction-turned (Scc o c) = still (row (Scc o c)) (λ l w. refl) (λ w. bare-size sizes.scc _)
-instruction-turned (DBcc r t c) = shape (row (DBcc r t c)) (λ l w. (refl, λ a e t. refl)) (λ l y a. aimed (a .0 .1)) (λ w. aim-size sizes.dbcc _)
-instruction-turned (Branch op t s) = shape (row (Branch op t s)) (λ l w. (elim op [ BRA ↦ refl | BSR ↦ refl ], branch-stays (w .0) (w .1))) (λ l y a. aimed (a .0)) (λ w. aim-size sizes.branch _)
+instruction-turned (DBcc r t c) = made-row (row (DBcc r t c)) (λ l w. (refl, λ a e t. refl)) (λ l y a. aimed (a .0 .1)) (λ w. aim-size sizes.dbcc _)
+instruction-turned (Branch op t s) = made-row (row (Branch op t s)) (λ l w. (elim op [ BRA ↦ refl | BSR ↦ refl ], branch-stays (w .0) (w .1))) (λ l y a. aimed (a .0)) (λ w. aim-size sizes.branch _)
 instruction-turned (Link op r v) = still (row (Link op r v)) (λ l w. elim op [ LINK ↦ refl | LINKL ↦ refl ]) (λ w. refl)
 instruction-turned (UNLK r) = still (row (UNLK r)) (λ l w. refl) (λ w. refl)
 instruction-turned (Shift op o d g s) =

@@ -12,7 +12,8 @@ use Rattle.sheet_spec.specs.Translate.{startIn, countIn, addressesIn, imageIn}
 use Rattle.sheet_spec.specs.Follow.{readingAt, plainLine, addressOf, countedAt}
 use Rattle.sheet_size_facts.specs.Image.{total-part}
 use Rattle.sheet_spec.specs.Promises.{wordsAt, Translated, Followed}
-use Rattle.sheet_size_facts.specs.Counted.{each-stands, image-counts}
+use Rattle.sheet_size_facts.specs.Counted.{image-counts}
+use Rattle.sheet_laws.specs.Stands.{each-stands}
 use Rattle.sheet_laws.specs.Demand3.{demand-3, each-line}
 use Rattle.sheet_translate.specs.PlaceLaws.{over-drop, addresses-length}
 use Rattle.sheet_translate.specs.Left.{Left, left}
