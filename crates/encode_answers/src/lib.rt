@@ -10,8 +10,8 @@ ghost use Rattle.encode_answers.specs.Places.{placesIn, placesText};
 use base_spec::Step;
 use isa::Encoded;
 use isa::Measured;
-use numeric_spec::Built;
 use numeric_places::Numbers;
+use numeric_spec::Built;
 
 // Each word, and a tab.
 fn put_words(out: &mut [u8], at: usize, words: [u16; 11], count: usize) -> usize

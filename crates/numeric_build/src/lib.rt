@@ -7,10 +7,10 @@ ghost use Rattle.numeric_places.specs.Places.{builtFrom};
 ghost use Rattle.numeric_build.specs.Build.{entries, lineOf};
 use crate::row::walked;
 use numeric_fields::number::unsigned_at;
+pub use numeric_places::Numbers;
 use numeric_shapes::Slots;
 use numeric_shapes::made::instruction_of;
 pub use numeric_spec::Built;
-pub use numeric_places::Numbers;
 
 pub mod row; // the fields of a line
 

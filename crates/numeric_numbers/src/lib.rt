@@ -5,8 +5,8 @@ ghost use Rattle.numeric_places.specs.Places.{numbersFrom};
 ghost use Rattle.numeric_spec.specs.Form.{formOf};
 ghost use Rattle.numeric_push.specs.Pushed.{pushedAll, none};
 use isa::Instruction;
-use numeric_push::without_operand;
 pub use numeric_places::Numbers;
+use numeric_push::without_operand;
 
 pub mod shape; // the instructions with operands, shape by shape
 

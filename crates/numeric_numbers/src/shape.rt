@@ -37,6 +37,7 @@ use numeric_operations::place::unsized_one_operation_place;
 use numeric_operations::place::unsized_pair_operation_place;
 use numeric_operations::place::unsized_register_operation_place;
 use numeric_operations::place::word_operation_place;
+use numeric_places::Numbers;
 use numeric_push::number::begin;
 use numeric_push::number::push_byte;
 use numeric_push::number::push_flag;
@@ -52,7 +53,6 @@ use numeric_push::part::push_shift_direction;
 use numeric_push::part::push_sign;
 use numeric_push::part::push_size;
 use numeric_push::part::push_target_direction;
-use numeric_places::Numbers;
 
 pub fn into_register(
     operation: RegisterOperation,

@@ -1,13 +1,13 @@
+pub mod Plain
+pub mod LeftOut
+pub mod Accepted
+pub mod RoundTrip
 pub mod Tree
 pub mod Number
 pub mod Operand
 pub mod Layout
-pub mod Plain
-pub mod LeftOut
 pub mod Map
 pub mod Operation
 pub mod Layouts
 pub mod Decoded
 pub mod Read
-pub mod Accepted
-pub mod RoundTrip

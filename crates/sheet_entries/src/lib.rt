@@ -5,8 +5,8 @@ ghost use Rattle.sheet_spec.specs.Made.{addressIn};
 ghost use Rattle.sheet_tokens.specs.Entries.{noEntries, entriesFrom};
 ghost use Rattle.sheet_entries.specs.With.{placedEntry, withValue};
 ghost use Rattle.sheet_entries.specs.Made.{namesOne, namesLines, resolvedNumber, numbersWith, madeWith};
-use numeric_spec::Built;
 use numeric_places::Numbers;
+use numeric_spec::Built;
 use sheet_tokens::Entries;
 use sheet_tokens::Value;
 
