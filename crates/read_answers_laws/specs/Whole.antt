@@ -1,5 +1,5 @@
 -- The answer speaks of all the words of a line, though only the first 16 are kept.
-use mathlib.Core.Path.{_≡_, refl, ap, _∙_}
+use mathlib.Core.Path.{_≡_, refl, ap, _∙_, subst}
 use mathlib.Core.Bool.{Bool, true, false, cond, _&&_}
 use mathlib.Core.List.{List, [], _∷_}
 use Prim.Native.Nat.{ℕ}
@@ -7,6 +7,8 @@ use lib.ListN.{take}
 use Rattle.base_spec.specs.Parts.{fields}
 use Rattle.base_spec.specs.Number.{numberOf}
 use Rattle.base_spec.specs.Numbers.{magnitudeOf}
+use Rattle.base_spec.specs.declared.Step.{Step}
+use Rattle.base_spec.specs.Lines.{Answered}
 use Rattle.base_spec.specs.Refused.{notInForm}
 use Rattle.read_spec.specs.Read.{readOf}
 use Rattle.read_laws.specs.Kept.{read-kept}
@@ -43,3 +45,7 @@ answer-if (f ∷ fs) = text-if (isAddressField (numberOf f) && allWords fs) (mag
 pub answer-whole : (line : List ℕ) → keptAnswerOf line ≡ readAnswerOf line
 unfolding keptAnswerOf runOf readAnswerOf
 answer-whole line = answer-if (fields line)
+
+-- and so of every line that `answers` answers
+pub answers-whole : (need : ℕ) (text : List ℕ) (from : ℕ) (buf out : List ℕ) (r : Step) → Answered keptAnswerOf need text from buf out r → Answered readAnswerOf need text from buf out r
+answers-whole need text from buf out r h = subst (λ (answer : List ℕ → List ℕ). Answered answer need text from buf out r) (λ i line. answer-whole line i) h

@@ -112,7 +112,12 @@ fn instruction_of(
         Group::CAS => return immediate::cas(x, ea, value, source),
         Group::MOVE => return movement::move_data(line, x, opmode, source, destination),
         Group::OneOperand => return miscellaneous::one_operand(x, opmode, source),
-        Group::UnsizedOneIllegal => return miscellaneous::unsized_one(x, opmode, ea, source),
+        Group::UnsizedOneIllegal => return miscellaneous::unsized_one_illegal(
+            x,
+            opmode,
+            ea,
+            source,
+        ),
         Group::NbcdLink => return miscellaneous::nbcd_link(ea, value, source),
         Group::PeaSwapBkpt => return miscellaneous::pea_swap_bkpt(ea, source),
         Group::MovemExt => return miscellaneous::movem_ext(x, opmode, ea, value, source),

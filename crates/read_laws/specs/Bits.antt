@@ -377,9 +377,9 @@ movep-sound a x opmode ea f i hx m w he h r (displaced z base q) =
 movep-sound a x opmode ea f i hx m w he h r (post n q) = fail-no i (rw q at r)
 movep-sound a x opmode ea f i hx m w he h r (other k q) = fail-no i (sym (q .1 x opmode) ∙ r)
 
-pub dynamic-bit-sound : Sound group.DynamicBitMovep
+pub dynamic-bit-movep-sound : Sound group.DynamicBitMovep
 unfolding map
-dynamic-bit-sound a line x opmode ea hl hx ho he e f h p i r = go (eq? (ea / 8) 1)
+dynamic-bit-movep-sound a line x opmode ea hl hx ho he e f h p i r = go (eq? (ea / 8) 1)
   where
     facts : Known (equal line 0 ∷ yes (leb 4 opmode) ∷ equal (movepMode (directionIn opmode) (sizeIn opmode)) opmode ∷ yes (not (isByte (sizeIn opmode))) ∷ [])
     facts =

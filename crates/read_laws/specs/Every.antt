@@ -17,12 +17,12 @@ use Rattle.read_spec.specs.declared.Group.{Group}
 use Rattle.read_spec.specs.declared.Group.the-variants as group
 use Rattle.read_laws.specs.Statements.{Reads, Sound}
 use Rattle.read_spec.specs.Accepted.{Accepted}
-use Rattle.read_laws.specs.FromData.{addx-reads, arithmetic-sound, subx-reads, cmpm-reads, compare-sound, eor-reads, abcd-reads, decimal-sound, sbcd-reads, exchange-sound, exg-reads, pack-reads, pack-sound, add-reads, and-reads, or-reads, sub-reads}
-use Rattle.read_laws.specs.Bits.{bit-reads, dynamic-bit-sound, static-bit-sound, condition-code-reads, immediate-into-reads, immediate-into-sound, status-reads, movep-reads}
+use Rattle.read_laws.specs.FromData.{addx-reads, arithmetic-extended-sound, subx-reads, cmpm-reads, logic-compare-sound, eor-reads, abcd-reads, logic-decimal-sound, sbcd-reads, logic-exchange-sound, exg-reads, pack-reads, logic-pack-sound, add-reads, and-reads, or-reads, sub-reads}
+use Rattle.read_laws.specs.Bits.{bit-reads, dynamic-bit-movep-sound, static-bit-sound, condition-code-reads, immediate-into-reads, immediate-into-sound, status-reads, movep-reads}
 use Rattle.read_laws.specs.Shift.{bf-reads, bit-field-sound, shift-memory-sound, shift-reads, shift-register-sound}
 use Rattle.read_laws.specs.Extension.{bounds-sound, chk2-reads, cmp2-reads, cas-reads, cas-sound, cas2-reads, moves-reads, moves-sound, divl-reads, divl-sound, mull-reads, mull-sound}
 use Rattle.read_laws.specs.Control.{bcc-reads, branch-reads, branch-sound, conditional-sound, dbcc-reads, scc-reads, trapcc-reads, moveq-reads, moveq-sound, quick-reads, quick-sound}
-use Rattle.read_laws.specs.Miscellaneous.{ext-reads, movem-reads, movem-sound, linkl-reads, nbcd-sound, one-operand-reads, one-operand-sound, bkpt-reads, pea-sound, swap-reads, chk-sound, lea-sound, unsized-into-register-reads, illegal-reads, unsized-one-reads, unsized-one-sound}
+use Rattle.read_laws.specs.Miscellaneous.{ext-reads, movem-reads, movem-ext-sound, linkl-reads, nbcd-link-sound, one-operand-reads, one-operand-sound, bkpt-reads, pea-swap-bkpt-sound, swap-reads, chk-sound, lea-extb-sound, unsized-into-register-reads, illegal-reads, unsized-one-reads, unsized-one-illegal-sound}
 use Rattle.read_laws.specs.IntoRegister.{adda-reads, cmpa-reads, into-address-sound, suba-reads, cmp-reads, into-data-sound, word-into-data-reads, word-into-data-sound}
 use Rattle.read_laws.specs.Move.{move-reads, move-sound, movea-reads}
 use Rattle.read_laws.specs.System.{line-a-sound, line-f-sound, raw-reads, link-reads, movec-reads, moveusp-reads, plain-reads, rtd-reads, stop-reads, system-sound, trap-reads, unlk-reads}
@@ -102,31 +102,31 @@ pub group-sound : (s : Group) → Sound s
 group-sound group.Unused = λ a line x opmode ea hl hx ho he e f h p i r. absurd (false≢true (h .0))
 group-sound group.ImmediateInto = immediate-into-sound
 group-sound group.StaticBit = static-bit-sound
-group-sound group.DynamicBitMovep = dynamic-bit-sound
+group-sound group.DynamicBitMovep = dynamic-bit-movep-sound
 group-sound group.MOVES = moves-sound
 group-sound group.Bounds = bounds-sound
 group-sound group.CAS = cas-sound
 group-sound group.MOVE = move-sound
 group-sound group.OneOperand = one-operand-sound
-group-sound group.UnsizedOneIllegal = unsized-one-sound
-group-sound group.NbcdLink = nbcd-sound
-group-sound group.PeaSwapBkpt = pea-sound
-group-sound group.MovemExt = movem-sound
+group-sound group.UnsizedOneIllegal = unsized-one-illegal-sound
+group-sound group.NbcdLink = nbcd-link-sound
+group-sound group.PeaSwapBkpt = pea-swap-bkpt-sound
+group-sound group.MovemExt = movem-ext-sound
 group-sound group.MULL = mull-sound
 group-sound group.DIVL = divl-sound
 group-sound group.System = system-sound
-group-sound group.LeaExtb = lea-sound
+group-sound group.LeaExtb = lea-extb-sound
 group-sound group.CHK = chk-sound
 group-sound group.Quick = quick-sound
 group-sound group.Conditional = conditional-sound
 group-sound group.Branch = branch-sound
 group-sound group.MOVEQ = moveq-sound
 group-sound group.IntoData = into-data-sound
-group-sound group.ArithmeticExtended = arithmetic-sound
-group-sound group.LogicDecimal = decimal-sound
-group-sound group.LogicPack = pack-sound
-group-sound group.LogicExchange = exchange-sound
-group-sound group.LogicCompare = compare-sound
+group-sound group.ArithmeticExtended = arithmetic-extended-sound
+group-sound group.LogicDecimal = logic-decimal-sound
+group-sound group.LogicPack = logic-pack-sound
+group-sound group.LogicExchange = logic-exchange-sound
+group-sound group.LogicCompare = logic-compare-sound
 group-sound group.WordIntoData = word-into-data-sound
 group-sound group.IntoAddress = into-address-sound
 group-sound group.ShiftRegister = shift-register-sound

@@ -246,9 +246,9 @@ addx-reads = extend-reads 13 refl
 pub subx-reads : (a : ℕ) (o d : Operand) (s : Size) → Accepted a (Pair SUBX o d s) → Reads a (Pair SUBX o d s)
 subx-reads = extend-reads 9 refl
 
-pub arithmetic-sound : Sound group.ArithmeticExtended
+pub arithmetic-extended-sound : Sound group.ArithmeticExtended
 unfolding map
-arithmetic-sound a line x opmode ea hl hx ho he e f h p i r =
+arithmetic-extended-sound a line x opmode ea hl hx ho he e f h p i r =
     let (t, (u, (k, z))) = in-group group.ArithmeticExtended (λ l x o. yes (among arithmeticLines l) ∷ yes (among memoryLines l) ∷ equal (4 + sizeCode (sizeAt (o - 4)))
     o ∷ []) refl line x opmode e in
     let s = sizeAt (opmode - 4) in
@@ -285,9 +285,9 @@ sbcd-reads = decimal-reads 8 refl
 pub abcd-reads : (a : ℕ) (o d : Operand) → Accepted a (UnsizedPair ABCD o d) → Reads a (UnsizedPair ABCD o d)
 abcd-reads = decimal-reads 12 refl
 
-pub decimal-sound : Sound group.LogicDecimal
+pub logic-decimal-sound : Sound group.LogicDecimal
 unfolding map
-decimal-sound a line x opmode ea hl hx ho he e f h p i r =
+logic-decimal-sound a line x opmode ea hl hx ho he e f h p i r =
     let (t, (u, (k, z))) = in-group group.LogicDecimal (λ l x o. yes (among decimalLines l) ∷ yes (among memoryLines l) ∷ equal 4 o ∷ []) refl line x opmode e in
     word-as a i _ _ _ (omega (arith, k))
     (beside-encodes a line x ea Byte specifier.Nothing f i (UnsizedPair (decimalAt line) (eitherAt ea (ea % 8)) (eitherAt ea x)) (ltb ea 16) u hx
@@ -323,9 +323,9 @@ pub pack-reads : (a : ℕ) (op : PackOperation) (o d : Operand) (adjustment : �
 pack-reads a PACK = packed-reads 5 refl a
 pack-reads a UNPK = packed-reads 6 refl a
 
-pub pack-sound : Sound group.LogicPack
+pub logic-pack-sound : Sound group.LogicPack
 unfolding map
-pack-sound a line x opmode ea hl hx ho he e f h p i r =
+logic-pack-sound a line x opmode ea hl hx ho he e f h p i r =
     let (l, (t, (k, z))) = in-group group.LogicPack (λ l x o. equal l 8 ∷ yes (among opmodes o) ∷ equal (4 + sizeCode (sizeAt (o - 4))) o ∷ []) refl line
     x opmode e in
     let s = sizeAt (opmode - 4) in
@@ -405,9 +405,9 @@ exg-reads a x y h =
     (exchanged-encodes a x opmode ea t hx y))
     x y (unless-reason (not (isAddress x) || isAddress y) 43 t, number-lt (numberOfRegister x) m, number-lt (numberOfRegister y) n)
 
-pub exchange-sound : Sound group.LogicExchange
+pub logic-exchange-sound : Sound group.LogicExchange
 unfolding map
-exchange-sound a line x opmode ea hl hx ho he e f h p i r =
+logic-exchange-sound a line x opmode ea hl hx ho he e f h p i r =
     let (l, (t, (k, z))) = in-group group.LogicExchange (λ l x o. equal l 12 ∷ yes (among opmodes o) ∷ equal (4 + sizeCode (sizeAt (o - 4))) o ∷ []) refl line
     x opmode e in
     word-as a i _ _ _ (omega (arith, k))
@@ -510,9 +510,9 @@ post-is s at y o hy h =
         let l = number-lt n (fine-both (numberVerdict n) _ (g .0) .0) in
         e ∙ ap PostIndirect (omega (arith, g .3))
 
-pub compare-sound : Sound group.LogicCompare
+pub logic-compare-sound : Sound group.LogicCompare
 unfolding map
-compare-sound a line x opmode ea hl hx ho he e f h p i r =
+logic-compare-sound a line x opmode ea hl hx ho he e f h p i r =
     let (l, (k, u)) = in-group group.LogicCompare (λ l x o. equal l 11 ∷ equal (4 + sizeCode (sizeAt (o - 4))) o ∷ []) refl line x opmode e in
     word-as a i _ _ _ (omega (arith, k)) (go (eqb (ea / 8) 1) refl h r)
   where

@@ -169,9 +169,9 @@ pub illegal-reads : (a : ℕ) → Accepted a (NoOperand ILLEGAL) → Reads a (No
 unfolding groupAt map
 illegal-reads a h = alone-reads a (NoOperand ILLEGAL) 60 specifier.Nothing 0 (at-code group.UnsizedOneIllegal 4 5 3 refl) (omega arith) refl refl refl (illegal-encodes a)
 
-pub unsized-one-sound : Sound group.UnsizedOneIllegal
+pub unsized-one-illegal-sound : Sound group.UnsizedOneIllegal
 unfolding map
-unsized-one-sound a line x opmode ea hl hx ho he e f h p i r =
+unsized-one-illegal-sound a line x opmode ea hl hx ho he e f h p i r =
     let (w, (t, u)) = in-group group.UnsizedOneIllegal (λ l x o. equal (wordOf 4 (codeOf (unsizedAt x o)) (opmodeOf (unsizedAt x o)) 0) (wordOf l x o 0)
     ∷ yes (implies (eqb x 5) (eqb (wordOf l x o 0) (wordOf 4 5 3 0))) ∷ []) refl line x opmode e in
     let op = unsizedAt x opmode in
@@ -199,9 +199,9 @@ linkl-reads a r d h =
     rw q (alone-reads a (Link LINKL (Address n) d) (8 + n) specifier.Long d (at-code group.NbcdLink 4 4 0 refl) (omega arith) (rw e) (h .0, refl, refl) (rw (e, k))
     (linkl-encodes a n d l (h .0)))
 
-pub nbcd-sound : Sound group.NbcdLink
+pub nbcd-link-sound : Sound group.NbcdLink
 unfolding map
-nbcd-sound a line x opmode ea hl hx ho he e f h p i r =
+nbcd-link-sound a line x opmode ea hl hx ho he e f h p i r =
     let (w, u) = in-group group.NbcdLink (λ l x o. equal (wordOf l x o 0) (wordOf 4 4 0 0) ∷ []) refl line x opmode e in
     let j = Link LINKL (Address (ea % 8)) (f .value) in
     either-encodes a i j (UnsizedOne NBCD (f .source)) (wordOf line x opmode ea) (eqb (ea / 8) 1) (alone specifier.Long) (unsizedLayout NBCD ea) f h r
@@ -253,9 +253,9 @@ nested true false x y z h = absurd (false≢true (h refl))
 nested false true x y z h = refl
 nested false false x y z h = refl
 
-pub pea-sound : Sound group.PeaSwapBkpt
+pub pea-swap-bkpt-sound : Sound group.PeaSwapBkpt
 unfolding map
-pea-sound a line x opmode ea hl hx ho he e f h p i r =
+pea-swap-bkpt-sound a line x opmode ea hl hx ho he e f h p i r =
     let (w, u) = in-group group.PeaSwapBkpt (λ l x o. equal (wordOf l x o 0) (wordOf 4 4 1 0) ∷ []) refl line x opmode e in
     let n = nested (ltb ea 8) (ltb ea 16) (SWAP (Data ea)) (Vector BKPT (ea % 8)) (UnsizedOne PEA (f .source))
     (λ q. ltb-true ea 16 (omega (arith, ltb-is ea 8 q))) in
@@ -337,9 +337,9 @@ movem-reads a direction s mask o ((h, n), e, l) =
     let k : mask % 65536 ≡ mask = omega arith in
     laying-reads form c e n (λ d m. let q = not-ext direction (eaField o) m in (rw (q, y, z), (h, refl), rw (q, y, z, k)))
 
-pub movem-sound : Sound group.MovemExt
+pub movem-ext-sound : Sound group.MovemExt
 unfolding map
-movem-sound a line x opmode ea hl hx ho he e f h p i r =
+movem-ext-sound a line x opmode ea hl hx ho he e f h p i r =
     let (w, (z, (k, u))) = in-group group.MovemExt (λ l x o. equal (wordOf 4 (movemCode (toMemoryAt (5 - x))) (movemOpmode (sizeAt (o - 1))) 0) (wordOf l x o 0)
     ∷ yes (not (isByte (sizeAt (o - 1)))) ∷ equal (extOpmode (sizeAt (o - 2)) (sizeAt (o - 1))) o ∷ yes (not (eqb o 0)) ∷ equal l 4 ∷ []) refl line
     x opmode e in
@@ -373,9 +373,9 @@ lea-reads a o r (n, e, l) =
     let u = and-false (eqb (registerBits r) 4) in
     (rw (t, u), refl, rw (t, u, address-bits r (c .0))))
 
-pub lea-sound : Sound group.LeaExtb
+pub lea-extb-sound : Sound group.LeaExtb
 unfolding map
-lea-sound a line x opmode ea hl hx ho he e f h p i r =
+lea-extb-sound a line x opmode ea hl hx ho he e f h p i r =
     let (l, (k, u)) = in-group group.LeaExtb (λ l x o. equal l 4 ∷ equal o 7 ∷ []) refl line x opmode e in
     let j = EXT (Data ea) Byte Long in
     either-encodes a i j (UnsizedIntoRegister LEA (f .source) (Address x)) (wordOf line x opmode ea) (eqb x 4 && ltb ea 8) bare

@@ -255,7 +255,7 @@ fn unsized_layout(operation: UnsizedOneOperation, ea: u8) -> Layout
 }
 
 // ILLEGAL stands where TAS would have an immediate operand.
-fn unsized_one_layout(x: u8, opmode: u8, ea: u8) -> Layout
+fn unsized_one_illegal_layout(x: u8, opmode: u8, ea: u8) -> Layout
     ensures { λ r. ⌜ r ≡ unsizedOneIllegalLayout x opmode ea ⌝ }
 {
     if (x == 5) & (ea == 60) {
@@ -449,7 +449,7 @@ pub fn layout(group: Group, line: u8, x: u8, opmode: u8, ea: u8) -> Layout
         Group::CAS => cas_layout(x, ea),
         Group::MOVE => move_layout(move_size(line), x, opmode, ea),
         Group::OneOperand => one_layout(size_at(opmode), x, ea),
-        Group::UnsizedOneIllegal => unsized_one_layout(x, opmode, ea),
+        Group::UnsizedOneIllegal => unsized_one_illegal_layout(x, opmode, ea),
         Group::NbcdLink => nbcd_link_layout(ea),
         Group::PeaSwapBkpt => pea_swap_bkpt_layout(ea),
         Group::MovemExt => movem_ext_layout(x, opmode, ea),

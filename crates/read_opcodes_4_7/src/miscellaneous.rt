@@ -32,7 +32,7 @@ pub fn one_operand(x: u8, opmode: u8, source: Operand) -> Instruction
 }
 
 // MOVE from and to SR and CCR, JSR, JMP, TAS and ILLEGAL.
-pub fn unsized_one(x: u8, opmode: u8, ea: u8, source: Operand) -> Instruction
+pub fn unsized_one_illegal(x: u8, opmode: u8, ea: u8, source: Operand) -> Instruction
     ensures { λ r. ⌜ r ≡ unsizedOneIllegalDecoded x opmode ea source ⌝ }
 {
     if (x == 5) & (ea == 60) {

@@ -31,7 +31,7 @@ returns-9 : tie.Need-returns-9
 returns-9 c = rw (c .one-layout .ensures, c .before .size-at3 .ensures, c .before .before .enum-told9 .given .1)
 
 returns-10 : tie.Need-returns-10
-returns-10 c = rw (c .unsized-one-layout .ensures, c .before .enum-told10 .given .1)
+returns-10 c = rw (c .unsized-one-illegal-layout .ensures, c .before .enum-told10 .given .1)
 
 returns-11 : tie.Need-returns-11
 returns-11 c = rw (c .nbcd-link-layout .ensures, c .before .enum-told11 .given .1)

@@ -31,7 +31,7 @@ returns-8 : tie.Need-returns-8
 returns-8 c = rw (c .before .enum-told8 .given .1, c .one-operand .ensures)
 
 returns-9 : tie.Need-returns-9
-returns-9 c = rw (c .before .enum-told9 .given .1, c .unsized-one .ensures)
+returns-9 c = rw (c .before .enum-told9 .given .1, c .unsized-one-illegal .ensures)
 
 returns-10 : tie.Need-returns-10
 returns-10 c = rw (c .before .enum-told10 .given .1, c .nbcd-link .ensures)
