@@ -54,6 +54,10 @@ measured-fine malformed n h = absurd (omega arith)
 measured-fine (outOfRange f z) n h = absurd (omega arith)
 measured-fine (noEncoding r) n h = absurd (omega arith)
 
+pub accepted-fine : (i : Instruction) (a : ℕ) → encodeOf i a .number ≡ 0 → refusalOf true i a ≡ fine
+unfolding encodeOf
+accepted-fine i a h = encoded-fine (refusalOf true i a) (wordsOf i a) h
+
 -- ---- where `encode` refuses and `size` does not, the number is 2 and the field does not hold the value
 
 outcome : {v : Verdict} (ws : List ℕ) → RangeOnly v → OnlyOutOfRange (encodedAs v ws)
@@ -150,6 +154,13 @@ taken ws = take-at ws (replicate {A = ℕ} (11 - length ws) 0) (length ws) refl
 pub bytes-length : (ws : List ℕ) → length (bytesIn ws) ≡ 2 * length ws
 bytes-length [] = refl
 bytes-length (w ∷ ws) = let e = bytes-length ws in omega arith
+
+taken-as : (v : Verdict) (ws : List ℕ) → v ≡ fine → take (encodedAs v ws .count) (encodedAs v ws .words) ≡ ws
+taken-as v ws e = rw e (taken ws)
+
+pub accepted-words : (i : Instruction) (a : ℕ) → encodeOf i a .number ≡ 0 → take (encodeOf i a .count) (encodeOf i a .words) ≡ wordsOf i a
+unfolding encodeOf
+accepted-words i a h = taken-as (refusalOf true i a) (wordsOf i a) (encoded-fine (refusalOf true i a) (wordsOf i a) h)
 
 -- what `encode_bytes` gives, from what `encode` gives: refused, short of room, and done
 pub record Bytes (v : Verdict) (ws : List ℕ) (l : List ℕ) (m : Measured) (r : List ℕ) : Type 0 where

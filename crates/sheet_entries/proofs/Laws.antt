@@ -15,10 +15,9 @@ use Rattle.numeric_spec.specs.declared.Built.the-variants as built
 use Rattle.numeric_places.specs.Places.{builtFrom}
 use Rattle.sheet_tokens.specs.declared.Entries.{Entries}
 use Rattle.sheet_tokens.proofs.Entries as entries
-use Rattle.sheet_spec.specs.Made.{addressIn}
 use Rattle.sheet_tokens.specs.Entries.{noEntries}
 use Rattle.sheet_entries.specs.With.{placedEntry}
-use Rattle.sheet_entries.specs.Made.{namesOne, namesEach, resolvedNumber, resolvedNumbers, numbersWith, madeWith}
+use Rattle.sheet_entries.specs.Made.{namesOne, namesEach, addressIn, resolvedNumber, resolvedNumbers, numbersWith, madeWith}
 use Rattle.base_facts.specs.Tests.{cond-true, cond-false}
 
 pub named-places : (e : Entries) (vs : List Val) → Is (row entries.the-type) e vs → length (e .named) ≡ 24

@@ -3,12 +3,12 @@ use Prim.Native.Nat.{ℕ}
 use mathlib.Core.Bool.{Bool, true, cond, not, _&&_, _||_}
 use mathlib.Core.List.{List, [], _∷_}
 use lib.Dec.{leb}
+use lib.ListN.{getD}
 use Rattle.numeric_places.specs.declared.Numbers.{Numbers}
 use Rattle.numeric_spec.specs.declared.Built.{Built}
 use Rattle.numeric_spec.specs.declared.Built.the-variants as built
 use Rattle.numeric_places.specs.Places.{builtFrom}
 use Rattle.sheet_tokens.specs.declared.Entries.{Entries}
-use Rattle.sheet_spec.specs.Made.{addressIn}
 
 -- where it is named, k is 1 to n
 abbrev pub namesOne : ℕ → Bool → ℕ → Bool
@@ -21,6 +21,10 @@ namesEach n (t ∷ ts) (k ∷ ks) = namesOne n t k && namesEach n ts ks
 
 unfoldable pub namesLines : Entries → ℕ → Bool
 namesLines e n = namesEach n (e .named) (e .magnitude)
+
+-- the address of line k, 0 where there is none
+abbrev pub addressIn : List ℕ → ℕ → ℕ
+addressIn addresses k = getD (0 ∷ addresses) k 0
 
 -- where it is named, the address of line k
 abbrev pub resolvedNumber : List ℕ → Bool → ℕ → ℕ

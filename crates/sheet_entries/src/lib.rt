@@ -1,10 +1,9 @@
 // From what a line says to the instruction that it makes.
 ghost use mathlib.Core.Path.{_≡_};
 ghost use mathlib.Core.List.{[]};
-ghost use Rattle.sheet_spec.specs.Made.{addressIn};
 ghost use Rattle.sheet_tokens.specs.Entries.{noEntries, entriesFrom};
 ghost use Rattle.sheet_entries.specs.With.{placedEntry, withValue};
-ghost use Rattle.sheet_entries.specs.Made.{namesOne, namesLines, resolvedNumber, numbersWith, madeWith};
+ghost use Rattle.sheet_entries.specs.Made.{namesOne, namesLines, addressIn, resolvedNumber, numbersWith, madeWith};
 use numeric_places::Numbers;
 use numeric_spec::Built;
 use sheet_tokens::Entries;

@@ -1,8 +1,8 @@
 -- What a line says fits the grammar. Assumes nothing.
-use Prim.Native.Nat.{ℕ}
+use Prim.Native.Nat.{ℕ, zero, suc, pred}
 use mathlib.Core.Path.{_≡_, refl}
 use mathlib.Core.Bool.{Bool}
-use mathlib.Core.List.{List, [], _∷_, _++_}
+use mathlib.Core.List.{List, [], _∷_, _++_, map}
 use native.Mathlib.Omega.{arith}
 use Rattle.base_spec.specs.Parts.{fields}
 use Rattle.sheet_spec.specs.declared.Kind.{Kind}
@@ -10,6 +10,9 @@ use Rattle.sheet_spec.specs.declared.Kind.the-variants as kind
 use Rattle.sheet_spec.specs.Grammar.{kindsOf}
 use Rattle.sheet_spec.specs.Line.{Token, literal, label, invalid, token, Parsed, says, no, with, after, lineFrom, lineOf}
 use Rattle.sheet_spec.specs.Spell.{nextKinds, SuitAll}
+use Rattle.sheet_spec.specs.Sheet.{instructionLines, sheetIn, lineAt}
+use Rattle.sheet_spec.specs.Promises.{InGrammar}
+use lib.ListN.{getD}
 use Rattle.sheet_facts.specs.Fields.{token-suits}
 
 no-says : {vs : List Token} → no ≡ says vs → ⊥
@@ -49,3 +52,19 @@ module _ (P : List Kind → List (List ℕ) → List Token → Type 0) (none : P
 
 pub line-fits : (t : List ℕ) (vs : List Token) → lineOf t ≡ says vs → SuitAll (kind.Instruction ∷ []) vs
 line-fits = by-line (λ ks fs vs. SuitAll ks vs) tt (λ k ks f fs v vs e h r. (token-suits k f v e h, r))
+
+-- ---- what the lines of a text say is in the grammar
+parsed-grammar : (t : List ℕ) → InGrammar (lineOf t)
+parsed-grammar t = go (lineOf t) refl
+  where
+    go : (p : Parsed) → lineOf t ≡ p → InGrammar p
+    go (says vs) e = line-fits t vs e
+    go no e = tt
+
+grammar-at : (ls : List (List ℕ)) (k : ℕ) → InGrammar (getD (map lineOf ls) k no)
+grammar-at [] k = tt
+grammar-at (l ∷ ls) zero = parsed-grammar l
+grammar-at (l ∷ ls) (suc k) = grammar-at ls k
+
+pub line-grammar : (text : List ℕ) (n : ℕ) → InGrammar (lineAt (sheetIn text) n)
+line-grammar text n = grammar-at (instructionLines text) (pred n)

@@ -1,4 +1,4 @@
--- Facts about the outcomes of a sheet, about what `size` says, and about lent places.
+-- Facts about the outcomes of a sheet, and about lent places.
 use Prim.Native.Nat.{ℕ, _≤_}
 use mathlib.Core.Path.{_≡_, refl}
 use mathlib.Core.Bool.{Bool, true, false, cond}
@@ -8,8 +8,6 @@ use lib.Dec.{eqb}
 use lib.IntN.{ℤ}
 use lib.ListN.{length, length-append, length-drop}
 use borrow.Author.Tests.{eqb-true, ne-eqb}
-use Rattle.encode_spec.specs.Item as item
-use Rattle.encode_spec.specs.Encode.{measuredAs}
 use Rattle.sheet_spec.specs.Translate.{Outcome, inOrder, refused, andThen, require, asOutcome, over}
 
 -- ---- outcomes
@@ -36,13 +34,6 @@ in-order-zero k number detail value e = go (eqb number 0) refl e
     go : (t : Bool) → eqb number 0 ≡ t → cond t inOrder (refused number k detail value) ≡ inOrder → number ≡ 0
     go true h e = eqb-true number 0 h
     go false h e = refused-not e
-
--- ---- what is measured where nothing is refused
-pub measured-size : (v : item.Verdict) (k : ℕ) → measuredAs v k .number ≡ 0 → measuredAs v k .size ≡ k
-measured-size item.fine k h = refl
-measured-size item.malformed k h = absurd (omega arith)
-measured-size (item.outOfRange f z) k h = absurd (omega arith)
-measured-size (item.noEncoding r) k h = absurd (omega arith)
 
 -- ---- places written in front of others
 pub over-length : (x v : List ℕ) → length x ≤ length v → length (over x v) ≡ length v

@@ -5,15 +5,15 @@ use mathlib.Core.List.{List, [], _∷_}
 use Prim.Native.Nat.{ℕ, zero, suc, _+_, _-_, _≤_}
 use native.Mathlib.Omega.{arith}
 use lib.Dec.{leb, eqb}
-use lib.ListN.{length, take, drop, length-drop}
+use lib.ListN.{length, take, drop, length-drop, length-map}
 use borrow.Author.Tests.{eq-eqb, eqb-true, leb-true}
 use Rattle.base_text.specs.Parts.{before, partEnd}
 use Rattle.base_spec.specs.Parts.{onto}
 use Rattle.base_text.specs.PartLaws.{take-before}
 use Rattle.base_spec.specs.Lines.{linesOf}
 use Rattle.base_text.specs.LinesLaws.{lines-next}
-use Rattle.sheet_spec.specs.Sheet.{feeds, last, isSheet, startLine, linesIn}
-use Rattle.sheet_spec.specs.Translate.{countIn}
+use Rattle.sheet_spec.specs.Line.{lineOf}
+use Rattle.sheet_spec.specs.Sheet.{feeds, last, isSheet, startLine, instructionLines, sheetIn, lineCount}
 use Rattle.base_facts.specs.Tests.{and-true}
 
 -- ---- what a sheet is, place by place
@@ -62,11 +62,11 @@ lines-feeds (b ∷ (d ∷ bs)) e = go (eqb b 10) (lines-feeds (d ∷ bs) e)
     go false h = onto-length b (linesOf (d ∷ bs)) (lines-some d bs) ∙ h
 
 -- the instruction lines of a sheet are one fewer than its line feeds
-pub count-feeds : (text : List ℕ) → isSheet text ≡ true → countIn text ≡ feeds text - 1
-count-feeds text e = rw (length-drop 1 (linesOf text), lines-feeds text (outline text e .final))
+pub count-feeds : (text : List ℕ) → isSheet text ≡ true → lineCount (sheetIn text) ≡ feeds text - 1
+count-feeds text e = rw (length-map (instructionLines text) lineOf, length-drop 1 (linesOf text), lines-feeds text (outline text e .final))
 
 -- at most 4,096
-pub count-most : (text : List ℕ) → isSheet text ≡ true → countIn text ≤ 4096
+pub count-most : (text : List ℕ) → isSheet text ≡ true → lineCount (sheetIn text) ≤ 4096
 count-most text e = omega (arith, count-feeds text e, outline text e .most)
 
 -- ---- the first line, and the others
@@ -78,7 +78,7 @@ start-line [] e g = go e
     go (suc n) = refl
 start-line (b ∷ bs) e g = let q : e - 0 ≡ e = omega arith in rw (lines-next (b ∷ bs) 0 e (omega arith) g, q)
 
-pub lines-begin : (text : List ℕ) (e : ℕ) → e ≡ partEnd 10 text 0 → linesIn text ≡ linesOf (drop (e + 1) text)
+pub lines-begin : (text : List ℕ) (e : ℕ) → e ≡ partEnd 10 text 0 → instructionLines text ≡ linesOf (drop (e + 1) text)
 lines-begin [] e g = go (e + 1)
   where
     go : (n : ℕ) → linesOf [] ≡ linesOf (drop n [])
@@ -91,5 +91,5 @@ start-length text =
     let q : length (before 10 text) ≡ partEnd 10 text 0 = omega arith in
     ap length (start-line text (length (before 10 text)) q ∙ take-before 10 text) ∙ q
 
-pub lines-after : (text : List ℕ) → linesIn text ≡ linesOf (drop (length (startLine text) + 1) text)
+pub lines-after : (text : List ℕ) → instructionLines text ≡ linesOf (drop (length (startLine text) + 1) text)
 lines-after text = lines-begin text (length (startLine text)) (start-length text)

@@ -1,60 +1,66 @@
--- Measured lines: each counts at least one word, as many as it lays down at any address, and the addresses are of 32 bits.
-use Prim.Native.Nat.{ℕ, suc, pred, _+_, _*_, _/_, _^_, _≤_, _<_}
-use mathlib.Core.Path.{_≡_, sym, subst}
-use mathlib.Core.Bool.{false}
-use mathlib.Core.List.{List, [], _∷_}
+-- Measured lines: each counts at least one word, and the addresses are of 32 bits.
+use Prim.Native.Nat.{ℕ, suc, pred, _+_, _*_, _^_, _≤_, _<_}
+use mathlib.Core.Path.{_≡_, ap, _∙_}
+use mathlib.Core.Bool.{Bool, true, _&&_}
+use mathlib.Core.List.{List}
 use native.Mathlib.Omega.{arith}
-use lib.ListN.{length, getD}
-use Rattle.isa.specs.declared.Instruction.{Instruction}
-use Rattle.encode_spec.specs.Encode.{itemsOf, wordsOf, refusalOf, sizeOf}
-use Rattle.sheet_spec.specs.Made.{addressIn}
-use Rattle.encode_facts.specs.Items.{words-count}
-use Rattle.sheet_facts.specs.Listing.{measured-size}
-use Rattle.sheet_spec.specs.Sheet.{linesIn, counted, total}
-use Rattle.sheet_spec.specs.Translate.{countIn, addressesIn}
-use Rattle.sheet_spec.specs.Follow.{lineAt, addressOf, countedAt}
-use Rattle.sheet_spec.specs.Promises.{MeasuredSheet}
-use Rattle.sheet_size_facts.specs.Image.{address-is, address-next, total-take}
+use lib.Dec.{leb}
+use lib.ListN.{length, take, length-map}
+use borrow.Author.Tests.{leb-true}
+use Rattle.encode_spec.specs.Encode.{sizeOf}
+use Rattle.base_facts.specs.Tests.{and-true}
+use Rattle.sheet_spec.specs.Line.{Parsed, no}
+use Rattle.sheet_spec.specs.Sheet.{total, sizedOf, sizesOf, halfOf, Sheet, sheetAt, lineAt, countAt, addressAt}
+use Rattle.sheet_spec.specs.Promises.{InGrammar, MeasuredSheet}
+use Rattle.sheet_size_facts.specs.Image.{addresses-are, total-part, total-some}
 use Rattle.sheet_size_facts.specs.Turned.{Bounded}
 use Rattle.sheet_size_facts.specs.Made.{LineMade, line-made}
-use Rattle.m68k_encode.specs.Lays.{instruction-lays, alike-count}
+use Rattle.sheet_size_facts.specs.Outcomes.{counts-length, map-at}
+use Rattle.m68k_encode.specs.Sizes.{size-least}
 
--- ---- counts of lines
-total-some : (m : ℕ) (ls : List (List ℕ)) → ((j : ℕ) → j < length ls → 1 ≤ counted m (getD ls j [])) → length ls ≤ total m ls
-total-some m [] h = omega arith
-total-some m (l ∷ ls) h = omega (arith, h 0 (omega arith), total-some m ls (λ j q. h (suc j) (omega arith)))
+-- the names of n lines
+abbrev pub upTo : ℕ → ℕ → Bool
+upTo n k = leb 1 k && leb k n
 
--- ---- half of an instruction's size is its words, at every address
-pub size-is : (i : Instruction) → sizeOf i .number ≡ 0 → (a : ℕ) → sizeOf i .size / 2 ≡ length (wordsOf i a)
-unfolding sizeOf
-size-is i h a =
-    omega (
-      arith,
-      measured-size (refusalOf false i 0) (2 * length (wordsOf i 0)) h,
-      words-count (itemsOf i 0),
-      words-count (itemsOf i a),
-      alike-count (itemsOf i a) (itemsOf i 0) (instruction-lays i .alike a 0),
-    )
+pub up-to : (n k : ℕ) → upTo n k ≡ true → (1 ≤ k) × (k ≤ n)
+up-to n k e = let b = and-true (leb 1 k) (leb k n) e in (leb-true 1 k (b .0), leb-true k n (b .1))
 
--- ---- a sheet whose lines are measured and whose end is at most 2^32
+-- the words before line n
+abbrev pub before : Sheet → ℕ → ℕ
+before s n = total (take (pred n) (s .counts))
 
-module _ (text : List ℕ) (ok : MeasuredSheet text) where
-  pub line-at : (n : ℕ) → 1 ≤ n → n ≤ countIn text → LineMade (countIn text) (lineAt text n)
-  line-at n h g = line-made (countIn text) (lineAt text n) (ok .sized n h g)
+module _ (start : ℕ) (ps : List Parsed) where
+  abbrev s : Sheet
+  s = sheetAt start ps
 
-  pub count-some : (n : ℕ) → 1 ≤ n → n ≤ countIn text → 1 ≤ countedAt text n
-  count-some n h g =
-      let l = line-at n h g in
-      omega (arith, l .counts, size-is (l .first) (l .number) 0, words-count (itemsOf (l .first) 0), instruction-lays (l .first) .least 0)
+  pub address-is : (n : ℕ) → 1 ≤ n → n ≤ length ps → addressAt s n ≡ start + 2 * before s n
+  address-is n h g = addresses-are start (s .counts) (pred n) (omega (arith, counts-length start ps))
 
-  -- names are made numbers of 32 bits
-  pub names-bounded : Bounded (countIn text) (λ k. k)
-  names-bounded k h g =
-      omega (arith, ok .ends, total-some (countIn text) (linesIn text) (λ j q. count-some (suc j) (omega arith) (omega arith)))
+  pub count-is : (n : ℕ) → 1 ≤ n → n ≤ length ps → countAt s n ≡ halfOf (sizedOf (length ps) (lineAt s n))
+  count-is n h g =
+      let m = sizedOf (length ps) no in
+      map-at halfOf (sizesOf ps) (pred n) m 0 (omega (arith, length-map ps (sizedOf (length ps)))) ∙ ap halfOf (map-at (sizedOf (length ps)) ps (pred n) no m (omega arith))
 
-  pub address-low : (n : ℕ) → 1 ≤ n → n ≤ countIn text → addressOf text n < 2 ^ 32
-  address-low n h g =
-      omega (arith, ok .ends, count-some n h g, address-next text n h g, total-take (countIn text) (linesIn text) (pred (n + 1)))
+  module _ (grammar : (n : ℕ) → InGrammar (lineAt s n)) (ok : MeasuredSheet s) where
+    pub line-at : (n : ℕ) → 1 ≤ n → n ≤ length ps → LineMade (upTo (length ps)) (lineAt s n)
+    unfolding sizedOf
+    line-at n h g = line-made (upTo (length ps)) (lineAt s n) (grammar n) (ok .sized n h g)
 
-  pub addresses-bounded : Bounded (countIn text) (addressIn (addressesIn text))
-  addresses-bounded k h g = subst (λ (x : ℕ). x < 2 ^ 32) (sym (address-is text k h g)) (address-low k h g)
+    pub count-size : (n : ℕ) (h : 1 ≤ n) (g : n ≤ length ps) → countAt s n ≡ halfOf (sizeOf (line-at n h g .first))
+    unfolding sizedOf
+    count-size n h g = count-is n h g ∙ ap halfOf (line-at n h g .measured)
+
+    pub count-some : (n : ℕ) → 1 ≤ n → n ≤ length ps → 1 ≤ countAt s n
+    count-some n h g = omega (arith, count-size n h g, size-least (line-at n h g .first) (line-at n h g .number))
+
+    -- names are made numbers of 32 bits
+    pub names-bounded : Bounded (upTo (length ps)) (λ k. k)
+    names-bounded k e =
+        let u = up-to (length ps) k e in
+        omega (arith, u .0, u .1, ok .ends, counts-length start ps, total-some (s .counts) (λ j q. count-some (suc j) (omega arith) (omega (arith, counts-length start ps))))
+
+    pub address-low : (n : ℕ) → 1 ≤ n → n ≤ length ps → addressAt s n < 2 ^ 32
+    address-low n h g = omega (arith, ok .ends, count-some n h g, address-is n h g, total-part (s .counts) (pred n) (omega (arith, counts-length start ps)))
+
+    pub addresses-bounded : Bounded (upTo (length ps)) (addressAt s)
+    addresses-bounded k e = let u = up-to (length ps) k e in address-low k (u .0) (u .1)

@@ -1,71 +1,80 @@
 -- Each line of an accepted sheet lays down as many words as it counts, so the image has the words of all lines.
-use Prim.Native.Nat.{ℕ, suc, _-_, _/_, _≤_}
-use mathlib.Core.Path.{_≡_, refl, sym, ap, _∙_, subst}
-use mathlib.Core.Bool.{true}
+use Prim.Native.Nat.{ℕ, suc, pred, _*_, _≤_, _<_}
+use mathlib.Core.Path.{_≡_, refl, sym, ap, _∙_}
 use mathlib.Core.List.{List}
 use native.Mathlib.Omega.{arith}
-use lib.ListN.{length, take, replicate}
-use lib.Seq.{take-at}
+use lib.ListN.{length, getD, length-take}
 use Rattle.isa.specs.declared.Measured.{Measured}
+use Rattle.isa.specs.declared.Encoded.{Encoded}
 use Rattle.isa.specs.declared.Instruction.{Instruction}
-use Rattle.encode_spec.specs.Item as item
-use Rattle.encode_spec.specs.Encode as encode
-use Rattle.encode_spec.specs.Encode.{wordsOf, refusalOf, encodeOf}
-use Rattle.numeric_spec.specs.declared.Built.{Built}
-use Rattle.numeric_spec.specs.declared.Built.the-variants as built
-use Rattle.sheet_spec.specs.Made.{madeOf, addressIn}
-use Rattle.sheet_spec.specs.Sheet.{encodedLine, lineEncoded, linesIn}
-use Rattle.sheet_spec.specs.Translate.{inOrder, startIn, countIn, addressesIn, needIn, imageIn, outcomeOf}
-use Rattle.sheet_spec.specs.Follow.{lineAt, addressOf, countedAt}
-use Rattle.sheet_size_facts.specs.Image.{Counts, image-length}
-use Rattle.sheet_size_facts.specs.Outcomes.{accepted}
-use Rattle.sheet_spec.specs.Promises.{AcceptedSheet, MeasuredSheet, wordsAt}
+use Rattle.encode_spec.specs.Encode.{encodeOf, sizeOf}
+use Rattle.sheet_spec.specs.Line.{Parsed, says}
+use Rattle.sheet_spec.specs.Made.{Line, Made, makes, made}
+use Rattle.sheet_spec.specs.Sheet.{Sheet, sheetAt, sheetIn, wordCount, lineAt, countAt, addresses, addressAt, resolved, encodedAs, encoded, wordsIn, image}
+use Rattle.sheet_spec.specs.Translate.{inOrder, outcomeOf}
+use Rattle.sheet_spec.specs.Promises.{InGrammar, AcceptedSheet}
+use Rattle.sheet_facts.specs.Lines.{line-grammar}
+use Rattle.sheet_size_facts.specs.Says.{line-makes}
 use Rattle.sheet_size_facts.specs.Made.{LineMade}
-use Rattle.sheet_size_facts.specs.Bounds.{size-is, line-at, addresses-bounded}
-use Rattle.m68k_encode.specs.Laws.{encoded-fine}
+use Rattle.sheet_size_facts.specs.Image.{noWords, encoded-is, Counts, words-length}
+use Rattle.sheet_size_facts.specs.Outcomes.{counts-length, places-length, lines-length, accepted}
+use Rattle.sheet_size_facts.specs.Bounds.{upTo, line-at, count-size, addresses-bounded}
+use Rattle.m68k_encode.specs.Laws.{size-law, places-law, encode-most}
 
--- ---- verdicts of the encoder
--- the words that count
-taken : (v : item.Verdict) (ws : List ℕ) → v ≡ item.fine → take (encode.encodedAs v ws .count) (encode.encodedAs v ws .words) ≡ ws
-taken v ws e = rw e (take-at ws (replicate {A = ℕ} (11 - length ws) 0) (length ws) refl)
+-- the words that count are as many as they say
+pub words-counted : (i : Instruction) (a : ℕ) → length (wordsIn (encodeOf i a)) ≡ encodeOf i a .count
+words-counted i a = omega (arith, places-law i a, encode-most i a, length-take (encodeOf i a .count) (encodeOf i a .words))
 
-module _ (text : List ℕ) (places room : ℕ) (ok : AcceptedSheet text places room) where
-  pub measured : MeasuredSheet text
-  measured = record { sized = ok .sized; ends = ok .ends }
+module _ (start : ℕ) (ps : List Parsed) (grammar : (n : ℕ) → InGrammar (lineAt (sheetAt start ps) n)) (room : ℕ) (ok : AcceptedSheet (sheetAt start ps) room) where
+  abbrev s : Sheet
+  s = sheetAt start ps
 
-  module _ (n : ℕ) (h : 1 ≤ n) (g : n ≤ countIn text) (l : LineMade (countIn text) (lineAt text n)) where
+  module _ (n : ℕ) (h : 1 ≤ n) (g : n ≤ length ps) where
+    abbrev pub at-line : LineMade (upTo (length ps)) (lineAt s n)
+    at-line = line-at start ps grammar (ok .measured) n h g
+
     -- the line's instruction, its names made addresses
     abbrev pub i : Instruction
-    i = l .made (addressIn (addressesIn text))
+    i = at-line .instruction (addressAt s)
 
-    pub made : madeOf (addressIn (addressesIn text)) (lineAt text n) ≡ built.Instruction i
-    made = l .makes (addressIn (addressesIn text)) (addresses-bounded text measured)
+    pub line : Line (resolved s) (at-line .tokens) i
+    line = at-line .line (addressAt s) (addresses-bounded start ps grammar (ok .measured))
 
-    number-zero : encodeOf i (addressOf text n) .number ≡ 0
-    unfolding lineEncoded
-    number-zero = subst (λ (b : Built). encodedLine b (addressOf text n) .number ≡ 0) made (ok .encoded n h g)
+    pub makes-it : made (resolved s) (lineAt s n) ≡ makes i
+    makes-it = ap (made (resolved s)) (at-line .parsed) ∙ line-makes (resolved s) (at-line .tokens) i line
 
-    pub is-in-order : refusalOf true i (addressOf text n) ≡ item.fine
-    unfolding encodeOf
-    is-in-order = encoded-fine (refusalOf true i (addressOf text n)) (wordsOf i (addressOf text n)) number-zero
+    pub encodes : encodeOf i (addressAt s n) .number ≡ 0
+    encodes = sym (ap (λ (m : Made). encodedAs (addressAt s n) m .number) makes-it) ∙ ok .encoded n h g
 
-    pub words-are : wordsAt text n ≡ wordsOf i (addressOf text n)
-    unfolding lineEncoded encodeOf
-    words-are =
-        ap (λ (b : Built). take (encodedLine b (addressOf text n) .count) (encodedLine b (addressOf text n) .words)) made
-        ∙ taken (refusalOf true i (addressOf text n)) (wordsOf i (addressOf text n)) is-in-order
+    pub entry-is : getD (encoded s) (pred n) noWords ≡ encodeOf i (addressAt s n)
+    entry-is =
+        encoded-is (resolved s) (addresses s) ps (places-length start ps) (pred n) (omega arith)
+        ∙ ap (encodedAs (addressAt s n)) makes-it
 
-    pub counts-are : length (wordsOf i (addressOf text n)) ≡ countedAt text n
-    counts-are =
-        let e = l .follows .size (addressIn (addressesIn text)) in
-        sym (size-is i (ap (λ (m : Measured). m .number) e ∙ l .number) (addressOf text n)) ∙ ap (λ (m : Measured). m .size / 2) e ∙ sym (l .counts)
+    pub size-is : sizeOf i ≡ sizeOf (at-line .first)
+    size-is = at-line .follows .size (addressAt s)
 
-    words-count : length (wordsAt text n) ≡ countedAt text n
-    words-count = ap length words-are ∙ counts-are
+    pub count-of : encodeOf i (addressAt s n) .count ≡ countAt s n
+    count-of =
+        omega (
+          arith,
+          count-size start ps grammar (ok .measured) n h g,
+          ap (λ (m : Measured). m .size) (size-law i (addressAt s n) encodes),
+          ap (λ (m : Measured). m .size) size-is,
+        )
 
-  pub counts : Counts (addressesIn text) (countIn text) (startIn text) (linesIn text)
-  counts j h = words-count (suc j) (omega arith) h (line-at text measured (suc j) (omega arith) h)
+  pub counts : Counts (s .counts) (encoded s)
+  counts =
+      record {
+        lines = counts-length start ps ∙ sym (lines-length start ps);
+        each = λ k h.
+            let q : suc k ≤ length ps = omega (arith, lines-length start ps) in
+            ap (λ (e : Encoded). length (wordsIn e)) (entry-is (suc k) (omega arith) q) ∙ words-counted (i (suc k) (omega arith) q) (addressAt s (suc k)) ∙ count-of (suc k) (omega arith) q;
+      }
 
--- the image has the words of all lines
-pub image-counts : (text : List ℕ) (places room : ℕ) → outcomeOf text places room ≡ inOrder → length (imageIn text) ≡ needIn text
-image-counts text places room e = image-length text (counts text places room (accepted text places room e))
+  pub image-length : length (image s) ≡ wordCount s
+  image-length = words-length (s .counts) (encoded s) counts
+
+-- the image of a text has the words of all lines
+pub image-counts : (text : List ℕ) (places room : ℕ) → outcomeOf text places room ≡ inOrder → length (image (sheetIn text)) ≡ wordCount (sheetIn text)
+image-counts text places room e = image-length (sheetIn text .start) (sheetIn text .lines) (line-grammar text) room (accepted text places room e .lines)

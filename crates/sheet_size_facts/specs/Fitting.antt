@@ -3,17 +3,19 @@ use Prim.Native.Nat.{ℕ, suc}
 use mathlib.Core.Path.{_≡_, refl}
 use mathlib.Core.Bool.{true}
 use mathlib.Core.List.{List, [], _∷_, _++_, map}
+use mathlib.Core.Option.{some}
 use lib.IntN.{pos, negsuc}
 use Rattle.numeric_spec.specs.Entry.{Entry, unsigned, signed, entryNumber, inside, Inside}
 use Rattle.sheet_spec.specs.declared.Kind.{Kind}
 use Rattle.sheet_spec.specs.declared.Kind.the-variants as kind
 use Rattle.sheet_spec.specs.Line.{Token}
-use Rattle.sheet_spec.specs.Spell.{numberAs, SuitAll, nextKinds}
+use Rattle.sheet_spec.specs.Spell.{SuitAll, nextKinds}
+use Rattle.sheet_spec.specs.Made.{numberAs}
 use Rattle.sheet_spec.specs.Told.{Mark, named, numbered, unmarked, field, saying, unaimed}
 
 -- ---- numbers and types, whatever the kinds
 abbrev Numbered : Entry → Token × Entry → Type 0
-Numbered e w = (numberAs (λ n. 0) (w .0) ≡ entryNumber (w .1)) × (inside e ≡ true → inside (w .1) ≡ true)
+Numbered e w = (numberAs (λ n. some 0) (w .0) ≡ entryNumber (w .1)) × (inside e ≡ true → inside (w .1) ≡ true)
 
 plain-number : (e : Entry) → Numbered e (unmarked e)
 plain-number (unsigned top n) = (refl, λ h. h)
@@ -25,7 +27,7 @@ field-number k m e =
     let p = plain-number e in
     elim k [ kind.Number ↦ p | kind.Target ↦ elim m [ numbered n ↦ (refl, λ h. refl) | named n ↦ (refl, λ h. refl) ] | kind.Place ↦ elim m [ numbered n ↦ p | named n ↦ (refl, λ h. refl) ] | kind.Size ↦ p | kind.TargetDirection ↦ p | kind.RegisterOperand ↦ p | kind.AddressWidth ↦ p | kind.Condition ↦ p | kind.BranchSize ↦ p | kind.ShiftDirection ↦ p | kind.Sign ↦ p | kind.BitFieldOperation ↦ p | kind.FieldValue ↦ p | kind.TrapOperand ↦ p | kind.RegisterChoice ↦ p | kind.Operand ↦ p | kind.Instruction ↦ p ]
 
-pub fields-numbers : (m : ℕ → Mark) (ks : List Kind) (es : List Entry) → Inside es → (map (numberAs (λ n. 0)) (saying m ks es) ≡ map entryNumber (unaimed m ks es)) × Inside (unaimed m ks es)
+pub fields-numbers : (m : ℕ → Mark) (ks : List Kind) (es : List Entry) → Inside es → (map (numberAs (λ n. some 0)) (saying m ks es) ≡ map entryNumber (unaimed m ks es)) × Inside (unaimed m ks es)
 fields-numbers m ks [] h = (refl, tt)
 fields-numbers m [] (e ∷ es) h = (refl, tt)
 fields-numbers m (k ∷ ks) (e ∷ es) h =

@@ -24,16 +24,16 @@ quiet (either t) = false
 quiet stop = true
 
 -- so, or to a line that is named
-pub data Goes (n : ℕ) (y : (ℕ → ℕ) → Instruction) : Type 0 where
-  quietly : ((f : ℕ → ℕ) → quiet (nextOf (y f)) ≡ true) → Goes n y
-  aimed : Aimed n (λ f. target (nextOf (y f))) → Goes n y
+pub data Goes (d : ℕ → Bool) (y : (ℕ → ℕ) → Instruction) : Type 0 where
+  quietly : ((f : ℕ → ℕ) → quiet (nextOf (y f)) ≡ true) → Goes d y
+  aimed : Aimed d (λ f. target (nextOf (y f))) → Goes d y
 
 -- instructions for i, whatever names are made: of its size, their plain forms go alike, and they are read between even addresses
-pub record Follows (n : ℕ) (i : Instruction) (y : (ℕ → ℕ) → Instruction) : Type 0 where
+pub record Follows (d : ℕ → Bool) (i : Instruction) (y : (ℕ → ℕ) → Instruction) : Type 0 where
   pub size : (f : ℕ → ℕ) → sizeOf (y f) ≡ sizeOf i
   pub plain : (f : ℕ → ℕ) → nextOf (plain.plain (y f)) ≡ nextOf (y f)
   pub read : (f : ℕ → ℕ) (a : ℕ) → a % 2 ≡ 0 → target (nextOf (y f)) % 2 ≡ 0 → leftOut (y f) a ≡ false
-  pub goes : Goes n y
+  pub goes : Goes d y
 
 -- between even addresses no distance is -1
 even-not : (x : ℕ) → x < 2 ^ 32 → x % 2 ≡ 0 → isMinusOne (signed32 x) ≡ false

@@ -3,7 +3,6 @@ pub mod Turned
 pub mod Fitting
 pub mod Sorts
 pub mod Rows
-pub mod Sizes
 pub mod Lawful
 pub mod Renamed
 pub mod Made

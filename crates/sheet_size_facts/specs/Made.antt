@@ -1,82 +1,127 @@
--- A line of an accepted sheet, whatever its names are made.
-use Prim.Native.Nat.{ℕ, _/_}
+-- A line that `size` accepts, whatever its names are made.
+use Prim.Native.Nat.{ℕ, _^_, _<_}
 use mathlib.Core.Path.{_≡_, refl, sym, ap, _∙_, subst}
-use mathlib.Core.Bool.{Bool, true, false}
+use mathlib.Core.Bool.{Bool, true, false, cond, _&&_}
 use mathlib.Core.List.{List, [], _∷_, map, append-nil}
+use mathlib.Core.Option.{Option, none, some, Option·getD}
 use native.Mathlib.Omega.{arith}
 use Rattle.isa.specs.declared.Instruction.{Instruction}
 use Rattle.isa.specs.declared.Measured.{Measured}
 use Rattle.encode_spec.specs.Encode.{sizeOf}
 use Rattle.numeric_spec.specs.Entry.{Inside}
-use Rattle.numeric_spec.specs.declared.Built.{Built}
-use Rattle.numeric_spec.specs.declared.Built.the-variants as built
-use Rattle.numeric_spec.specs.Build.{builtOf}
 use Rattle.numeric_spec.specs.Form.{formOf, numbersOf}
-use Rattle.numeric_facts.specs.Built.{build-complete}
 use Rattle.sheet_spec.specs.declared.Kind.the-variants as kind
-use Rattle.sheet_spec.specs.Line.{Token, says, lineOf}
-use Rattle.sheet_spec.specs.Spell.{numberAs, SuitAll}
-use Rattle.sheet_spec.specs.Made.{madeAs, madeOf, namesAll, namesIn}
-use Rattle.sheet_size_facts.specs.Says.{entries, says-line}
-use Rattle.sheet_spec.specs.Sheet.{sizedAs, sizedOf, counted}
-use Rattle.sheet_size_facts.specs.Turned.{Spelt, Bounded, Turned}
-use Rattle.sheet_size_facts.specs.Lawful.{Follows}
+use Rattle.sheet_spec.specs.Line.{Token, literal, label, invalid, Parsed, says}
+use Rattle.sheet_spec.specs.Spell.{SuitAll}
+use Rattle.sheet_spec.specs.Made.{numberAs, isSome, names, namesAll, Line, Made, makes, turnedBack, made}
+use Rattle.sheet_spec.specs.Sheet.{sizedAs}
+use Rattle.sheet_spec.specs.Promises.{InGrammar}
+use Rattle.sheet_size_facts.specs.Says.{entries, line-says, made-back}
+use Rattle.sheet_size_facts.specs.Turned.{every, given, Spelt, Bounded, Turned}
+use Rattle.sheet_size_facts.specs.Lawful.{Follows, Goes, quietly, aimed}
 use Rattle.sheet_size_facts.specs.Renamed.{instruction-turned}
 
--- ---- what `sizedOf` accepts
-record SizedLine (b : Built) (named : Bool) : Type 0 where
-  instruction : Instruction
-  is : b ≡ built.Instruction instruction
-  names : named ≡ true
-  number : sizeOf instruction .number ≡ 0
-  measured : sizedAs b named ≡ sizeOf instruction
+-- ---- names of d, made what g says
 
-sized-is : (b : Built) (named : Bool) → sizedAs b named .number ≡ 0 → SizedLine b named
-sized-is (built.Instruction i) true h = record { instruction = i; is = refl; names = refl; number = h; measured = refl }
-sized-is (built.Instruction i) false h = absurd (omega arith)
-sized-is built.NotInForm named h = absurd (omega arith)
+-- all names made numbers, those outside d 0
+abbrev zeroed : (ℕ → Bool) → (ℕ → ℕ) → ℕ → ℕ
+zeroed d g k = Option·getD (given d g k) 0
+
+numbers-given : (d : ℕ → Bool) (g : ℕ → ℕ) (vs : List Token) → map (numberAs (given d g)) vs ≡ map (numberAs (every (zeroed d g))) vs
+numbers-given d g [] = refl
+numbers-given d g (literal true n ∷ vs) = λ i. numberAs (given d g) (literal true n) ∷ numbers-given d g vs i
+numbers-given d g (literal false n ∷ vs) = λ i. numberAs (given d g) (literal false n) ∷ numbers-given d g vs i
+numbers-given d g (label n ∷ vs) = λ i. numberAs (given d g) (label n) ∷ numbers-given d g vs i
+numbers-given d g (invalid ∷ vs) = λ i. numberAs (given d g) invalid ∷ numbers-given d g vs i
+
+-- which names there are does not depend on what they are made
+some-either : (b : Bool) (m n : ℕ) → isSome (cond b (some m) none) ≡ isSome (cond b (some n) none)
+some-either true m n = refl
+some-either false m n = refl
+
+names-either : (d : ℕ → Bool) (f g : ℕ → ℕ) (v : Token) → names (given d f) v ≡ names (given d g) v
+names-either d f g (literal s n) = refl
+names-either d f g (label n) = some-either (d n) (f n) (g n)
+names-either d f g invalid = refl
+
+pub names-all : (d : ℕ → Bool) (f g : ℕ → ℕ) (vs : List Token) → namesAll (given d f) vs ≡ namesAll (given d g) vs
+names-all d f g [] = refl
+names-all d f g (v ∷ vs) = λ i. names-either d f g v i && names-all d f g vs i
+
+zeroed-at : (d : ℕ → Bool) (g : ℕ → ℕ) (m : ℕ) → d m ≡ true → zeroed d g m ≡ g m
+zeroed-at d g m e = ap (λ (b : Bool). Option·getD (cond b (some (g m)) none) 0) e
+
+zeroed-bounded : (d : ℕ → Bool) (g : ℕ → ℕ) → Bounded d g → Bounded d (zeroed d g)
+zeroed-bounded d g b k h = subst (λ (x : ℕ). x < 2 ^ 32) (sym (zeroed-at d g k h)) (b k h)
+
+zeroed-goes : (d : ℕ → Bool) (y : (ℕ → ℕ) → Instruction) → Goes d y → Goes d (λ g. y (zeroed d g))
+zeroed-goes d y (quietly q) = quietly (λ g. q (zeroed d g))
+zeroed-goes d y (aimed (m, p, e)) = aimed (m, p, λ g. e (zeroed d g) ∙ zeroed-at d g m p)
+
+zeroed-follows : (d : ℕ → Bool) (i : Instruction) (y : (ℕ → ℕ) → Instruction) → Follows d i y → Follows d i (λ g. y (zeroed d g))
+zeroed-follows d i y w =
+    record {
+      size = λ g. w .size (zeroed d g);
+      plain = λ g. w .plain (zeroed d g);
+      read = λ g. w .read (zeroed d g);
+      goes = zeroed-goes d y (w .goes);
+    }
+
+-- ---- the line
+pub record LineMade (d : ℕ → Bool) (p : Parsed) : Type 0 where
+  pub tokens : List Token
+  pub parsed : p ≡ says tokens
+  pub first : Instruction
+  pub measured : sizedAs (made (given d (λ k. 0)) p) ≡ sizeOf first
+  pub number : sizeOf first .number ≡ 0
+  pub instruction : (ℕ → ℕ) → Instruction
+  pub follows : Follows d first instruction
+  pub line : (g : ℕ → ℕ) → Bounded d g → Line (given d g) tokens (instruction g)
 
 empty-spelt : (f : ℕ → ℕ) (vs : List Token) → SuitAll [] vs → Spelt f vs []
 empty-spelt f [] h = refl
 empty-spelt f (v ∷ vs) h = absurd h
 
--- ---- the line
-pub record LineMade (n : ℕ) (line : List ℕ) : Type 0 where
-  pub first : Instruction
-  pub number : sizeOf first .number ≡ 0
-  pub counts : counted n line ≡ sizeOf first .size / 2
-  pub made : (ℕ → ℕ) → Instruction
-  pub follows : Follows n first made
-  pub makes : (f : ℕ → ℕ) → Bounded n f → madeOf f line ≡ built.Instruction (made f)
-  pub inside : (f : ℕ → ℕ) → Bounded n f → Inside (entries (made f))
+module _ (d : ℕ → Bool) (i : Instruction) (vs : List Token) (l : Line (given d (λ k. 0)) vs i) where
+  abbrev Turn : Type 0
+  Turn = Turned d Instruction entries (Follows d i) [] vs []
 
-module _ (n : ℕ) (line : List ℕ) (i : Instruction) (vs : List Token) (l : lineOf line ≡ says vs) where
-  made-as : (f : ℕ → ℕ) (j : Instruction) → Spelt f vs (entries j) → Inside (entries j) → madeOf f line ≡ built.Instruction j
-  unfolding madeOf formOf numbersOf
-  made-as f j s g = ap (madeAs f) l ∙ ap builtOf s ∙ build-complete j g
+  zero-zero : (b : Bool) → _≡_ {A = ℕ} (Option·getD (cond b (some 0) none) 0) 0
+  zero-zero true = refl
+  zero-zero false = refl
 
-  line-turned : SuitAll (kind.Instruction ∷ []) vs → namesAll n vs ≡ true → map (numberAs (λ k. 0)) vs ≡ numbersOf i → Inside (formOf i) → Turned n Instruction entries (Follows n i) [] vs []
+  zeros : Spelt (λ k. 0) vs (entries i)
   unfolding numbersOf formOf
-  line-turned h g e s = instruction-turned i vs (record { fits = h; named = g; zeros = subst (Spelt (λ k. 0) vs) (sym (append-nil (entries i))) e }) s
+  zeros = sym (ap (λ (f : ℕ → ℕ). map (numberAs (every f)) vs) (λ j k. zero-zero (d k) j)) ∙ sym (numbers-given d (λ k. 0) vs) ∙ l .numbers
 
-  turned-spelt : (t : Turned n Instruction entries (Follows n i) [] vs []) (f : ℕ → ℕ) → Bounded n f → Spelt f vs (entries (t .made f))
-  turned-spelt t f b = subst (Spelt f vs) (append-nil (entries (t .made f))) (t .spells f b [] (empty-spelt f (t .rest) (t .left .fits)))
+  line-turned : Turn
+  unfolding formOf
+  line-turned = instruction-turned i vs (record { fits = l .grammar; named = l .named; zeros = subst (Spelt (λ k. 0) vs) (sym (append-nil (entries i))) zeros }) (l .inside)
 
-pub line-made : (n : ℕ) (line : List ℕ) → sizedOf n line .number ≡ 0 → LineMade n line
-unfolding sizedOf counted
-line-made n line h =
-    let s = sized-is (madeOf (λ k. 0) line) (namesIn n (lineOf line)) h in
-    let i = s .instruction in
-    let d = says-line line i (s .is) in
-    let vs = d .0 in
-    let l : lineOf line ≡ says vs = d .1 in
-    let t = line-turned n line i vs l (d .2 .grammar) (sym (ap (namesIn n) l) ∙ s .names) (d .2 .numbers) (d .2 .inside) in
-    record {
-      first = i;
-      number = s .number;
-      counts = ap (λ (m : Measured). m .size / 2) (s .measured);
-      made = t .made;
-      follows = t .good;
-      makes = λ f b. made-as n line i vs l f (t .made f) (turned-spelt n line i vs l t f b) (t .stays f b);
-      inside = t .stays;
-    }
+  line-again : (g : ℕ → ℕ) → Bounded d g → Line (given d g) vs (line-turned .made (zeroed d g))
+  unfolding numbersOf formOf
+  line-again g b =
+      let t = line-turned in
+      let h = zeroed-bounded d g b in
+      let f = zeroed d g in
+      let spelt = subst (Spelt f vs) (append-nil (entries (t .made f))) (t .spells f h [] (empty-spelt f (t .rest) (t .left .fits))) in
+      record { grammar = l .grammar; named = names-all d g (λ k. 0) vs ∙ l .named; numbers = numbers-given d g vs ∙ spelt; inside = t .stays f h }
+
+pub line-made : (d : ℕ → Bool) (p : Parsed) → InGrammar p → sizedAs (made (given d (λ k. 0)) p) .number ≡ 0 → LineMade d p
+line-made d p g h = go (made (given d (λ k. 0)) p) refl h
+  where
+    go : (m : Made) → made (given d (λ k. 0)) p ≡ m → sizedAs m .number ≡ 0 → LineMade d p
+    go (makes i) e n =
+        let s = line-says (given d (λ k. 0)) p i g e in
+        let t = line-turned d i (s .0) (s .2) in
+        record {
+          tokens = s .0;
+          parsed = s .1;
+          first = i;
+          measured = ap sizedAs e;
+          number = n;
+          instruction = λ f. t .made (zeroed d f);
+          follows = zeroed-follows d i (t .made) (t .good);
+          line = λ f b. line-again d i (s .0) (s .2) f b;
+        }
+    go (turnedBack k) e n = absurd (omega (arith, made-back (given d (λ k. 0)) p k e))

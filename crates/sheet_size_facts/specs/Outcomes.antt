@@ -1,61 +1,89 @@
 -- What an accepted sheet is: every place of 01's table in order.
-use Prim.Native.Nat.{ℕ, zero, suc, pred, _+_, _*_, _%_, _^_, _<_}
-use mathlib.Core.Path.{_≡_, refl, sym, ap, _∙_}
-use mathlib.Core.List.{List, [], _∷_}
+use Prim.Native.Nat.{ℕ, zero, suc, pred, _+_, _%_, _^_, _≤_, _<_}
+use mathlib.Core.Path.{_≡_, refl, sym, ap, _∙_, subst}
+use mathlib.Core.List.{List, [], _∷_, map}
 use native.Mathlib.Omega.{arith}
-use native.Mathlib.Nat.{add-zero}
 use lib.Dec.{leb, eqb}
-use lib.ListN.{length, take, getD}
+use lib.ListN.{length, getD, length-map}
 use borrow.Author.Tests.{eqb-true, leb-true}
-use Rattle.sheet_spec.specs.Sheet.{isSheet, startLine, linesIn, Start, at, notInForm, startOf, sizedOf, counted, total, lineEncoded}
-use Rattle.sheet_spec.specs.Translate.{inOrder, require, startOutcome, startNumber, asOutcome, sizesOutcome, rangesOutcome, startIn, countIn, addressesIn, needIn, outcomeOf}
-use Rattle.sheet_spec.specs.Promises.{AcceptedSheet}
+use Rattle.isa.specs.declared.Measured.{Measured}
+use Rattle.isa.specs.declared.Encoded.{Encoded}
+use Rattle.sheet_spec.specs.Line.{Parsed, no}
+use Rattle.sheet_spec.specs.Sheet.{isSheet, startLine, Start, at, notInForm, startOf, startNumber, sizedOf, sizesOf, halfOf, Sheet, sheetAt, sheetIn, lineCount, wordCount, end, lineAt, addressAt, addresses, resolved, encoded}
+use Rattle.sheet_spec.specs.Translate.{Outcome, inOrder, andThen, require, inTurn, sizeOutcome, encodeOutcome, startOutcome, opening, sizing, closing, encoding, sheetOutcome, outcomeOf}
+use Rattle.sheet_spec.specs.Promises.{MeasuredSheet, AcceptedSheet, AcceptedText}
 use Rattle.sheet_facts.specs.SheetLaws.{outline, count-feeds}
 use Rattle.sheet_facts.specs.Listing.{refused-not, both-in-order, require-true, in-order-zero}
-use Rattle.sheet_size_facts.specs.Image.{further}
+use Rattle.sheet_size_facts.specs.Image.{addresses-length, noWords, encoded-length, encoded-is}
 
 -- ---- START
 start-even : (s : Start) → startOutcome s ≡ inOrder → (s ≡ at (startNumber s)) × (startNumber s % 2 ≡ 0)
 start-even (at n) e = (refl, eqb-true (n % 2) 0 (require-true (eqb (n % 2) 0) 9 e))
 start-even notInForm e = refused-not e
 
--- ---- each line
-sizes-in-order : (n k : ℕ) (ls : List (List ℕ)) → sizesOutcome n k ls ≡ inOrder → (j : ℕ) → j < length ls → sizedOf n (getD ls j []) .number ≡ 0
-sizes-in-order n k [] e j h = absurd (omega arith)
-sizes-in-order n k (l ∷ ls) e zero h = in-order-zero k _ (sizedOf n l .detail) (sizedOf n l .value) (both-in-order _ (sizesOutcome n (suc k) ls) e .0)
-sizes-in-order n k (l ∷ ls) e (suc j) h = sizes-in-order n (suc k) ls (both-in-order (asOutcome k (sizedOf n l .number) (sizedOf n l .detail) (sizedOf n l .value)) _ e .1) j (omega arith)
+-- ---- each line in turn
+pub each-in-order : {A : Type 0} (says : ℕ → A → Outcome) (k : ℕ) (xs : List A) → inTurn says k xs ≡ inOrder → (d : A) (j : ℕ) → j < length xs → says (k + j) (getD xs j d) ≡ inOrder
+each-in-order says k [] e d j h = absurd (omega arith)
+each-in-order says k (x ∷ xs) e d zero h =
+    let z : k + 0 ≡ k = omega arith in
+    ap (λ (n : ℕ). says n x) z ∙ both-in-order (says k x) (inTurn says (suc k) xs) e .0
+each-in-order says k (x ∷ xs) e d (suc j) h =
+    let z : k + suc j ≡ suc k + j = omega arith in
+    ap (λ (n : ℕ). says n (getD xs j d)) z ∙ each-in-order says (suc k) xs (both-in-order (says k x) (inTurn says (suc k) xs) e .1) d j (omega arith)
 
-ranges-in-order : (A : List ℕ) (n k a : ℕ) (ls : List (List ℕ)) → rangesOutcome A n k a ls ≡ inOrder
-    → (j : ℕ) → j < length ls → lineEncoded A (getD ls j []) (a + 2 * total n (take j ls)) .number ≡ 0
-ranges-in-order A n k a [] e j h = absurd (omega arith)
-ranges-in-order A n k a (l ∷ ls) e zero h =
-    ap (λ (x : ℕ). lineEncoded A l x .number) (add-zero a)
-    ∙ in-order-zero k _ (lineEncoded A l a .detail) (lineEncoded A l a .value) (both-in-order _ (rangesOutcome A n (suc k) (a + 2 * counted n l) ls) e .0)
-ranges-in-order A n k a (l ∷ ls) e (suc j) h =
-    ap (λ (x : ℕ). lineEncoded A (getD ls j []) x .number) (sym (further a (counted n l) (total n (take j ls))))
-    ∙ ranges-in-order A n (suc k) (a + 2 * counted n l) ls (both-in-order (asOutcome k (lineEncoded A l a .number) (lineEncoded A l a .detail) (lineEncoded A l a .value)) _ e .1) j (omega arith)
+pub map-at : {A B : Type 0} (f : A → B) (xs : List A) (k : ℕ) (a : A) (b : B) → k < length xs → getD (map f xs) k b ≡ f (getD xs k a)
+map-at f [] k a b h = absurd (omega arith)
+map-at f (x ∷ xs) zero a b h = refl
+map-at f (x ∷ xs) (suc k) a b h = map-at f xs k a b (omega arith)
 
--- ---- an accepted sheet
+-- ---- a start and lines
+module _ (start : ℕ) (ps : List Parsed) where
+  abbrev s : Sheet
+  s = sheetAt start ps
 
-pub accepted : (text : List ℕ) (places room : ℕ) → outcomeOf text places room ≡ inOrder → AcceptedSheet text places room
+  pub counts-length : length (s .counts) ≡ length ps
+  counts-length = length-map (sizesOf ps) halfOf ∙ length-map ps (sizedOf (length ps))
+
+  pub places-length : length (addresses s) ≡ length ps
+  places-length = addresses-length start (s .counts) ∙ counts-length
+
+  pub lines-length : length (encoded s) ≡ length ps
+  lines-length = encoded-length (resolved s) (addresses s) ps places-length
+
+  sizing-each : sizing ps ≡ inOrder → (n : ℕ) → 1 ≤ n → n ≤ length ps → sizedOf (length ps) (lineAt s n) .number ≡ 0
+  sizing-each e n h g =
+      let m = each-in-order sizeOutcome 1 (sizesOf ps) e (sizedOf (length ps) no) (pred n) (omega (arith, length-map ps (sizedOf (length ps)))) in
+      let z = in-order-zero _ (getD (sizesOf ps) (pred n) (sizedOf (length ps) no) .number) _ _ m in
+      sym (ap (λ (x : Measured). x .number) (map-at (sizedOf (length ps)) ps (pred n) no (sizedOf (length ps) no) (omega arith))) ∙ z
+
+  encoding-each : encoding s ≡ inOrder → (n : ℕ) → 1 ≤ n → n ≤ length ps → getD (encoded s) (pred n) noWords .number ≡ 0
+  encoding-each e n h g = in-order-zero _ (getD (encoded s) (pred n) noWords .number) _ _ (each-in-order encodeOutcome 1 (encoded s) e noWords (pred n) (omega (arith, lines-length)))
+
+  pub accepted-sheet : (room : ℕ) → sheetOutcome s room ≡ inOrder → AcceptedSheet s room
+  accepted-sheet room e =
+      let a = both-in-order (sizing ps) _ e in
+      let b = both-in-order (closing s room) _ (a .1) in
+      let c = both-in-order (require (leb (end s) (2 ^ 32)) 9) _ (b .0) in
+      record {
+        measured = record { sized = sizing-each (a .0); ends = leb-true (end s) (2 ^ 32) (require-true _ 9 (c .0)) };
+        image = leb-true (wordCount s) room (require-true _ 11 (c .1));
+        encoded = λ n h g. sym (ap (λ (x : Encoded). x .number) (encoded-is (resolved s) (addresses s) ps places-length (pred n) (omega arith))) ∙ encoding-each (b .1) n h g;
+      }
+
+-- ---- a text
+pub accepted : (text : List ℕ) (places room : ℕ) → outcomeOf text places room ≡ inOrder → AcceptedText text places room
 unfolding outcomeOf
 accepted text places room e =
-    let a = both-in-order (require (isSheet text) 10) _ e in
+    let o = both-in-order (opening text places) _ e in
+    let a = both-in-order (require (isSheet text) 10) _ (o .0) in
     let b = both-in-order (startOutcome (startOf (startLine text))) _ (a .1) in
-    let c = both-in-order (require (leb (countIn text) places) 11) _ (b .1) in
-    let d = both-in-order (sizesOutcome (countIn text) 1 (linesIn text)) _ (c .1) in
-    let f = both-in-order (require (leb (startIn text + 2 * needIn text) (2 ^ 32)) 9) _ (d .1) in
-    let g = both-in-order (require (leb (needIn text) room) 11) _ (f .1) in
-    let s = require-true (isSheet text) 10 (a .0) in
+    let h = require-true (isSheet text) 10 (a .0) in
     let t = start-even (startOf (startLine text)) (b .0) in
     record {
-      sheet = s;
-      lines-some = omega (arith, count-feeds text s, outline text s .least);
+      sheet = h;
+      lines-some = omega (arith, count-feeds text h, outline text h .least);
       start = t .0;
       even = t .1;
-      scratch = leb-true (countIn text) places (require-true _ 11 (c .0));
-      sized = λ n h k. sizes-in-order (countIn text) 1 (linesIn text) (d .0) (pred n) (omega arith);
-      ends = leb-true (startIn text + 2 * needIn text) (2 ^ 32) (require-true _ 9 (f .0));
-      image = leb-true (needIn text) room (require-true _ 11 (g .0));
-      encoded = λ n h k. ranges-in-order (addressesIn text) (countIn text) 1 (startIn text) (linesIn text) (g .1) (pred n) (omega arith);
+      scratch = leb-true (lineCount (sheetIn text)) places (require-true _ 11 (b .1));
+      lines = accepted-sheet (sheetIn text .start) (sheetIn text .lines) room (o .1);
     }

@@ -3,6 +3,7 @@ use Prim.Native.Nat.{ℕ, _%_, _<_}
 use mathlib.Core.Path.{_≡_, refl, sym, ap, _∙_, subst}
 use mathlib.Core.Bool.{Bool, true, false}
 use mathlib.Core.List.{List, [], _∷_, _++_, map}
+use mathlib.Core.Option.{some}
 use native.Mathlib.Omega.{arith}
 use lib.ListN.{length, getD}
 use lib.IntN.{ℤ, pos}
@@ -42,8 +43,8 @@ use Rattle.sheet_size_facts.specs.Turned.{Input, Turned}
 use Rattle.sheet_size_facts.specs.Sorts.{chosen}
 use Rattle.sheet_size_facts.specs.Rows.{Row, row}
 use Rattle.sheet_spec.specs.Told.{HasLine}
-use Rattle.sheet_size_facts.specs.Sizes as sizes
-use Rattle.sheet_size_facts.specs.Sizes.{bare-size, aim-size}
+use Rattle.m68k_encode.specs.Sizes as sizes
+use Rattle.m68k_encode.specs.Sizes.{bare-size, aim-size}
 use Rattle.sheet_size_facts.specs.Lawful.{branch-stays, quiet, Goes, quietly, aimed, Follows}
 
 -- what a line's first field says is an instruction's name
@@ -53,14 +54,14 @@ named-listed i h = (
   λ e. let z : 0 < 0 = subst (λ (j : Instruction). 0 < length (getD (map bytes (namesOf kind.Instruction)) (placeOf j) [])) e h in absurd (omega arith),
 )
 
-listed : {n : ℕ} (i : Instruction) (vs : List Token) → Input n (kind.Instruction ∷ []) vs (entries i ++ []) → HasLine i
+listed : {d : ℕ → Bool} (i : Instruction) (vs : List Token) → Input d (kind.Instruction ∷ []) vs (entries i ++ []) → HasLine i
 listed i [] h = absurd (h .fits)
-listed i (v ∷ vs) h = named-listed i (place-named v (placeOf i) (h .fits .0) (ap (λ (zs : List ℤ). getD zs 0 (pos 0)) (h .zeros)))
+listed i (v ∷ vs) h = named-listed i (place-named (λ k. some 0) v (placeOf i) (h .fits .0) (ap (λ (zs : List ℤ). getD zs 0 (pos 0)) (h .zeros)))
 
 -- ---- the instructions of a row
-module _ {n : ℕ} {i : Instruction} (r : Row n i) where
+module _ {d : ℕ → Bool} {i : Instruction} (r : Row d i) where
   abbrev Made : Instruction → Type 0
-  Made j = (vs : List Token) → Input n (kind.Instruction ∷ []) vs (entries j ++ []) → Inside (entries j) → Turned n Instruction entries (Follows n j) [] vs []
+  Made j = (vs : List Token) → Input d (kind.Instruction ∷ []) vs (entries j ++ []) → Inside (entries j) → Turned d Instruction entries (Follows d j) [] vs []
 
   -- their size without targets
   abbrev Kept : Type 0
@@ -72,7 +73,7 @@ module _ {n : ℕ} {i : Instruction} (r : Row n i) where
 
   -- where they go
   abbrev Going : Type 0
-  Going = HasLine (r .con (r .z)) → (y : (ℕ → ℕ) → r .Z) → r .sort .Aims y → Goes n (λ f. r .con (y f))
+  Going = HasLine (r .con (r .z)) → (y : (ℕ → ℕ) → r .Z) → r .sort .Aims y → Goes d (λ f. r .con (y f))
 
   made : Read → Going → Kept → Made (r .con (r .z))
   made read goes kept vs h g =
@@ -88,7 +89,7 @@ module _ {n : ℕ} {i : Instruction} (r : Row n i) where
           read = λ f. read l (y f) .1;
           goes = goes l y a;
         },
-      )) [] vs [] (subst (λ (es : List Entry). Input n (kind.Instruction ∷ []) vs (es ++ [])) (form (r .z)) h) (subst Inside (form (r .z)) g)
+      )) [] vs [] (subst (λ (es : List Entry). Input d (kind.Instruction ∷ []) vs (es ++ [])) (form (r .z)) h) (subst Inside (form (r .z)) g)
 
   made-row : Read → Going → Kept → Made i
   made-row read goes kept = subst Made (r .is) (made read goes kept)
@@ -97,7 +98,7 @@ module _ {n : ℕ} {i : Instruction} (r : Row n i) where
   still : (HasLine (r .con (r .z)) → (w : r .Z) → _≡_ {A = Next × (ℕ → Bool) × Bool} (nextOf (plain.plain (r .con w)), leftOut (r .con w), quiet (nextOf (r .con w))) (nextOf (r .con w), λ a. false, true)) → Kept → Made i
   still law = made-row (λ l w. (ap (λ t. t .0) (law l w), λ a e t. ap (λ t. t .1 a) (law l w))) (λ l y a. quietly (λ f. ap (λ t. t .2) (law l (y f))))
 
-pub instruction-turned : {n : ℕ} (i : Instruction) (vs : List Token) → Input n (kind.Instruction ∷ []) vs (entries i ++ []) → Inside (entries i) → Turned n Instruction entries (Follows n i) [] vs []
+pub instruction-turned : {d : ℕ → Bool} (i : Instruction) (vs : List Token) → Input d (kind.Instruction ∷ []) vs (entries i ++ []) → Inside (entries i) → Turned d Instruction entries (Follows d i) [] vs []
 instruction-turned (IntoRegister op o r s) =
     still (row (IntoRegister op o r s))
     (λ l w. elim op [ ADDA ↦ refl | SUBA ↦ refl | CMPA ↦ refl | MOVEA ↦ refl | CMP ↦ refl | CHK2 ↦ refl | CMP2 ↦ refl ]) (λ w. bare-size sizes.into-register _)

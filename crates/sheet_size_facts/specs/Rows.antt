@@ -50,83 +50,70 @@ use Rattle.sheet_spec.specs.declared.Kind.{Kind}
 use Rattle.sheet_spec.specs.declared.Kind.the-variants as kind
 use Rattle.sheet_spec.specs.Grammar.{kindsOf}
 use Rattle.sheet_spec.specs.Told.{HasLine}
+use Rattle.m68k_encode.specs.Sizes.{bare}
 use Rattle.sheet_size_facts.specs.Says.{entries}
 use Rattle.sheet_size_facts.specs.Sorts.{Sort, none, _⊗_, number, integer, target, place, isNamed, Enum, variant, enum, choice}
 
-abbrev byte : {n : ℕ} → Sort n ℕ
+abbrev byte : {d : ℕ → Bool} → Sort d ℕ
 byte = number (2 ^ 8 - 1) refl (λ k. k)
 
-abbrev word : {n : ℕ} → Sort n ℕ
+abbrev word : {d : ℕ → Bool} → Sort d ℕ
 word = number (2 ^ 16 - 1) refl (λ k. k)
 
-abbrev long : {n : ℕ} → Sort n ℕ
+abbrev long : {d : ℕ → Bool} → Sort d ℕ
 long = number (2 ^ 32 - 1) refl (λ k. k)
 
-abbrev flag : {n : ℕ} → Sort n Bool
+abbrev flag : {d : ℕ → Bool} → Sort d Bool
 flag = number 1 refl flagPlace
 
-abbrev size : {n : ℕ} → Sort n Size
+abbrev size : {d : ℕ → Bool} → Sort d Size
 size = choice kind.Size (λ m. refl) (λ v q. q) 2 sizePlace refl (λ m. (λ h. h, λ k top. refl))
 
-abbrev direction : {n : ℕ} → Sort n TargetDirection
+abbrev direction : {d : ℕ → Bool} → Sort d TargetDirection
 direction = choice kind.TargetDirection (λ m. refl) (λ v q. q) 1 targetDirectionPlace refl (λ m. (λ h. h, λ k top. refl))
 
-abbrev width : {n : ℕ} → Sort n AddressWidth
+abbrev width : {d : ℕ → Bool} → Sort d AddressWidth
 width = choice kind.AddressWidth (λ m. refl) (λ v q. q) 1 addressWidthPlace refl (λ m. (λ h. h, λ k top. refl))
 
-abbrev condition : {n : ℕ} → Sort n Condition
+abbrev condition : {d : ℕ → Bool} → Sort d Condition
 condition = choice kind.Condition (λ m. refl) (λ v q. q) 15 conditionPlace refl (λ m. (λ h. h, λ k top. refl))
 
-abbrev reach : {n : ℕ} → Sort n BranchSize
+abbrev reach : {d : ℕ → Bool} → Sort d BranchSize
 reach = choice kind.BranchSize (λ m. refl) (λ v q. q) 2 branchSizePlace refl (λ m. (λ h. h, λ k top. refl))
 
-abbrev side : {n : ℕ} → Sort n ShiftDirection
+abbrev side : {d : ℕ → Bool} → Sort d ShiftDirection
 side = choice kind.ShiftDirection (λ m. refl) (λ v q. q) 1 shiftDirectionPlace refl (λ m. (λ h. h, λ k top. refl))
 
-abbrev sign : {n : ℕ} → Sort n Sign
+abbrev sign : {d : ℕ → Bool} → Sort d Sign
 sign = choice kind.Sign (λ m. refl) (λ v q. q) 1 signPlace refl (λ m. (λ h. h, λ k top. refl))
 
-abbrev action : {n : ℕ} → Sort n BitFieldOperation
+abbrev action : {d : ℕ → Bool} → Sort d BitFieldOperation
 action = choice kind.BitFieldOperation (λ m. refl) (λ v q. q) 7 bitFieldOperationPlace refl (λ m. (λ h. h, λ k top. refl))
 
-abbrev register : {n : ℕ} → Sort n RegisterOperand
+abbrev register : {d : ℕ → Bool} → Sort d RegisterOperand
 register =
     let e : Enum RegisterOperand = record { form = registerForm; kind = kind.RegisterOperand; suits = λ v q. q; names = λ m. (λ h. h, λ k top. refl); top = 1; bare = λ x. x } in
     enum e (λ x. elim x [ Address m ↦ variant e 0 (λ h. refl) byte Address m (λ w. refl) | Data m ↦ variant e 1 (λ h. refl) byte Data m (λ w. refl) ])
 
-abbrev extent : {n : ℕ} → Sort n FieldValue
+abbrev extent : {d : ℕ → Bool} → Sort d FieldValue
 extent =
     let e : Enum FieldValue = record { form = fieldValueForm; kind = kind.FieldValue; suits = λ v q. q; names = λ m. (λ h. h, λ k top. refl); top = 1; bare = λ x. x } in
     enum e (λ x. elim x [ value.Immediate m ↦ variant e 0 (λ h. refl) byte value.Immediate m (λ w. refl) | value.Register m ↦ variant e 1 (λ h. refl) byte value.Register m (λ w. refl) ])
 
-abbrev high : {n : ℕ} → Sort n RegisterChoice
+abbrev high : {d : ℕ → Bool} → Sort d RegisterChoice
 high =
     let e : Enum RegisterChoice = record { form = registerChoiceForm; kind = kind.RegisterChoice; suits = λ v q. q; names = λ m. (λ h. h, λ k top. refl); top = 1; bare = λ x. x } in
     enum e (λ x. elim x [ choices.None ↦ variant e 0 (λ h. refl) none (λ w. choices.None) tt (λ w. refl) | choices.Some m ↦ variant e 1 (λ h. refl) byte choices.Some m (λ w. refl) ])
 
-abbrev trapped : {n : ℕ} → Sort n TrapOperand
+abbrev trapped : {d : ℕ → Bool} → Sort d TrapOperand
 trapped =
     let e : Enum TrapOperand = record { form = trapOperandForm; kind = kind.TrapOperand; suits = λ v q. q; names = λ m. (λ h. h, λ k top. refl); top = 2; bare = λ x. x } in
     enum e (λ x. elim x [ trap.None ↦ variant e 0 (λ h. refl) none (λ w. trap.None) tt (λ w. refl) | trap.Word m ↦ variant e 1 (λ h. refl) word trap.Word m (λ w. refl) | trap.Long m ↦ variant e 2 (λ h. refl) long trap.Long m (λ w. refl) ])
 
--- an operand without its target
-abbrev pub bare : Operand → Operand
-bare (Immediate v) = Immediate v
-bare (Register r) = Register r
-bare (Indirect k) = Indirect k
-bare (PostIndirect k) = PostIndirect k
-bare (PreIndirect k) = PreIndirect k
-bare (IndirectDisplacement z base) = IndirectDisplacement z base
-bare (IndirectIndex base z x) = IndirectIndex base z x
-bare (PcDisplacement t) = PcDisplacement 0
-bare (PcIndex t x) = PcIndex 0 x
-bare (Extended base w z outer) = Extended base w z outer
-bare (Absolute a w) = Absolute a w
-
 abbrev indexed : RegisterOperand × Size → IndexRegister
 indexed w = record { register = w .0; size = w .1 }
 
-abbrev operand : {n : ℕ} → Sort n Operand
+abbrev operand : {d : ℕ → Bool} → Sort d Operand
 operand =
     let e : Enum Operand = record { form = operandForm; kind = kind.Operand; suits = λ v q. q; names = λ m. (λ h. h, λ k top. refl); top = 10; bare = bare } in
     enum e (λ x. elim x [
@@ -146,24 +133,24 @@ operand =
 -- ---- an instruction
 
 -- where it has a name, the grammar of its fields and its form are those of a sort
-abbrev pub Law : {n : ℕ} {Z : Type 0} → Sort n Z → (Z → Instruction) → Z → Type 0
-Law {n} {Z} s con z =
+abbrev pub Law : {d : ℕ → Bool} {Z : Type 0} → Sort d Z → (Z → Instruction) → Z → Type 0
+Law {d} {Z} s con z =
     HasLine (con z) → (w : Z)
     → _≡_ {A = Bool × List Kind × List Entry} (isNamed kind.Instruction (placeOf (con z)), kindsOf kind.Instruction (placeOf (con z)), entries (con w)) (true, s .kinds, unsigned 98 (placeOf (con z)) ∷ s .form w)
 
 -- the sort of its fields, what makes it of their values, and these
-pub record Row (n : ℕ) (i : Instruction) : Type 1 where
+pub record Row (d : ℕ → Bool) (i : Instruction) : Type 1 where
   pub Z : Type 0
-  pub sort : Sort n Z
+  pub sort : Sort d Z
   pub con : Z → Instruction
   pub z : Z
   pub is : con z ≡ i
   pub law : Law sort con z
 
-abbrev asRow : {n : ℕ} {Z : Type 0} (s : Sort n Z) (con : Z → Instruction) (z : Z) → Law s con z → Row n (con z)
-asRow {n} {Z} s con z law = record { Z = Z; sort = s; con = con; z = z; is = refl; law = law }
+abbrev asRow : {d : ℕ → Bool} {Z : Type 0} (s : Sort d Z) (con : Z → Instruction) (z : Z) → Law s con z → Row d (con z)
+asRow {d} {Z} s con z law = record { Z = Z; sort = s; con = con; z = z; is = refl; law = law }
 
-abbrev pub row : {n : ℕ} (i : Instruction) → Row n i
+abbrev pub row : {d : ℕ → Bool} (i : Instruction) → Row d i
 row (IntoRegister op o r s) = asRow (operand ⊗ register ⊗ size) (λ w. IntoRegister op (w .0 .0) (w .0 .1) (w .1)) ((o, r), s) (λ h w. elim op [ ADDA ↦ refl | SUBA ↦ refl | CMPA ↦ refl | MOVEA ↦ refl | CMP ↦ refl | CHK2 ↦ refl | CMP2 ↦ refl ])
 row (MOVEM d s v o) = asRow (direction ⊗ size ⊗ word ⊗ operand) (λ w. MOVEM (w .0 .0 .0) (w .0 .0 .1) (w .0 .1) (w .1)) (((d, s), v), o) (λ h w. refl)
 row (Transfer op d s r o) = asRow (direction ⊗ size ⊗ register ⊗ operand) (λ w. Transfer op (w .0 .0 .0) (w .0 .0 .1) (w .0 .1) (w .1)) (((d, s), r), o) (λ h w. elim op [ MOVEP ↦ refl | MOVES ↦ refl ])

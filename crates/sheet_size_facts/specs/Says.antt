@@ -1,40 +1,64 @@
 -- The numbers of a line that makes an instruction are the instruction's. Assumes nothing.
 use Prim.Native.Nat.{ℕ, _<_}
-use mathlib.Core.Path.{_≡_, refl, ap, subst}
-use mathlib.Core.Bool.{true, false}
+use mathlib.Core.Path.{_≡_, refl, sym, ap, subst, _∙_}
+use mathlib.Core.Bool.{Bool, true, false}
 use mathlib.Core.List.{List, [], _∷_, map}
+use mathlib.Core.Option.{Option}
+use native.Mathlib.Omega.{arith}
 use lib.ListN.{length, getD}
 use lib.IntN.{pos, natAbs}
 use Rattle.isa.specs.declared.Instruction.{Instruction}
+use Rattle.numeric_spec.specs.declared.Built.{Built}
 use Rattle.numeric_spec.specs.declared.Built.the-variants as built
 use Rattle.numeric_spec.specs.Entry.{Entry, unsigned}
 use Rattle.numeric_spec.specs.Form.{placeOf, payloadOf}
-use Rattle.numeric_facts.specs.Built.{build-sound, not-built}
+use Rattle.numeric_spec.specs.Build.{builtOf}
+use Rattle.numeric_facts.specs.Built.{build-sound, build-complete}
 use Rattle.sheet_spec.specs.declared.Kind.the-variants as kind
 use Rattle.sheet_spec.specs.Names.{bytes, namesOf}
-use Rattle.sheet_spec.specs.Line.{Token, literal, label, invalid, Parsed, says, no, lineOf}
-use Rattle.sheet_spec.specs.Spell.{numberAs, Variant, Line}
-use Rattle.sheet_spec.specs.Made.{madeAs, madeOf}
-use Rattle.sheet_facts.specs.Lines.{line-fits}
+use Rattle.sheet_spec.specs.Line.{Token, literal, label, invalid, Parsed, says, no}
+use Rattle.sheet_spec.specs.Spell.{Variant}
+use Rattle.sheet_spec.specs.Made.{numberAs, namesAll, namesIn, Line, Made, makes, turnedBack, judged, builtAs, made}
+use Rattle.sheet_spec.specs.Promises.{InGrammar}
 
 -- an instruction's form
 abbrev pub entries : Instruction → List Entry
 entries i = unsigned 98 (placeOf i) ∷ payloadOf i
 
--- a line that makes an instruction says that instruction's line
-pub says-line : (t : List ℕ) (i : Instruction) → madeOf (λ n. 0) t ≡ built.Instruction i → (vs : List Token) × (lineOf t ≡ says vs) × Line vs i
-unfolding madeOf
-says-line t i e = go (lineOf t) refl e
-  where
-    go : (p : Parsed) → lineOf t ≡ p → madeAs (λ n. 0) p ≡ built.Instruction i → (vs : List Token) × (lineOf t ≡ says vs) × Line vs i
-    go (says vs) q h =
-        let b = build-sound (map (numberAs (λ n. 0)) vs) i h in
-        (vs, q, record { grammar = line-fits t vs q; numbers = b .0; inside = b .1 })
-    go no q h = not-built h
+turned-not : {C : Type 0} {k : ℕ} {i : Instruction} → turnedBack k ≡ makes i → C
+turned-not e = let z : _≡_ {A = ℕ} 0 1 = cc in absurd (omega arith)
+
+judged-makes : (b : Built) (named : Bool) (i : Instruction) → judged b named ≡ makes i → (b ≡ built.Instruction i) × (named ≡ true)
+judged-makes (built.Instruction j) true i e = let q : j ≡ i = cc in (ap built.Instruction q, refl)
+judged-makes (built.Instruction j) false i e = turned-not e
+judged-makes built.NotInForm named i e = turned-not e
+
+-- a line is turned back with 7 or 8
+judged-back : (b : Built) (named : Bool) (k : ℕ) → judged b named ≡ turnedBack k → 0 < k
+judged-back (built.Instruction j) true k e = turned-not (sym e)
+judged-back (built.Instruction j) false k e = let q : _≡_ {A = ℕ} 8 k = cc in omega arith
+judged-back built.NotInForm named k e = let q : _≡_ {A = ℕ} 7 k = cc in omega arith
+
+pub made-back : (f : ℕ → Option ℕ) (p : Parsed) (k : ℕ) → made f p ≡ turnedBack k → 0 < k
+unfolding made
+made-back f p k e = judged-back (builtAs f p) (namesIn f p) k e
+
+-- a line that makes an instruction is a line of it, and the other way round
+pub line-says : (f : ℕ → Option ℕ) (p : Parsed) (i : Instruction) → InGrammar p → made f p ≡ makes i → (vs : List Token) × (p ≡ says vs) × Line f vs i
+unfolding made
+line-says f (says vs) i g e =
+    let j = judged-makes (builtOf (map (numberAs f) vs)) (namesAll f vs) i e in
+    let b = build-sound (map (numberAs f) vs) i (j .0) in
+    (vs, refl, record { grammar = g; named = j .1; numbers = b .0; inside = b .1 })
+line-says f no i g e = turned-not e
+
+pub line-makes : (f : ℕ → Option ℕ) (vs : List Token) (i : Instruction) → Line f vs i → made f (says vs) ≡ makes i
+unfolding made
+line-makes f vs i l = ap (λ (b : Bool). judged (builtOf (map (numberAs f) vs)) b) (l .named) ∙ ap (λ (b : Built). judged b true) (ap builtOf (l .numbers) ∙ build-complete i (l .inside))
 
 -- the place of an instruction that a token says has a name
-pub place-named : (v : Token) (p : ℕ) → Variant kind.Instruction v → numberAs (λ n. 0) v ≡ pos p → 0 < length (getD (map bytes (namesOf kind.Instruction)) p [])
-place-named (literal true n) p s e = absurd s
-place-named (literal false n) p s e = subst (λ (k : ℕ). 0 < length (getD (map bytes (namesOf kind.Instruction)) k [])) (ap natAbs e) (s .1)
-place-named (label n) p s e = absurd s
-place-named invalid p s e = absurd s
+pub place-named : (f : ℕ → Option ℕ) (v : Token) (p : ℕ) → Variant kind.Instruction v → numberAs f v ≡ pos p → 0 < length (getD (map bytes (namesOf kind.Instruction)) p [])
+place-named f (literal true n) p s e = absurd s
+place-named f (literal false n) p s e = subst (λ (k : ℕ). 0 < length (getD (map bytes (namesOf kind.Instruction)) k [])) (ap natAbs e) (s .1)
+place-named f (label n) p s e = absurd s
+place-named f invalid p s e = absurd s

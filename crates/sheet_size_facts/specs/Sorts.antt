@@ -1,7 +1,9 @@
 -- Sorts of values in a line: their form, the kinds of its fields, what they make whatever names are made, and their line whatever their targets name.
 use Prim.Native.Nat.{ℕ, suc, _-_, _^_, _≤_}
 use mathlib.Core.Path.{_≡_, refl, sym, ap, ap₂, _∙_}
-use mathlib.Core.Bool.{Bool, true, false, _&&_}
+use mathlib.Core.Bool.{Bool, true, false, cond, _&&_, false≢true}
+use mathlib.Core.Option as option
+use mathlib.Core.Option.{some}
 use mathlib.Core.List.{List, [], _∷_, _++_, append-assoc, map}
 use native.Mathlib.Omega.{arith}
 use lib.Dec.{leb, ltb}
@@ -15,25 +17,25 @@ use Rattle.sheet_spec.specs.declared.Kind.the-variants as kind
 use Rattle.sheet_spec.specs.Names.{bytes, namesOf}
 use Rattle.sheet_spec.specs.Grammar.{kindsOf}
 use Rattle.sheet_spec.specs.Line.{Token, literal, label, invalid}
-use Rattle.sheet_spec.specs.Spell.{numberAs, Suits, Variant, nextKinds}
-use Rattle.sheet_spec.specs.Made.{names, namesAll}
-use Rattle.sheet_size_facts.specs.Turned.{Input, Turned, Turn, head-is, tail-is}
+use Rattle.sheet_spec.specs.Spell.{Suits, Variant, nextKinds}
+use Rattle.sheet_spec.specs.Made.{numberAs, isSome, names, namesAll}
+use Rattle.sheet_size_facts.specs.Turned.{every, given, Input, Turned, Turn, head-is, tail-is}
 use Rattle.numeric_facts.specs.Exact.{inside-both, inside-parts}
 use Rattle.sheet_size_facts.specs.Fitting.{Fitting}
 use Rattle.sheet_spec.specs.Told.{Mark, numbered, named, field, unaimed}
 use Rattle.base_facts.specs.Tests.{and-true, below, all}
 
 -- what is known of their targets is in Aims
-pub record Sort (n : ℕ) (X : Type 0) : Type 1 where
+pub record Sort (d : ℕ → Bool) (X : Type 0) : Type 1 where
   pub form : X → List Entry
   pub kinds : List Kind
   pub bare : X → X
   pub Aims : ((ℕ → ℕ) → X) → Type 0
-  pub turn : (x : X) → Turn n form kinds bare Aims x
+  pub turn : (x : X) → Turn d form kinds bare Aims x
   pub fitting : (x : X) (m : ℕ → Mark) (ks : List Kind) → Fitting form kinds x m ks
 
 -- ---- no value, and one value after the other
-abbrev pub none : {n : ℕ} → Sort n (Unit {0})
+abbrev pub none : {d : ℕ → Bool} → Sort d (Unit {0})
 none = record {
   form = λ z. [];
   kinds = [];
@@ -43,8 +45,8 @@ none = record {
   fitting = λ x m ks. record { bare = tt; next = m; leaves = λ es. refl; fits = λ es i h. h i };
 }
 
-pub both-turned : {n : ℕ} {X Y : Type 0} (s : Sort n X) (t : Sort n Y) (z : X × Y)
-    → Turn n (λ w. s .form (w .0) ++ t .form (w .1)) (s .kinds ++ t .kinds) (λ w. (s .bare (w .0), t .bare (w .1))) (λ y. s .Aims (λ f. y f .0) × t .Aims (λ f. y f .1)) z
+pub both-turned : {d : ℕ → Bool} {X Y : Type 0} (s : Sort d X) (t : Sort d Y) (z : X × Y)
+    → Turn d (λ w. s .form (w .0) ++ t .form (w .1)) (s .kinds ++ t .kinds) (λ w. (s .bare (w .0), t .bare (w .1))) (λ y. s .Aims (λ f. y f .0) × t .Aims (λ f. y f .1)) z
 both-turned s t z ks vs es h g =
     let i = inside-parts (s .form (z .0)) (t .form (z .1)) g in
     let a = s .turn (z .0) (t .kinds ++ ks) vs (t .form (z .1) ++ es) (simp append-assoc at h) (i .0) in
@@ -59,7 +61,7 @@ both-turned s t z ks vs es h g =
     }
 
 infixl 60 _⊗_
-abbrev pub _⊗_ : {n : ℕ} {X Y : Type 0} → Sort n X → Sort n Y → Sort n (X × Y)
+abbrev pub _⊗_ : {d : ℕ → Bool} {X Y : Type 0} → Sort d X → Sort d Y → Sort d (X × Y)
 s ⊗ t = record {
   form = λ z. s .form (z .0) ++ t .form (z .1);
   kinds = s .kinds ++ t .kinds;
@@ -80,12 +82,12 @@ s ⊗ t = record {
 }
 
 -- ---- one field: a number or a variant without fields
-same-number : (f : ℕ → ℕ) (b : Bool) (m : ℕ) → numberAs f (literal b m) ≡ numberAs (λ k. 0) (literal b m)
+same-number : (f : ℕ → ℕ) (b : Bool) (m : ℕ) → numberAs (every f) (literal b m) ≡ numberAs (every (λ k. 0)) (literal b m)
 same-number f true m = refl
 same-number f false m = refl
 
-token-turned : {n : ℕ} {X : Type 0} {P : ((ℕ → ℕ) → X) → Type 0} (e : X → Entry) (x : X) → P (λ f. x) → (k : Kind) (b : Bool) (m : ℕ) → kindsOf k m ≡ [] → (ks : List Kind) (vs : List Token) (es : List Entry)
-    → Input n (k ∷ ks) (literal b m ∷ vs) (e x ∷ es) → Inside (e x ∷ []) → Turned n X (λ z. e z ∷ []) P ks (literal b m ∷ vs) es
+token-turned : {d : ℕ → Bool} {X : Type 0} {P : ((ℕ → ℕ) → X) → Type 0} (e : X → Entry) (x : X) → P (λ f. x) → (k : Kind) (b : Bool) (m : ℕ) → kindsOf k m ≡ [] → (ks : List Kind) (vs : List Token) (es : List Entry)
+    → Input d (k ∷ ks) (literal b m ∷ vs) (e x ∷ es) → Inside (e x ∷ []) → Turned d X (λ z. e z ∷ []) P ks (literal b m ∷ vs) es
 token-turned e x p k b m c ks vs es h i =
     record {
       rest = vs;
@@ -100,7 +102,7 @@ token-turned e x p k b m c ks vs es h i =
 abbrev pub Simple : Kind → Type 0
 Simple k = (m : ℕ) → (kindsOf k m ≡ []) × (Suits k (label m) → ⊥) × (Suits k invalid → ⊥)
 
-pub plain-turned : {n : ℕ} {X : Type 0} (k : Kind) → Simple k → (e : X → Entry) (x : X) → Turn n (λ z. e z ∷ []) (k ∷ []) (λ z. z) (λ y. Unit {0}) x
+pub plain-turned : {d : ℕ → Bool} {X : Type 0} (k : Kind) → Simple k → (e : X → Entry) (x : X) → Turn d (λ z. e z ∷ []) (k ∷ []) (λ z. z) (λ y. Unit {0}) x
 plain-turned k s e x ks [] es h i = absurd (h .fits)
 plain-turned k s e x ks (literal b m ∷ vs) es h i = token-turned e x (λ f. refl, tt) k b m (s m .0) ks vs es h i
 plain-turned k s e x ks (label m ∷ vs) es h i = absurd (s m .1 (h .fits .0))
@@ -114,7 +116,7 @@ one-fitting k e bare law x m ks =
     let l = law (m 0) x in
     record { bare = bare (m 0) x; next = λ n. m (suc n); leaves = λ es. rw (l .1) (λ i. l .0 i ∷ unaimed (λ n. m (suc n)) ks es); fits = λ es i h. rw (l .1) (l .2 (i .0), h (i .1)) }
 
-abbrev pub number : {n : ℕ} {X : Type 0} (top : ℕ) → leb top (2 ^ 64 - 1) ≡ true → (X → ℕ) → Sort n X
+abbrev pub number : {d : ℕ → Bool} {X : Type 0} (top : ℕ) → leb top (2 ^ 64 - 1) ≡ true → (X → ℕ) → Sort d X
 number top t p = record {
   form = λ x. unsigned top (p x) ∷ [];
   kinds = kind.Number ∷ [];
@@ -124,7 +126,7 @@ number top t p = record {
   fitting = one-fitting kind.Number (λ x. unsigned top (p x)) (λ m x. x) (λ m x. (refl, refl, λ h. omega (arith, leb-true (p x) top h, leb-true top (2 ^ 64 - 1) t)));
 }
 
-abbrev pub integer : {n : ℕ} → Sort n ℤ
+abbrev pub integer : {d : ℕ → Bool} → Sort d ℤ
 integer = record {
   form = λ z. signed z ∷ [];
   kinds = kind.Number ∷ [];
@@ -136,39 +138,41 @@ integer = record {
 }
 
 -- ---- a target, and a target in an operand, which may also be a number
-abbrev pub Aimed : ℕ → ((ℕ → ℕ) → ℕ) → Type 0
-Aimed n y = (m : ℕ) × (1 ≤ m) × (m ≤ n) × ((f : ℕ → ℕ) → y f ≡ f m)
+abbrev pub Aimed : (ℕ → Bool) → ((ℕ → ℕ) → ℕ) → Type 0
+Aimed d y = (m : ℕ) × (d m ≡ true) × ((f : ℕ → ℕ) → y f ≡ f m)
 
-pub aim-turned : {n : ℕ} {A : ((ℕ → ℕ) → ℕ) → Type 0} (k : Kind) → ((m : ℕ) → kindsOf k m ≡ []) → (Suits k invalid → ⊥)
-    → (x : ℕ) → ((b : Bool) (m : ℕ) → Suits k (literal b m) → A (λ f. x)) → ((m : ℕ) → Aimed n (λ f. f m) → A (λ f. f m)) → Turn n longForm (k ∷ []) (λ x. 0) A x
+given-some : (b : Bool) (n : ℕ) → isSome (cond b (some n) option.none) ≡ true → b ≡ true
+given-some true n e = refl
+given-some false n e = absurd (false≢true e)
+
+pub aim-turned : {d : ℕ → Bool} {A : ((ℕ → ℕ) → ℕ) → Type 0} (k : Kind) → ((m : ℕ) → kindsOf k m ≡ []) → (Suits k invalid → ⊥)
+    → (x : ℕ) → ((b : Bool) (m : ℕ) → Suits k (literal b m) → A (λ f. x)) → ((m : ℕ) → Aimed d (λ f. f m) → A (λ f. f m)) → Turn d longForm (k ∷ []) (λ x. 0) A x
 aim-turned k s t x p q ks [] es h i = absurd (h .fits)
 aim-turned k s t x p q ks (literal b m ∷ vs) es h i = token-turned (λ z. unsigned (2 ^ 32 - 1) z) x (λ f. refl, p b m (h .fits .0)) k b m (s m) ks vs es h i
-aim-turned {n} k s t x p q ks (label m ∷ vs) es h i =
-    let g = and-true (names n (label m)) (namesAll n vs) (h .named) in
-    let u = and-true (leb 1 m) (leb m n) (g .0) in
-    let l = leb-true 1 m (u .0) in
-    let r = leb-true m n (u .1) in
+aim-turned {d} k s t x p q ks (label m ∷ vs) es h i =
+    let g = and-true (names (given d (λ k. 0)) (label m)) (namesAll (given d (λ k. 0)) vs) (h .named) in
+    let l = given-some (d m) 0 (g .0) in
     record {
       rest = vs;
       left = record { fits = h .fits .1; named = g .1; zeros = tail-is (h .zeros) };
       made = λ f. f m;
-      good = (λ f. refl, q m (m, l, r, λ f. refl));
+      good = (λ f. refl, q m (m, l, λ f. refl));
       spells = λ f b us e. ap (λ (zs : List ℤ). pos (f m) ∷ zs) e;
-      stays = λ f b. (le-leb (f m) (2 ^ 32 - 1) (omega (arith, b m l r)), tt);
+      stays = λ f b. (le-leb (f m) (2 ^ 32 - 1) (omega (arith, b m l)), tt);
     }
 aim-turned k s t x p q ks (invalid ∷ vs) es h i = absurd (t (h .fits .0))
 
-abbrev pub target : {n : ℕ} → Sort n ℕ
-target {n} = record {
+abbrev pub target : {d : ℕ → Bool} → Sort d ℕ
+target {d} = record {
   form = longForm;
   kinds = kind.Target ∷ [];
   bare = λ x. 0;
-  Aims = Aimed n;
+  Aims = Aimed d;
   turn = λ x. aim-turned kind.Target (λ m. refl) (λ h. h) x (λ b m h. absurd h) (λ m a. a);
   fitting = one-fitting kind.Target (λ t. unsigned (2 ^ 32 - 1) t) (λ m t. 0) (λ m t. elim m [ numbered n ↦ (refl, refl, λ h. tt) | named n ↦ (refl, refl, λ h. tt) ]);
 }
 
-abbrev pub place : {n : ℕ} → Sort n ℕ
+abbrev pub place : {d : ℕ → Bool} → Sort d ℕ
 place = record {
   form = longForm;
   kinds = kind.Place ∷ [];
@@ -193,17 +197,17 @@ abbrev pub Naming : Kind → Type 0
 Naming k = (n : ℕ) → (Variant k (literal false n) → Suits k (literal false n)) × ((m : Mark) (top : ℕ) → field k m (unsigned top n) ≡ (literal false n, unsigned top n))
 
 -- ---- a variant and its fields
-pub chosen : {n : ℕ} {X Z : Type 0} {form : X → List Entry} {P : ((ℕ → ℕ) → X) → Type 0} (k : Kind) → ((v : Token) → Suits k v → Variant k v) → (top p : ℕ) (s : Sort n Z) (con : Z → X) (z : Z)
+pub chosen : {d : ℕ → Bool} {X Z : Type 0} {form : X → List Entry} {P : ((ℕ → ℕ) → X) → Type 0} (k : Kind) → ((v : Token) → Suits k v → Variant k v) → (top p : ℕ) (s : Sort d Z) (con : Z → X) (z : Z)
     → (Variant k (literal false p) → (kindsOf k p ≡ s .kinds) × ((w : Z) → form (con w) ≡ unsigned top p ∷ s .form w)
     × ((y : (ℕ → ℕ) → Z) → ((f : ℕ → ℕ) → s .bare (y f) ≡ s .bare z) → s .Aims y → P (λ f. con (y f))))
-    → (ks : List Kind) (vs : List Token) (es : List Entry) → Input n (k ∷ ks) vs (unsigned top p ∷ (s .form z ++ es)) → Inside (unsigned top p ∷ s .form z) → Turned n X form P ks vs es
+    → (ks : List Kind) (vs : List Token) (es : List Entry) → Input d (k ∷ ks) vs (unsigned top p ∷ (s .form z ++ es)) → Inside (unsigned top p ∷ s .form z) → Turned d X form P ks vs es
 chosen k v top p s con z l ks [] es h i = absurd (h .fits)
 chosen k v top p s con z l ks (literal true m ∷ vs) es h i = absurd (v (literal true m) (h .fits .0))
-chosen {n} k v top p s con z l ks (literal false m ∷ vs) es h i =
+chosen {d} k v top p s con z l ks (literal false m ∷ vs) es h i =
     let e = h .zeros in
     let q : m ≡ p = cc in
     let t = l (rw q at (v (literal false m) (h .fits .0))) in
-    let a = s .turn z ks vs es (record { fits = rw (q, t .0) at (h .fits .1); named = and-true true (namesAll n vs) (h .named) .1; zeros = tail-is e }) (i .1) in
+    let a = s .turn z ks vs es (record { fits = rw (q, t .0) at (h .fits .1); named = and-true true (namesAll (given d (λ k. 0)) vs) (h .named) .1; zeros = tail-is e }) (i .1) in
     record {
       rest = a .rest;
       left = a .left;
@@ -224,10 +228,10 @@ pub record Enum (X : Type 0) : Type 0 where
   pub top : ℕ
   pub bare : X → X
 
-pub variant-fitting : {n : ℕ} {X Z : Type 0} (e : Enum X) (p : ℕ) → (leb p (e .top) ≡ true → isNamed (e .kind) p ≡ true) → (s : Sort n Z) (con : Z → X)
+pub variant-fitting : {d : ℕ → Bool} {X Z : Type 0} (e : Enum X) (p : ℕ) → (leb p (e .top) ≡ true → isNamed (e .kind) p ≡ true) → (s : Sort d Z) (con : Z → X)
     → ((w : Z) → _≡_ {A = List Kind × List Entry} (kindsOf (e .kind) p, e .form (con w)) (s .kinds, unsigned (e .top) p ∷ s .form w))
     → (z : Z) (m : ℕ → Mark) (ks : List Kind) → Fitting (e .form) (e .kind ∷ []) (con z) m ks
-variant-fitting {n} {X} {Z} e p t s con law z m ks =
+variant-fitting {d} {X} {Z} e p t s con law z m ks =
     let a = s .fitting z (λ n. m (suc n)) ks in
     let n = e .names p .1 (m 0) (e .top) in
     let l : (w : Z) → e .form (con w) ≡ unsigned (e .top) p ∷ s .form w = λ w. ap (λ t. t .1) (law w) in
@@ -239,13 +243,13 @@ variant-fitting {n} {X} {Z} e p t s con law z m ks =
       fits = λ es. rw (l z, n, q) (λ i h. (e .names p .0 (is-variant (e .kind) p (t (i .0))), a .fits es (i .1) h));
     }
 
-abbrev pub Variants : (n : ℕ) {X : Type 0} → Enum X → X → Type 0
-Variants n e x = Turn n (e .form) (e .kind ∷ []) (e .bare) (λ y. Unit {0}) x × ((m : ℕ → Mark) (ks : List Kind) → Fitting (e .form) (e .kind ∷ []) x m ks)
+abbrev pub Variants : (d : ℕ → Bool) {X : Type 0} → Enum X → X → Type 0
+Variants d e x = Turn d (e .form) (e .kind ∷ []) (e .bare) (λ y. Unit {0}) x × ((m : ℕ → Mark) (ks : List Kind) → Fitting (e .form) (e .kind ∷ []) x m ks)
 
-pub variant : {n : ℕ} {X Z : Type 0} (e : Enum X) (p : ℕ) → (leb p (e .top) ≡ true → isNamed (e .kind) p ≡ true) → (s : Sort n Z) (con : Z → X) (z : Z)
+pub variant : {d : ℕ → Bool} {X Z : Type 0} (e : Enum X) (p : ℕ) → (leb p (e .top) ≡ true → isNamed (e .kind) p ≡ true) → (s : Sort d Z) (con : Z → X) (z : Z)
     → ((w : Z) → _≡_ {A = List Kind × List Entry × X} (kindsOf (e .kind) p, e .form (con w), e .bare (con w)) (s .kinds, unsigned (e .top) p ∷ s .form w, con (s .bare w)))
-    → Variants n e (con z)
-variant {n} {X} {Z} e p t s con z law =
+    → Variants d e (con z)
+variant {d} {X} {Z} e p t s con z law =
     let form : (w : Z) → e .form (con w) ≡ unsigned (e .top) p ∷ s .form w = λ w. ap (λ t. t .1) (law w) in
     let bare : (w : Z) → e .bare (con w) ≡ con (s .bare w) = λ w. ap (λ t. t .2) (law w) in (
       λ ks vs es h i. chosen (e .kind) (e .suits) (e .top) p s con z (λ l. (ap (λ t. t .0) (law z), form, λ y q a. (λ f. bare (y f) ∙ ap con (q f) ∙ sym (bare z), tt)))
@@ -253,12 +257,12 @@ variant {n} {X} {Z} e p t s con z law =
       variant-fitting e p t s con (λ w. ap (λ t. (t .0, t .1)) (law w)) z,
     )
 
-abbrev pub enum : {n : ℕ} {X : Type 0} (e : Enum X) → ((x : X) → Variants n e x) → Sort n X
+abbrev pub enum : {d : ℕ → Bool} {X : Type 0} (e : Enum X) → ((x : X) → Variants d e x) → Sort d X
 enum e t = record { form = e .form; kinds = e .kind ∷ []; bare = e .bare; Aims = λ y. Unit {0}; turn = λ x. t x .0; fitting = λ x. t x .1 }
 
 -- an enum without fields
-abbrev pub choice : {n : ℕ} {X : Type 0} (k : Kind) → ((m : ℕ) → kindsOf k m ≡ []) → ((v : Token) → Suits k v → Variant k v) → (top : ℕ) (p : X → ℕ) → all (isNamed k) (suc top) ≡ true → Naming k → Sort n X
-choice {n} {X} k s u top p t c = record {
+abbrev pub choice : {d : ℕ → Bool} {X : Type 0} (k : Kind) → ((m : ℕ) → kindsOf k m ≡ []) → ((v : Token) → Suits k v → Variant k v) → (top : ℕ) (p : X → ℕ) → all (isNamed k) (suc top) ≡ true → Naming k → Sort d X
+choice {d} {X} k s u top p t c = record {
   form = λ x. unsigned top (p x) ∷ [];
   kinds = k ∷ [];
   bare = λ x. x;
@@ -266,5 +270,5 @@ choice {n} {X} k s u top p t c = record {
   turn = plain-turned k (λ m. (s m, u (label m), u invalid)) (λ x. unsigned top (p x));
   fitting = λ x.
       let e : Enum X = record { form = λ x. unsigned top (p x) ∷ []; kind = k; suits = u; names = c; top = top; bare = λ x. x } in
-      variant-fitting {n = n} e (p x) (λ h. below (isNamed k) (suc top) t (p x) (omega (arith, leb-true (p x) top h))) none (λ w. x) (λ w i. (s (p x) i, unsigned top (p x) ∷ [])) tt;
+      variant-fitting {d = d} e (p x) (λ h. below (isNamed k) (suc top) t (p x) (omega (arith, leb-true (p x) top h))) none (λ w. x) (λ w i. (s (p x) i, unsigned top (p x) ∷ [])) tt;
 }

@@ -1,10 +1,11 @@
 -- Following (01, "The listing"): two followers, one over the lines and one over the image's words, and what it is for them to be together.
-use Prim.Native.Nat.{ℕ, pred, _+_, _*_, _-_, _/_, _%_, _≤_}
+use Prim.Native.Nat.{ℕ, _+_, _*_, _-_, _/_, _%_, _≤_}
 use mathlib.Core.Path.{_≡_}
-use mathlib.Core.Bool.{Bool, true, false, cond}
+use mathlib.Core.Bool.{Bool, true, false, cond, _&&_}
 use mathlib.Core.List.{List, [], _∷_}
+use mathlib.Core.Option.{Option}
 use lib.Dec.{leb, ltb, eqb}
-use lib.ListN.{length, drop, take, getD}
+use lib.ListN.{length, drop}
 use Rattle.isa.specs.declared.Instruction.{Instruction}
 use Rattle.isa.specs.declared.Instruction.the-variants.{IntoRegister, MOVEM, Transfer, Pair, Quick, MOVEQ, ImmediateInto, WordIntoData, SWAP, EXG, UnsizedIntoRegister, UnsizedOne, UnsizedPair, EXT, OneOperand, Bcc, Scc, DBcc, Branch, Link, UNLK, Shift, Vector, Status, ConditionCode, MOVEUSP, Raw, NoOperand, RTD, MOVEC, TRAPcc, MULL, Pack, CAS, CAS2, BF, DIVL}
 use Rattle.isa.specs.declared.UnsizedOneOperation.{UnsizedOneOperation}
@@ -15,15 +16,13 @@ use Rattle.isa.specs.declared.RawOperation.{RawOperation}
 use Rattle.isa.specs.declared.RawOperation.the-variants.{LINEA, LINEF, IllegalWord}
 use Rattle.isa.specs.declared.NoOperandOperation.{NoOperandOperation}
 use Rattle.isa.specs.declared.NoOperandOperation.the-variants.{RTE, RESET, RTR, TRAPV, ILLEGAL, RTS, NOP, SIMHALT}
-use Rattle.numeric_spec.specs.declared.Built.{Built}
-use Rattle.numeric_spec.specs.declared.Built.the-variants as built
 use Rattle.read_spec.specs.declared.Reading.{Reading}
 use Rattle.read_spec.specs.declared.Reading.the-variants.{Read, Short, Nothing}
 use Rattle.read_spec.specs.Plain.{plain}
 use Rattle.read_spec.specs.Read.{readOf}
-use Rattle.sheet_spec.specs.Made.{madeOf, addressIn}
-use Rattle.sheet_spec.specs.Sheet.{linesIn, counted, total}
-use Rattle.sheet_spec.specs.Translate.{startIn, countIn, addressesIn}
+use Rattle.sheet_spec.specs.Line.{Token, says}
+use Rattle.sheet_spec.specs.Made.{Line, Made, makes, turnedBack, made, ofLines}
+use Rattle.sheet_spec.specs.Sheet.{Sheet, lineCount, endOf, lineAt, countAt, addressAt, resolved}
 
 -- where an instruction in plain form goes: on to what stands after it, to a target, to a target if taken and else on, or nowhere
 pub data Next : Type 0 where
@@ -128,52 +127,37 @@ target (to t) = t
 target (either t) = t
 target stop = 0
 
--- ---- the lines of a text; line 1 is the first
-abbrev pub lineAt : List ℕ → ℕ → List ℕ
-lineAt text n = getD (linesIn text) (pred n) []
+-- ---- the lines of a sheet
 
--- the start plus twice the words of all lines before it
-abbrev pub addressOf : List ℕ → ℕ → ℕ
-addressOf text n = startIn text + 2 * total (countIn text) (take (pred n) (linesIn text))
+-- where a line goes, its names made by f, by its plain form
+abbrev pub lineNext : Made → Next
+lineNext (makes i) = nextOf (plain i)
+lineNext (turnedBack k) = stop
 
-abbrev pub countedAt : List ℕ → ℕ → ℕ
-countedAt text n = counted (countIn text) (lineAt text n)
-
--- line n's instruction, each line's number k in it made f k; a line that is not in the form has none, and NOP stands for it
-abbrev pub instructionIn : Built → Instruction
-instructionIn (built.Instruction i) = i
-instructionIn built.NotInForm = NoOperand NOP
-
-abbrev pub instructionWith : (ℕ → ℕ) → List ℕ → ℕ → Instruction
-instructionWith f text n = instructionIn (madeOf f (lineAt text n))
-
--- with its names made addresses, and then in plain form
-abbrev pub plainLine : List ℕ → ℕ → Instruction
-plainLine text n = plain (instructionWith (addressIn (addressesIn text)) text n)
+abbrev pub nextWith : (ℕ → Option ℕ) → Sheet → ℕ → Next
+nextWith f s n = lineNext (made f (lineAt s n))
 
 -- the line that its target names
-abbrev pub named : List ℕ → ℕ → ℕ
-named text n = target (nextOf (instructionWith (λ k. k) text n))
+abbrev pub named : Sheet → ℕ → ℕ
+named s n = target (nextWith (ofLines (lineCount s) (λ k. k)) s n)
 
 -- the first follower; passing the last line ends
-abbrev pub comeLine : List ℕ → ℕ → Place
-comeLine text n = cond (leb n (countIn text)) (at n) ended
+abbrev pub comeLine : Sheet → ℕ → Place
+comeLine s n = cond (leb n (lineCount s)) (at n) ended
 
-abbrev pub stepLine : List ℕ → Place → Bool → Place
-stepLine text (at n) c = goes (comeLine text) (nextOf (plainLine text n)) (n + 1) (named text n) c
-stepLine text ended c = ended
-stepLine text lost c = lost
+abbrev pub stepLine : Sheet → Place → Bool → Place
+stepLine s (at n) c = goes (comeLine s) (nextWith (resolved s) s n) (n + 1) (named s n) c
+stepLine s ended c = ended
+stepLine s lost c = lost
 
-abbrev pub byLines : List ℕ → List Bool → Place
-byLines text cs = follow (stepLine text) (comeLine text 1) cs
+abbrev pub byLines : Sheet → List Bool → Place
+byLines s cs = follow (stepLine s) (comeLine s 1) cs
 
 -- ---- the words v from the start to the end
-abbrev pub end : ℕ → List ℕ → ℕ
-end start v = start + 2 * length v
 
 -- a word of the image begins there
 abbrev pub begins : ℕ → List ℕ → ℕ → Bool
-begins start v a = cond (leb start a) (cond (ltb a (end start v)) (eqb ((a - start) % 2) 0) false) false
+begins start v a = leb start a && ltb a (endOf start (length v)) && eqb ((a - start) % 2) 0
 
 abbrev pub readingAt : ℕ → List ℕ → ℕ → Reading
 readingAt start v a = readOf (drop ((a - start) / 2) v) a
@@ -184,7 +168,7 @@ seen Short a = lost
 seen Nothing a = lost
 
 abbrev pub comeWord : ℕ → List ℕ → ℕ → Place
-comeWord start v a = cond (eqb a (end start v)) ended (cond (begins start v a) (seen (readingAt start v a) a) lost)
+comeWord start v a = cond (eqb a (endOf start (length v))) ended (cond (begins start v a) (seen (readingAt start v a) a) lost)
 
 abbrev pub moved : (ℕ → Place) → Reading → ℕ → Bool → Place
 moved come (Read i n) a c = goes come (nextOf i) (a + n) (target (nextOf i)) c
@@ -199,9 +183,15 @@ stepWord start v lost c = lost
 abbrev pub byWords : ℕ → List ℕ → List Bool → Place
 byWords start v cs = follow (stepWord start v) (comeWord start v start) cs
 
+-- line n says tokens and is an instruction, which is what the words v read at its address, in plain form
+pub record Reads (s : Sheet) (v : List ℕ) (n : ℕ) : Type 0 where
+  pub tokens : List Token
+  pub instruction : Instruction
+  pub parsed : lineAt s n ≡ says tokens
+  pub line : Line (resolved s) tokens instruction
+  pub reads : readingAt (s .start) v (addressAt s n) ≡ Read (plain instruction) (2 * countAt s n)
+
 -- both have ended; or the image is at the address of the line where the sheet is, and reads there as that line's plain form
-pub data Together (text v : List ℕ) : Place → Place → Type 0 where
-  both-ended : Together text v ended ended
-  both-at : (n : ℕ) → 1 ≤ n → n ≤ countIn text
-      → readingAt (startIn text) v (addressOf text n) ≡ Read (plainLine text n) (2 * countedAt text n)
-      → Together text v (at n) (at (addressOf text n))
+pub data Together (s : Sheet) (v : List ℕ) : Place → Place → Type 0 where
+  both-ended : Together s v ended ended
+  both-at : (n : ℕ) → 1 ≤ n → n ≤ lineCount s → Reads s v n → Together s v (at n) (at (addressAt s n))

@@ -1,37 +1,70 @@
--- The instruction that a line makes, each line's name made a number.
+-- What a line makes, its names made numbers by a function from a line's number: none where it names no line.
 use Prim.Native.Nat.{ℕ}
-use mathlib.Core.Bool.{Bool, true, _&&_}
+use mathlib.Core.Path.{_≡_}
+use mathlib.Core.Bool.{Bool, true, false, cond, _&&_}
 use mathlib.Core.List.{List, [], _∷_, map}
+use mathlib.Core.Option.{Option, none, some, Option·getD}
 use lib.Dec.{leb}
-use lib.ListN.{getD}
+use lib.IntN.{ℤ, pos}
+use Rattle.isa.specs.declared.Instruction.{Instruction}
+use Rattle.base_spec.specs.Signed.{minus}
+use Rattle.numeric_spec.specs.Entry.{Inside}
+use Rattle.numeric_spec.specs.Form.{formOf, numbersOf}
 use Rattle.numeric_spec.specs.declared.Built.{Built}
 use Rattle.numeric_spec.specs.declared.Built.the-variants as built
 use Rattle.numeric_spec.specs.Build.{builtOf}
-use Rattle.sheet_spec.specs.Line.{Token, literal, label, invalid, Parsed, says, no, lineOf}
-use Rattle.sheet_spec.specs.Spell.{numberAs}
+use Rattle.sheet_spec.specs.declared.Kind.the-variants as kind
+use Rattle.sheet_spec.specs.Line.{Token, literal, label, invalid, Parsed, says, no}
+use Rattle.sheet_spec.specs.Spell.{SuitAll}
 
--- where `@` is as 0, the line is in the form exactly when this is an instruction
-abbrev pub madeAs : (ℕ → ℕ) → Parsed → Built
-madeAs f (says vs) = builtOf (map (numberAs f) vs)
-madeAs f no = built.NotInForm
+-- the number that a token says, 0 for a name that is none
+abbrev pub numberAs : (ℕ → Option ℕ) → Token → ℤ
+numberAs f (literal true n) = minus n
+numberAs f (literal false n) = pos n
+numberAs f (label n) = pos (Option·getD (f n) 0)
+numberAs f invalid = pos 0
 
-unfoldable pub madeOf : (ℕ → ℕ) → List ℕ → Built
-madeOf f line = madeAs f (lineOf line)
+abbrev pub isSome : Option ℕ → Bool
+isSome none = false
+isSome (some n) = true
 
--- `@` names an instruction line
-abbrev pub names : ℕ → Token → Bool
-names n (literal negative k) = true
-names n (label k) = leb 1 k && leb k n
-names n invalid = true
+abbrev pub names : (ℕ → Option ℕ) → Token → Bool
+names f (literal negative n) = true
+names f (label n) = isSome (f n)
+names f invalid = true
 
-abbrev pub namesAll : ℕ → List Token → Bool
-namesAll n [] = true
-namesAll n (v ∷ vs) = names n v && namesAll n vs
+abbrev pub namesAll : (ℕ → Option ℕ) → List Token → Bool
+namesAll f [] = true
+namesAll f (v ∷ vs) = names f v && namesAll f vs
 
-abbrev pub namesIn : ℕ → Parsed → Bool
-namesIn n (says vs) = namesAll n vs
-namesIn n no = true
+-- a line: the tokens are in the grammar, and their numbers are the instruction's
+pub record Line (f : ℕ → Option ℕ) (vs : List Token) (i : Instruction) : Type 0 where
+  pub grammar : SuitAll (kind.Instruction ∷ []) vs
+  pub named : namesAll f vs ≡ true
+  pub numbers : map (numberAs f) vs ≡ numbersOf i
+  pub inside : Inside (formOf i)
 
--- the address of the line that a number names
-abbrev pub addressIn : List ℕ → ℕ → ℕ
-addressIn addresses k = getD (0 ∷ addresses) k 0
+-- what a line makes: an instruction, or 7 where it is not in the form, or 8 where a name is none
+pub data Made : Type 0 where
+  makes : Instruction → Made
+  turnedBack : ℕ → Made
+
+abbrev pub judged : Built → Bool → Made
+judged (built.Instruction i) true = makes i
+judged (built.Instruction i) false = turnedBack 8
+judged built.NotInForm named = turnedBack 7
+
+abbrev pub builtAs : (ℕ → Option ℕ) → Parsed → Built
+builtAs f (says vs) = builtOf (map (numberAs f) vs)
+builtAs f no = built.NotInForm
+
+abbrev pub namesIn : (ℕ → Option ℕ) → Parsed → Bool
+namesIn f (says vs) = namesAll f vs
+namesIn f no = true
+
+unfoldable pub made : (ℕ → Option ℕ) → Parsed → Made
+made f p = judged (builtAs f p) (namesIn f p)
+
+-- each of n lines made what g says, and no other
+abbrev pub ofLines : ℕ → (ℕ → ℕ) → ℕ → Option ℕ
+ofLines n g k = cond (leb 1 k && leb k n) (some (g k)) none

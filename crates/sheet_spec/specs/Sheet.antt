@@ -1,24 +1,24 @@
 -- A sheet (01, "The listing" and "Where a thing is turned back"): START and an address, then one instruction a line.
-use Prim.Native.Nat.{ℕ, suc, _+_, _*_, _/_, _^_}
+use Prim.Native.Nat.{ℕ, suc, pred, _+_, _*_, _/_, _^_}
 use mathlib.Core.Bool.{Bool, cond, not, _&&_}
-use mathlib.Core.List.{List, [], _∷_}
+use mathlib.Core.List.{List, [], _∷_, _++_, map}
+use mathlib.Core.Option.{Option}
 use lib.Dec.{eqb, leb, ltb}
-use lib.ListN.{length, drop, getD, replicate}
+use lib.ListN.{length, drop, take, getD, replicate}
 use lib.IntN.{pos}
 use Rattle.isa.specs.declared.Measured.{Measured}
 use Rattle.isa.specs.declared.Encoded.{Encoded}
-use Rattle.isa.specs.declared.Instruction.{Instruction}
 use Rattle.encode_spec.specs.Encode.{sizeOf, encodeOf}
 use Rattle.base_spec.specs.declared.Number.{Number}
 use Rattle.base_spec.specs.declared.Number.the-variants as number
 use Rattle.base_spec.specs.Parts.{fields}
 use Rattle.base_spec.specs.Number.{numberOf}
 use Rattle.base_spec.specs.Lines.{linesOf}
-use Rattle.numeric_spec.specs.declared.Built.{Built}
-use Rattle.numeric_spec.specs.declared.Built.the-variants as built
 use Rattle.sheet_spec.specs.Names.{bytes}
-use Rattle.sheet_spec.specs.Line.{equal, lineOf}
-use Rattle.sheet_spec.specs.Made.{addressIn, namesIn, madeOf}
+use Rattle.sheet_spec.specs.Line.{equal, Parsed, no, lineOf}
+use Rattle.sheet_spec.specs.Made.{Made, makes, turnedBack, made, ofLines}
+
+-- ---- a text
 
 -- the number of line feeds, and the last byte
 abbrev pub feeds : List ℕ → ℕ
@@ -38,8 +38,8 @@ isSheet text = leb 1 (length text) && leb (length text) 65536 && eqb (last text)
 abbrev pub startLine : List ℕ → List ℕ
 startLine text = getD (linesOf text) 0 []
 
-abbrev pub linesIn : List ℕ → List (List ℕ)
-linesIn text = drop 1 (linesOf text)
+abbrev pub instructionLines : List ℕ → List (List ℕ)
+instructionLines text = drop 1 (linesOf text)
 
 -- START and a 32-bit decimal address
 pub data Start : Type 0 where
@@ -59,35 +59,99 @@ startFields (f ∷ (g ∷ (h ∷ fs))) = notInForm
 abbrev pub startOf : List ℕ → Start
 startOf line = startFields (fields line)
 
--- a line of a sheet of n lines: 7, then 8, then as `size` refuses it with `@` as 0
-abbrev pub refusedLine : ℕ → Measured
-refusedLine k = record { size = 0; number = k; detail = 0; value = pos 0 }
+abbrev pub startNumber : Start → ℕ
+startNumber (at n) = n
+startNumber notInForm = 0
 
-abbrev pub sizedAs : Built → Bool → Measured
-sizedAs (built.Instruction i) named = cond named (sizeOf i) (refusedLine 8)
-sizedAs built.NotInForm named = refusedLine 7
+-- ---- a start and parsed lines
 
-unfoldable pub sizedOf : ℕ → List ℕ → Measured
-sizedOf n line = sizedAs (madeOf (λ k. 0) line) (namesIn n (lineOf line))
+-- a line of n: 7, then 8, then as `size` refuses it with `@` as 0
+abbrev pub sizedAs : Made → Measured
+sizedAs (makes i) = sizeOf i
+sizedAs (turnedBack k) = record { size = 0; number = k; detail = 0; value = pos 0 }
+
+unfoldable pub sizedOf : ℕ → Parsed → Measured
+sizedOf n p = sizedAs (made (ofLines n (λ k. 0)) p)
+
+abbrev pub sizesOf : List Parsed → List Measured
+sizesOf ps = map (sizedOf (length ps)) ps
 
 -- a line counts half of its size
-unfoldable pub counted : ℕ → List ℕ → ℕ
-counted n line = sizedOf n line .size / 2
+abbrev pub halfOf : Measured → ℕ
+halfOf m = m .size / 2
+
+-- what is translated and followed: a start, lines, and the words that each counts
+pub record Sheet : Type 0 where
+  pub start : ℕ
+  pub lines : List Parsed
+  pub counts : List ℕ
+
+abbrev pub sheetAt : ℕ → List Parsed → Sheet
+sheetAt start ps = record { start = start; lines = ps; counts = map halfOf (sizesOf ps) }
+
+abbrev pub sheetIn : List ℕ → Sheet
+sheetIn text = sheetAt (startNumber (startOf (startLine text))) (map lineOf (instructionLines text))
+
+abbrev pub lineCount : Sheet → ℕ
+lineCount s = length (s .lines)
 
 -- the words of all lines
-abbrev pub total : ℕ → List (List ℕ) → ℕ
-total n [] = 0
-total n (l ∷ ls) = counted n l + total n ls
+abbrev pub total : List ℕ → ℕ
+total [] = 0
+total (c ∷ cs) = c + total cs
 
--- the addresses of the lines: the start plus twice the words of all lines before
-abbrev pub addressesFrom : ℕ → ℕ → List (List ℕ) → List ℕ
-addressesFrom n a [] = []
-addressesFrom n a (l ∷ ls) = a ∷ addressesFrom n (a + 2 * counted n l) ls
+abbrev pub wordCount : Sheet → ℕ
+wordCount s = total (s .counts)
 
--- a line encoded at its address, its names made addresses
-abbrev pub encodedLine : Built → ℕ → Encoded
-encodedLine (built.Instruction i) a = encodeOf i a
-encodedLine built.NotInForm a = record { words = replicate 11 0; count = 0; number = 7; detail = 0; value = pos 0 }
+-- the end: the start plus twice the words of all lines
+abbrev pub endOf : ℕ → ℕ → ℕ
+endOf start words = start + 2 * words
 
-unfoldable pub lineEncoded : List ℕ → List ℕ → ℕ → Encoded
-lineEncoded addresses line a = encodedLine (madeOf (addressIn addresses) line) a
+abbrev pub end : Sheet → ℕ
+end s = endOf (s .start) (wordCount s)
+
+-- the lines' addresses: the start plus twice the words of all lines before
+abbrev pub addressesFrom : ℕ → List ℕ → List ℕ
+addressesFrom a [] = []
+addressesFrom a (c ∷ cs) = a ∷ addressesFrom (a + 2 * c) cs
+
+abbrev pub addresses : Sheet → List ℕ
+addresses s = addressesFrom (s .start) (s .counts)
+
+-- of line n; the first is line 1
+abbrev pub lineAt : Sheet → ℕ → Parsed
+lineAt s n = getD (s .lines) (pred n) no
+
+abbrev pub countAt : Sheet → ℕ → ℕ
+countAt s n = getD (s .counts) (pred n) 0
+
+abbrev pub addressAt : Sheet → ℕ → ℕ
+addressAt s n = getD (addresses s) (pred n) 0
+
+-- each `@` replaced by the named line's address
+abbrev pub resolved : Sheet → ℕ → Option ℕ
+resolved s = ofLines (lineCount s) (addressAt s)
+
+-- each line encoded at its address, its names made by f
+abbrev pub encodedAs : ℕ → Made → Encoded
+encodedAs a (makes i) = encodeOf i a
+encodedAs a (turnedBack k) = record { words = replicate 11 0; count = 0; number = k; detail = 0; value = pos 0 }
+
+abbrev pub encodedFrom : (ℕ → Option ℕ) → List ℕ → List Parsed → List Encoded
+encodedFrom f [] ps = []
+encodedFrom f (a ∷ later) [] = []
+encodedFrom f (a ∷ later) (p ∷ ps) = encodedAs a (made f p) ∷ encodedFrom f later ps
+
+abbrev pub encoded : Sheet → List Encoded
+encoded s = encodedFrom (resolved s) (addresses s) (s .lines)
+
+-- their words, each line's directly after those of the line before
+abbrev pub wordsIn : Encoded → List ℕ
+wordsIn e = take (e .count) (e .words)
+
+abbrev pub allWords : List Encoded → List ℕ
+allWords [] = []
+allWords (e ∷ es) = wordsIn e ++ allWords es
+
+abbrev pub image : Sheet → List ℕ
+image s = allWords (encoded s)

@@ -1,14 +1,8 @@
 -- The spelling of a line (01, "The listing"): its fields, parted by tabs.
 use Prim.Native.Nat.{ℕ, _<_, _^_}
-use mathlib.Core.Path.{_≡_}
 use mathlib.Core.Bool.{Bool, true, false}
 use mathlib.Core.List.{List, [], _∷_, _++_, map}
 use lib.ListN.{length, getD}
-use lib.IntN.{ℤ, pos}
-use Rattle.isa.specs.declared.Instruction.{Instruction}
-use Rattle.numeric_spec.specs.Form.{formOf, numbersOf}
-use Rattle.numeric_spec.specs.Entry.{Inside}
-use Rattle.base_spec.specs.Signed.{minus}
 use Rattle.base_spec.specs.Written.{decimalOf}
 use Rattle.sheet_spec.specs.declared.Kind.{Kind}
 use Rattle.sheet_spec.specs.declared.Kind.the-variants as kind
@@ -120,16 +114,3 @@ joined (f ∷ (g ∷ fs)) = f ++ (9 ∷ joined (g ∷ fs))
 
 unfoldable pub spell : List Token → List ℕ
 spell vs = joined (fieldsFrom (kind.Instruction ∷ []) vs)
-
--- the numbers of a line, each line's name made a number
-abbrev pub numberAs : (ℕ → ℕ) → Token → ℤ
-numberAs f (literal true n) = minus n
-numberAs f (literal false n) = pos n
-numberAs f (label n) = pos (f n)
-numberAs f invalid = pos 0
-
--- a line: an instruction, with 0 for each target that a line's name stands for
-pub record Line (vs : List Token) (i : Instruction) : Type 0 where
-  pub grammar : SuitAll (kind.Instruction ∷ []) vs
-  pub numbers : map (numberAs (λ n. 0)) vs ≡ numbersOf i
-  pub inside : Inside (formOf i)

@@ -6,10 +6,12 @@ use Rattle.numeric_spec.specs.Entry.{Entry, unsigned, signed}
 use Rattle.numeric_spec.specs.Form.{formOf}
 use Rattle.sheet_spec.specs.Line.{Token, literal, label}
 use Rattle.sheet_spec.specs.declared.Kind.{Kind}
-use Rattle.sheet_spec.specs.Spell.{nextKinds, Line}
+use Rattle.sheet_spec.specs.Spell.{nextKinds}
+use Rattle.sheet_spec.specs.Made.{Line}
 use Rattle.sheet_spec.specs.declared.Kind.the-variants as kind
 use mathlib.Core.List.{List, [], _∷_, _++_, map}
 use mathlib.Core.Path.{_≡_}
+use mathlib.Core.Option.{some}
 use Rattle.isa.specs.declared.RawOperation.the-variants.{IllegalWord}
 use Rattle.isa.specs.declared.NoOperandOperation.the-variants.{SIMHALT}
 use Rattle.isa.specs.declared.Instruction.{Instruction}
@@ -52,4 +54,4 @@ HasLine i = ((w : ℕ) → i ≡ Raw IllegalWord w → ⊥) × (i ≡ NoOperand 
 pub record Told (m : ℕ → Mark) (i : Instruction) : Type 0 where
   pub bare : Instruction
   pub form : formOf bare ≡ unaimed m (kind.Instruction ∷ []) (formOf i)
-  pub line : Line (saying m (kind.Instruction ∷ []) (formOf i)) bare
+  pub line : Line (λ k. some 0) (saying m (kind.Instruction ∷ []) (formOf i)) bare

@@ -1,6 +1,6 @@
--- The size of an instruction does not depend on its targets.
-use Prim.Native.Nat.{ℕ, _*_}
-use mathlib.Core.Path.{_≡_, refl, ap, ap₂}
+-- A size is 2 to 22, twice the words at any address, and does not depend on targets.
+use Prim.Native.Nat.{ℕ, _*_, _≤_}
+use mathlib.Core.Path.{_≡_, refl, sym, ap, ap₂, _∙_}
 use mathlib.Core.Bool.{Bool, true, false, not, cond}
 use mathlib.Core.List.{List, _∷_, _++_}
 use lib.ListN.{length, length-append}
@@ -23,9 +23,10 @@ use Rattle.isa.specs.declared.BranchOperation.the-variants.{BRA, BSR}
 use Rattle.isa.specs.declared.PackOperation.the-variants.{PACK, UNPK}
 use Rattle.isa.specs.declared.Instruction.{Instruction}
 use Rattle.isa.specs.declared.Instruction.the-variants.{IntoRegister, MOVEM, Transfer, Pair, Quick, ImmediateInto, WordIntoData, UnsizedIntoRegister, UnsizedOne, UnsizedPair, OneOperand, Bcc, Scc, DBcc, Branch, Shift, MULL, Pack, CAS, BF, DIVL}
-use Rattle.encode_spec.specs.Item.{Item, Part, failure, wordsIn, laid, check, fine, operation, allow}
+use native.Mathlib.Omega.{arith}
+use Rattle.encode_spec.specs.Item.{Item, Part, Verdict, failure, wordsIn, laid, check, fine, malformed, outOfRange, noEncoding, operation, allow}
 use Rattle.isa_spec.specs.Code.{moveCode}
-use Rattle.encode_spec.specs.Encode.{measuredAs, sizeOf}
+use Rattle.encode_spec.specs.Encode.{itemsOf, wordsOf, refusalOf, measuredAs, sizeOf}
 use Rattle.encode_spec.specs.Ea.{everyMode, permits, byteOfAddress, eaField, effective, isRegister, isImmediate, typed, single, withData, withAddress, fromData}
 use Rattle.encode_spec.specs.Movement.{moveParts, moveaParts, movemParts, movepParts}
 use Rattle.encode_spec.specs.Arithmetic.{immediateParts, quickParts, intoDataParts, arithmeticParts, intoAddressParts, boundsParts, extendedParts, cmpmParts, mullParts, divlParts, tstParts}
@@ -34,8 +35,49 @@ use Rattle.encode_spec.specs.Bits.{bitParts, dynamicParts, staticParts, bitFiel
 use Rattle.encode_spec.specs.Control.{branchParts, bccParts, dbccParts, sccParts}
 use Rattle.encode_spec.specs.System.{movesParts, casParts}
 use Rattle.encode_spec.specs.Instruction.{registerParts, transferParts, pairParts, wordParts, unsizedRegisterParts, unsizedOneParts, unsizedPairParts, oneParts, branchesParts, packsParts}
-use Rattle.encode_facts.specs.Items.{failure-append, words-in-append}
-use Rattle.sheet_size_facts.specs.Rows.{bare}
+use Rattle.encode_facts.specs.Items.{failure-append, words-in-append, words-count}
+use Rattle.m68k_encode.specs.Lays.{alike-count, instruction-lays}
+
+-- ---- 2 to 22, and twice the words
+measured-most : (v : Verdict) (k : ℕ) → measuredAs v k .size ≤ k
+measured-most fine k = omega arith
+measured-most malformed k = omega arith
+measured-most (outOfRange f z) k = omega arith
+measured-most (noEncoding r) k = omega arith
+
+measured-size : (v : Verdict) (k : ℕ) → measuredAs v k .number ≡ 0 → measuredAs v k .size ≡ k
+measured-size fine k h = refl
+measured-size malformed k h = absurd (omega arith)
+measured-size (outOfRange f z) k h = absurd (omega arith)
+measured-size (noEncoding r) k h = absurd (omega arith)
+
+pub size-most : (i : Instruction) → sizeOf i .size ≤ 22
+unfolding sizeOf
+size-most i = omega (arith, measured-most (refusalOf false i 0) (2 * length (wordsOf i 0)), words-count (itemsOf i 0), instruction-lays i .most 0)
+
+pub size-words : (i : Instruction) → sizeOf i .number ≡ 0 → (a : ℕ) → sizeOf i .size ≡ 2 * length (wordsOf i a)
+unfolding sizeOf
+size-words i h a =
+    measured-size (refusalOf false i 0) (2 * length (wordsOf i 0)) h
+    ∙ ap (λ (n : ℕ). 2 * n) (words-count (itemsOf i 0) ∙ alike-count (itemsOf i 0) (itemsOf i a) (instruction-lays i .alike 0 a) ∙ sym (words-count (itemsOf i a)))
+
+pub size-least : (i : Instruction) → sizeOf i .number ≡ 0 → 2 ≤ sizeOf i .size
+size-least i h = omega (arith, size-words i h 0, words-count (itemsOf i 0), instruction-lays i .least 0)
+
+-- ---- targets
+-- an operand without its target
+abbrev pub bare : Operand → Operand
+bare (Immediate v) = Immediate v
+bare (Register r) = Register r
+bare (Indirect k) = Indirect k
+bare (PostIndirect k) = PostIndirect k
+bare (PreIndirect k) = PreIndirect k
+bare (IndirectDisplacement z base) = IndirectDisplacement z base
+bare (IndirectIndex base z x) = IndirectIndex base z x
+bare (PcDisplacement t) = PcDisplacement 0
+bare (PcIndex t x) = PcIndex 0 x
+bare (Extended base w z outer) = Extended base w z outer
+bare (Absolute a w) = Absolute a w
 
 -- where an operand stands in an instruction
 pub data Hole : (Operand → Instruction) → Type 0 where
