@@ -94,7 +94,7 @@ no-address : (k : ℕ) → addressIn [] k ≡ 0
 no-address zero = refl
 no-address (suc k) = refl
 
-zero-either : (b : Bool) → 0 ≡ Option·getD (cond b (some 0) none) 0
+zero-either : (b : Bool) → _≡_ {A = ℕ} 0 (Option·getD (cond b (some 0) none) 0)
 zero-either true = refl
 zero-either false = refl
 
@@ -108,7 +108,7 @@ module _ (addresses : List ℕ) (few : length addresses ≤ 4096) where
 
   listed-is : (k : ℕ) → addressIn addresses k ≡ Option·getD (listed k) 0
   listed-is zero = refl
-  listed-is (suc k) = go (leb (suc k) (length addresses)) refl
+  listed-is (suc k) = rw (le-leb 1 (suc k) (omega arith)) (go (leb (suc k) (length addresses)) refl)
     where
       go : (b : Bool) → leb (suc k) (length addresses) ≡ b → getD addresses k 0 ≡ Option·getD (cond b (some (getD addresses k 0)) none) 0
       go true e = refl

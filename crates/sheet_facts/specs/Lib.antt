@@ -4,3 +4,4 @@ pub mod Fields
 pub mod Lines
 pub mod Listing
 pub mod SheetLaws
+pub mod Made

@@ -1,10 +1,14 @@
 // The translator's passes over the lines of a sheet, one loop each.
 ghost use mathlib.Core.Path.{_≡_};
 ghost use Prim.Native.Nat.{_≤_};
-ghost use lib.ListN.{length, take};
-ghost use Rattle.sheet_spec.specs.Sheet.{refusedLine, sizedAs, sizedOf, total, encodedLine, lineEncoded};
-ghost use Rattle.sheet_spec.specs.Translate.{sizesOutcome, over};
-ghost use Rattle.sheet_passes.specs.Passes.{linesAt, passedOf, filledOf, Placed, rangesAt, imageAt};
+ghost use mathlib.Core.Bool.{true};
+ghost use mathlib.Core.List.{map};
+ghost use lib.ListN.{length};
+ghost use Rattle.sheet_spec.specs.Line.{lineOf};
+ghost use Rattle.sheet_spec.specs.Made.{turnedBack, judged};
+ghost use Rattle.sheet_spec.specs.Sheet.{sizedAs, sizedOf, sizesOf, halfOf, total, encodedAs, wordsIn, allWords};
+ghost use Rattle.sheet_spec.specs.Translate.{inTurn, sizing, encodeOutcome, over};
+ghost use Rattle.sheet_passes.specs.Passes.{parsedAt, passedOf, filledOf, lineEncoded, Placed, encodedAt};
 use isa::Encoded;
 use isa::Measured;
 use numeric_spec::Built;
@@ -20,7 +24,7 @@ pub struct Passed {
 
 // The size of what a line makes, or why the line is turned back.
 fn sized_as(b: Built, named: bool) -> Measured
-    ensures { λ r. ⌜ r ≡ sizedAs b named ⌝ }
+    ensures { λ r. ⌜ r ≡ sizedAs (judged b named) ⌝ }
 {
     match b {
         Built::Instruction(i) => {
@@ -34,7 +38,7 @@ fn sized_as(b: Built, named: bool) -> Measured
 }
 
 fn turned_back(number: u8) -> Measured
-    ensures { λ r. ⌜ r ≡ refusedLine number ⌝ }
+    ensures { λ r. ⌜ r ≡ sizedAs (turnedBack number) ⌝ }
 {
     Measured {
         size: 0,
@@ -47,7 +51,7 @@ fn turned_back(number: u8) -> Measured
 // The size of a line of a sheet of so many lines.
 fn sized(line: &[u8], lines: usize) -> Measured
     requires { ⌜ lines ≤ 4096 ⌝ }
-    ensures { λ r. ⌜ r ≡ sizedOf lines (now (line .entry)) ⌝ }
+    ensures { λ r. ⌜ r ≡ sizedOf lines (lineOf (now (line .entry))) ⌝ }
 {
     let e = sheet_line::read_line(line);
     let b = sheet_entries::made(e, &[]);
@@ -55,7 +59,7 @@ fn sized(line: &[u8], lines: usize) -> Measured
 }
 
 fn encoded_as(b: Built, address: u32) -> Encoded
-    ensures { λ r. ⌜ r ≡ encodedLine b address ⌝ }
+    ensures { λ r. ⌜ r ≡ encodedAs address (judged b true) ⌝ }
 {
     match b {
         Built::Instruction(i) => m68k_encode::encode(i, address),
@@ -72,7 +76,7 @@ fn encoded_as(b: Built, address: u32) -> Encoded
 // A line's words at its address, its names made addresses.
 fn encoded(line: &[u8], addresses: &[u32], address: u32) -> Encoded
     requires { ⌜ length (now addresses) ≤ 4096 ⌝ }
-    ensures { λ r. ⌜ r ≡ lineEncoded (now (addresses .entry)) (now (line .entry)) address ⌝ }
+    ensures { λ r. ⌜ r ≡ lineEncoded (now (addresses .entry)) (lineOf (now (line .entry))) address ⌝ }
 {
     let e = sheet_line::read_line(line);
     encoded_as(sheet_entries::made(e, addresses), address)
@@ -80,9 +84,9 @@ fn encoded(line: &[u8], addresses: &[u32], address: u32) -> Encoded
 
 // Each line measured, and its address put into the scratch.
 pub fn sizes(text: &[u8], from: usize, lines: usize, start: u32, scratch: &mut [u32]) -> Passed
-    requires { ⌜ (lines ≡ length (linesAt (now text) from)) × (lines ≤ 4096) × (lines ≤ length (now scratch)) ⌝ }
-    ensures { λ r. ⌜ (r ≡ passedOf (sizesOutcome lines 1 (linesAt (now (text .entry)) from)) (total lines (linesAt (now (text .entry)) from)))
-        × (now (scratch .exit) ≡ over (filledOf lines start (linesAt (now (text .entry)) from)) (now (scratch .entry))) ⌝ }
+    requires { ⌜ (lines ≡ length (parsedAt (now text) from)) × (lines ≤ 4096) × (lines ≤ length (now scratch)) ⌝ }
+    ensures { λ r. ⌜ (r ≡ passedOf (sizing (parsedAt (now (text .entry)) from)) (total (map halfOf (sizesOf (parsedAt (now (text .entry)) from)))))
+        × (now (scratch .exit) ≡ over (filledOf start (sizesOf (parsedAt (now (text .entry)) from))) (now (scratch .entry))) ⌝ }
 {
     let mut next = from;
     let mut k: usize = 0;
@@ -115,8 +119,8 @@ pub fn sizes(text: &[u8], from: usize, lines: usize, start: u32, scratch: &mut [
 
 // Each line encoded at its address, to the first that is refused.
 pub fn ranges(text: &[u8], from: usize, addresses: &[u32]) -> Passed
-    requires { ⌜ Placed (now addresses) (linesAt (now text) from) ⌝ }
-    ensures { λ r. ⌜ r ≡ passedOf (rangesAt (now (addresses .entry)) (linesAt (now (text .entry)) from)) 0 ⌝ }
+    requires { ⌜ Placed (now addresses) (parsedAt (now text) from) ⌝ }
+    ensures { λ r. ⌜ r ≡ passedOf (inTurn encodeOutcome 1 (encodedAt (now (addresses .entry)) (parsedAt (now (text .entry)) from))) 0 ⌝ }
 {
     let mut next = from;
     let mut k: usize = 0;
@@ -147,7 +151,7 @@ pub fn ranges(text: &[u8], from: usize, addresses: &[u32]) -> Passed
 // The words that count, at the front of the part.
 fn put_words(part: &mut [u16], e: Encoded)
     requires { ⌜ (e .count ≤ 11) × (e .count ≤ length (now part)) ⌝ }
-    ensures { λ r. ⌜ now (part .exit) ≡ over (take (e .count) (e .words)) (now (part .entry)) ⌝ }
+    ensures { λ r. ⌜ now (part .exit) ≡ over (wordsIn e) (now (part .entry)) ⌝ }
 {
     let words = e.words;
     let count = e.count;
@@ -160,9 +164,9 @@ fn put_words(part: &mut [u16], e: Encoded)
 
 // Each line's words, from the image's first word on; how many there are.
 pub fn write(text: &[u8], from: usize, addresses: &[u32], image: &mut [u16]) -> usize
-    requires { ⌜ Placed (now addresses) (linesAt (now text) from) × (length (imageAt (now addresses) (linesAt (now text) from)) ≤ length (now image)) ⌝ }
-    ensures { λ r. ⌜ (r ≡ length (imageAt (now (addresses .entry)) (linesAt (now (text .entry)) from)))
-        × (now (image .exit) ≡ over (imageAt (now (addresses .entry)) (linesAt (now (text .entry)) from)) (now (image .entry))) ⌝ }
+    requires { ⌜ Placed (now addresses) (parsedAt (now text) from) × (length (allWords (encodedAt (now addresses) (parsedAt (now text) from))) ≤ length (now image)) ⌝ }
+    ensures { λ r. ⌜ (r ≡ length (allWords (encodedAt (now (addresses .entry)) (parsedAt (now (text .entry)) from))))
+        × (now (image .exit) ≡ over (allWords (encodedAt (now (addresses .entry)) (parsedAt (now (text .entry)) from))) (now (image .entry))) ⌝ }
 {
     let mut next = from;
     let mut k: usize = 0;

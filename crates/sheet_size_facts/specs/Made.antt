@@ -16,7 +16,8 @@ use Rattle.sheet_spec.specs.Spell.{SuitAll}
 use Rattle.sheet_spec.specs.Made.{numberAs, isSome, names, namesAll, Line, Made, makes, turnedBack, made}
 use Rattle.sheet_spec.specs.Sheet.{sizedAs}
 use Rattle.sheet_spec.specs.Promises.{InGrammar}
-use Rattle.sheet_size_facts.specs.Says.{entries, line-says, made-back}
+use Rattle.sheet_facts.specs.Made.{made-back}
+use Rattle.sheet_size_facts.specs.Says.{entries, line-says}
 use Rattle.sheet_size_facts.specs.Turned.{every, given, Spelt, Bounded, Turned}
 use Rattle.sheet_size_facts.specs.Lawful.{Follows, Goes, quietly, aimed}
 use Rattle.sheet_size_facts.specs.Renamed.{instruction-turned}

@@ -1,15 +1,13 @@
 -- The numbers of a line that makes an instruction are the instruction's. Assumes nothing.
 use Prim.Native.Nat.{ℕ, _<_}
-use mathlib.Core.Path.{_≡_, refl, sym, ap, subst, _∙_}
+use mathlib.Core.Path.{_≡_, refl, ap, subst, _∙_}
 use mathlib.Core.Bool.{Bool, true, false}
 use mathlib.Core.List.{List, [], _∷_, map}
 use mathlib.Core.Option.{Option}
-use native.Mathlib.Omega.{arith}
 use lib.ListN.{length, getD}
 use lib.IntN.{pos, natAbs}
 use Rattle.isa.specs.declared.Instruction.{Instruction}
 use Rattle.numeric_spec.specs.declared.Built.{Built}
-use Rattle.numeric_spec.specs.declared.Built.the-variants as built
 use Rattle.numeric_spec.specs.Entry.{Entry, unsigned}
 use Rattle.numeric_spec.specs.Form.{placeOf, payloadOf}
 use Rattle.numeric_spec.specs.Build.{builtOf}
@@ -18,30 +16,13 @@ use Rattle.sheet_spec.specs.declared.Kind.the-variants as kind
 use Rattle.sheet_spec.specs.Names.{bytes, namesOf}
 use Rattle.sheet_spec.specs.Line.{Token, literal, label, invalid, Parsed, says, no}
 use Rattle.sheet_spec.specs.Spell.{Variant}
-use Rattle.sheet_spec.specs.Made.{numberAs, namesAll, namesIn, Line, Made, makes, turnedBack, judged, builtAs, made}
+use Rattle.sheet_spec.specs.Made.{numberAs, namesAll, Line, makes, judged, made}
 use Rattle.sheet_spec.specs.Promises.{InGrammar}
+use Rattle.sheet_facts.specs.Made.{turned-not, judged-makes}
 
 -- an instruction's form
 abbrev pub entries : Instruction → List Entry
 entries i = unsigned 98 (placeOf i) ∷ payloadOf i
-
-turned-not : {C : Type 0} {k : ℕ} {i : Instruction} → turnedBack k ≡ makes i → C
-turned-not e = let z : _≡_ {A = ℕ} 0 1 = cc in absurd (omega arith)
-
-judged-makes : (b : Built) (named : Bool) (i : Instruction) → judged b named ≡ makes i → (b ≡ built.Instruction i) × (named ≡ true)
-judged-makes (built.Instruction j) true i e = let q : j ≡ i = cc in (ap built.Instruction q, refl)
-judged-makes (built.Instruction j) false i e = turned-not e
-judged-makes built.NotInForm named i e = turned-not e
-
--- a line is turned back with 7 or 8
-judged-back : (b : Built) (named : Bool) (k : ℕ) → judged b named ≡ turnedBack k → 0 < k
-judged-back (built.Instruction j) true k e = turned-not (sym e)
-judged-back (built.Instruction j) false k e = let q : _≡_ {A = ℕ} 8 k = cc in omega arith
-judged-back built.NotInForm named k e = let q : _≡_ {A = ℕ} 7 k = cc in omega arith
-
-pub made-back : (f : ℕ → Option ℕ) (p : Parsed) (k : ℕ) → made f p ≡ turnedBack k → 0 < k
-unfolding made
-made-back f p k e = judged-back (builtAs f p) (namesIn f p) k e
 
 -- a line that makes an instruction is a line of it, and the other way round
 pub line-says : (f : ℕ → Option ℕ) (p : Parsed) (i : Instruction) → InGrammar p → made f p ≡ makes i → (vs : List Token) × (p ≡ says vs) × Line f vs i

@@ -6,7 +6,6 @@ use borrow.Author.Needs.{needs}
 use mir.Facts.{toZ-ofZ}
 use mir.Syntax.{w64}
 use lib.ListN.{length}
-use Rattle.sheet_passes.specs.Passes.{linesAt}
 use Rattle.sheet_passes.proofs.Laws.{Ranging, ranging, ranging-end, ranging-stop, ranging-next, place-inside}
 
 abbrev Inv-loop : tie.InvT-loop
@@ -26,7 +25,7 @@ shared-slice-read-encoded c =
     let l = c .before .before .before .before .loop in
     let a = c .before .before .before .before .before .before .before .args in
     let e = c .before .before .line-end in
-    place-inside (a .text .now) (a .addresses .now) (length (linesAt (a .text .now) (a .from))) (l .next) (l .k) (l .inv .1 .address) (l .inv .1 .left) (e .result) (omega arith) (e .ensures .0)
+    place-inside (a .text .now) (a .from) (a .addresses .now) (l .inv .1 .go) (e .result) (omega arith) (e .ensures .0)
 
 returns : tie.Need-returns Inv-loop μ-loop
 returns c =
@@ -42,7 +41,7 @@ loop-again c =
     let a = c .before .before .before .before .before .before .before .before .before .before .args in
     let e = c .before .before .before .before .before .line-end in
     let r = c .before .before .encoded in
-    let inside = place-inside (a .text .now) (a .addresses .now) (length (linesAt (a .text .now) (a .from))) (l .next) (l .k) (l .inv .1 .address) (l .inv .1 .left) (e .result) (omega arith) (e .ensures .0) in
+    let inside = place-inside (a .text .now) (a .from) (a .addresses .now) (l .inv .1 .go) (e .result) (omega arith) (e .ensures .0) in
     (omega arith, ranging-next (a .text .now) (a .from) (a .addresses .now) (l .inv .1) (e .result) (omega arith) (e .ensures .0) (r .result) (r .ensures) (c .if1 .left))
 
 returns-2 : tie.Need-returns-2 Inv-loop μ-loop

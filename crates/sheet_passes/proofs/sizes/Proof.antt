@@ -27,7 +27,7 @@ returns c =
     let a = c .before .before .before .before .before .before .before .before .before .before .args in
     let e = c .before .before .before .before .before .line-end in
     let m = c .before .before .before .sized in
-    rw (toZ-ofZ {w = w64} {z = m .result .value} (search needs)) (measuring-stop (a .text .now) (a .from) (a .lines) (a .start) (a .scratch .now) (l .inv .1) (e .result) (m .result) (omega arith) (e .ensures .0) (m .ensures) (c .before .if1 .taken))
+    rw (toZ-ofZ {w = w64} {z = m .result .value} (search needs)) (measuring-stop (a .text .now) (a .from) (a .lines) (a .start) (a .scratch .now) (l .inv .1) (e .result) (m .result) (omega arith) (e .ensures .0) (m .ensures) (c .before .before .before .before .before .before .before .before .before .before .pre .0) (c .before .if1 .taken))
 
 slice-write-scratch : tie.Need-slice-write-scratch Inv-loop μ-loop
 slice-write-scratch c =
@@ -50,7 +50,7 @@ returns-2 : tie.Need-returns-2 Inv-loop μ-loop
 returns-2 c =
     let l = c .before .loop in
     let a = c .before .before .before .before .args in
-    measuring-end (a .text .now) (a .from) (a .lines) (a .start) (a .scratch .now) (l .inv .1) (omega arith)
+    measuring-end (a .text .now) (a .from) (a .lines) (a .start) (a .scratch .now) (l .inv .1) (c .before .before .before .before .pre .0) (omega arith)
 
 pub sizes-spec : {M : Type 1} → statement M
 sizes-spec =

@@ -4,7 +4,6 @@ use mathlib.Core.Path.{_≡_, refl}
 use Prim.Native.Nat.{_-_, _≤_}
 use native.Mathlib.Omega.{arith}
 use lib.ListN.{length, length-take, length-drop}
-use Rattle.sheet_passes.specs.Passes.{linesAt}
 use Rattle.sheet_passes.proofs.Laws.{place-inside, Writing, writing, writing-end, writing-most, writing-room, writing-next}
 
 abbrev Inv-loop : tie.InvT-loop
@@ -24,7 +23,7 @@ shared-slice-read-encoded c =
     let l = c .before .before .before .before .loop in
     let a = c .before .before .before .before .before .before .before .before .args in
     let e = c .before .before .line-end in
-    place-inside (a .text .now) (a .addresses .now) (length (linesAt (a .text .now) (a .from))) (l .next) (l .k) (l .inv .3 .address) (l .inv .3 .left) (e .result) (omega arith) (e .ensures .0)
+    place-inside (a .text .now) (a .from) (a .addresses .now) (l .inv .3 .go) (e .result) (omega arith) (e .ensures .0)
 
 put-words-requires : tie.Need-put-words-requires Inv-loop μ-loop
 put-words-requires c κs =
@@ -51,7 +50,7 @@ loop-again c =
     let r = c .before .before .before .before .before .encoded in
     let pre = c .before .before .before .before .before .before .before .before .before .before .before .before .before .before .pre .1 in
     let room = writing-room (a .text .now) (a .from) (a .addresses .now) (a .image .now) (l .inv .3) (e .result) (omega arith) (e .ensures .0) (r .result) (r .ensures) pre in
-    let inside = place-inside (a .text .now) (a .addresses .now) (length (linesAt (a .text .now) (a .from))) (l .next) (l .k) (l .inv .3 .address) (l .inv .3 .left) (e .result) (omega arith) (e .ensures .0) in
+    let inside = place-inside (a .text .now) (a .from) (a .addresses .now) (l .inv .3 .go) (e .result) (omega arith) (e .ensures .0) in
     (omega arith, omega arith, omega arith, writing-next (a .text .now) (a .from) (a .addresses .now) (a .image .now) (l .inv .3) (e .result) (omega arith) (e .ensures .0) (r .result) (r .ensures) pre (c .before .before .before .put-words .last .0) (c .before .before .before .put-words .ensures))
 
 returns : tie.Need-returns Inv-loop μ-loop
