@@ -1,12 +1,18 @@
 -- What the program `sheet` prints (01, "The listing").
-use Prim.Native.Nat.{ℕ, suc, _+_, _*_}
+use Prim.Native.Nat.{ℕ, suc}
 use mathlib.Core.List.{List, [], _∷_, _++_}
-use lib.IntN.{ℤ}
-use Rattle.base_spec.specs.Written.{hex4Of, hex8Of, signedOf}
+use lib.IntN.{ℤ, pos}
+use lib.Dec.{leb}
+use lib.ListN.{length}
+use mathlib.Core.Path.{_≡_}
+use mathlib.Core.Bool.{Bool, true, false, cond}
+use Rattle.base_spec.specs.Written.{placed, hex4Of, hex8Of, signedOf}
 use Rattle.base_spec.specs.Refused.{tab, fieldText}
 use Rattle.sheet_spec.specs.Names.{bytes}
-use Rattle.sheet_spec.specs.Sheet.{linesIn, counted}
-use Rattle.sheet_spec.specs.Translate.{Outcome, inOrder, refused, startIn, countIn, addressesIn, outcomeOf, lineWords}
+use Rattle.isa.specs.declared.Encoded.{Encoded}
+use Rattle.sheet_spec.specs.Sheet.{Sheet, sheetIn, addresses, encoded, wordsIn}
+use Rattle.sheet_spec.specs.Translate.{Outcome, inOrder, refused, outcomeOf, imageOf, scratchOf}
+use Rattle.print_spec.specs.declared.Output.{Output}
 
 -- a tab and each word
 abbrev pub listedWords : List ℕ → List ℕ
@@ -17,14 +23,14 @@ listedWords (w ∷ ws) = tab ++ hex4Of w ++ listedWords ws
 unfoldable pub lineText : ℕ → ℕ → List ℕ → List ℕ
 lineText k address words = fieldText k ++ hex8Of address ++ listedWords words ++ (10 ∷ [])
 
--- the lines of a sheet of n lines, from line k on, which stands at a
-abbrev pub listingFrom : List ℕ → ℕ → ℕ → ℕ → List (List ℕ) → List ℕ
-listingFrom addresses n k a [] = []
-listingFrom addresses n k a (l ∷ ls) =
-    lineText k a (lineWords addresses l a) ++ listingFrom addresses n (suc k) (a + 2 * counted n l) ls
+-- the lines from line k on, at these addresses
+abbrev pub listingFrom : ℕ → List ℕ → List Encoded → List ℕ
+listingFrom k [] es = []
+listingFrom k (a ∷ later) [] = []
+listingFrom k (a ∷ later) (e ∷ es) = lineText k a (wordsIn e) ++ listingFrom (suc k) later es
 
-unfoldable pub listingOf : List ℕ → List ℕ
-listingOf text = listingFrom (addressesIn text) (countIn text) 1 (startIn text) (linesIn text)
+unfoldable pub listingOf : Sheet → List ℕ
+listingOf s = listingFrom 1 (addresses s) (encoded s)
 
 -- refused⇥number⇥line⇥detail⇥value
 unfoldable pub sheetRefusal : ℕ → ℕ → ℕ → ℤ → List ℕ
@@ -37,4 +43,22 @@ printedAs (refused number line detail value) listing = sheetRefusal number line 
 
 -- with so many scratch places and image words
 unfoldable pub printedOf : List ℕ → ℕ → ℕ → List ℕ
-printedOf text places room = printedAs (outcomeOf text places room) (listingOf text)
+printedOf text places room = printedAs (outcomeOf text places room) (listingOf (sheetIn text))
+
+-- a text written into a buffer that is wide enough for 4,096 lines of at most 69 bytes: how much was written; else nothing
+abbrev pub isWide : List ℕ → Bool
+isWide out = leb 282624 (length out)
+
+pub record Put (t out out′ : List ℕ) (r : Output) : Type 0 where
+  pub answer : r ≡ cond (isWide out) (record { wide = true; count = length t }) (record { wide = false; count = 0 })
+  pub buffer : out′ ≡ cond (isWide out) (placed out 0 t) out
+
+-- what is printed for a text, with an image v and a scratch s; where the buffer is not wide, both are as they were
+pub record Printed (text v s out v′ s′ out′ : List ℕ) (r : Output) : Type 0 where
+  pub put : Put (printedOf text (length s) (length v)) out out′ r
+  pub image : v′ ≡ cond (isWide out) (imageOf text s v) v
+  pub scratch : s′ ≡ cond (isWide out) (scratchOf text s v) s
+
+-- what is printed for a text of more than 65,536 bytes
+abbrev pub longerText : List ℕ
+longerText = sheetRefusal 10 0 0 (pos 0)

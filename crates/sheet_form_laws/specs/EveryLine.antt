@@ -2,6 +2,8 @@
 use Prim.Native.Nat.{ℕ, _<_}
 use mathlib.Core.Path.{_≡_, refl, sym, ap, _∙_, subst}
 use mathlib.Core.List.{List, [], _∷_, map, append-nil}
+use mathlib.Core.Bool.{true}
+use mathlib.Core.Option.{Option, some}
 use native.Mathlib.Omega.{arith}
 use lib.ListN.{length, getD}
 use lib.IntN.{ℤ, pos}
@@ -14,8 +16,9 @@ use Rattle.numeric_spec.specs.Form.{placeOf, formOf, numbersOf}
 use Rattle.numeric_spec.specs.Form as numeric
 use Rattle.sheet_spec.specs.declared.Kind.the-variants as kind
 use Rattle.sheet_spec.specs.Names.{bytes, namesOf}
-use Rattle.sheet_spec.specs.Line.{Token}
-use Rattle.sheet_spec.specs.Spell.{SuitAll, Line}
+use Rattle.sheet_spec.specs.Line.{Token, literal, label, invalid}
+use Rattle.sheet_spec.specs.Spell.{SuitAll}
+use Rattle.sheet_spec.specs.Made.{namesAll, Line}
 use Rattle.sheet_size_facts.specs.Says.{entries, place-named}
 use Rattle.sheet_size_facts.specs.Fitting.{fields-numbers, Fitting}
 use Rattle.sheet_spec.specs.Told.{Mark, saying, unaimed, HasLine, Told}
@@ -24,11 +27,17 @@ use Rattle.sheet_size_facts.specs.Rows.{row}
 
 fitted : (i : Instruction) → HasLine i → (m : ℕ → Mark) → Fitting entries (kind.Instruction ∷ []) i m []
 fitted i l m =
-    let r = row {n = 0} i in
+    let r = row {d = λ k. true} i in
     let law = r .law (subst HasLine (sym (r .is)) l) in
     subst (λ (j : Instruction). Fitting entries (kind.Instruction ∷ []) j m []) (r .is)
     (variant-fitting (record { form = entries; kind = kind.Instruction; suits = λ v h. h; names = λ n. (λ h. h, λ k top. refl); top = 98; bare = λ x. x })
     (placeOf (r .con (r .z))) (λ h. ap (λ t. t .0) (law (r .z))) (r .sort) (r .con) (λ w. ap (λ t. (t .1, t .2)) (law w)) (r .z) m [])
+
+names-some : (vs : List Token) → namesAll (λ k. some 0) vs ≡ true
+names-some [] = refl
+names-some (literal s n ∷ vs) = names-some vs
+names-some (label n ∷ vs) = names-some vs
+names-some (invalid ∷ vs) = names-some vs
 
 pub every-line : (m : ℕ → Mark) (i : Instruction) → HasLine i → Inside (formOf i) → Told m i
 unfolding formOf numbersOf
@@ -38,16 +47,16 @@ every-line m i l h =
     let e : entries (f .bare) ≡ unaimed m (kind.Instruction ∷ []) (entries i) = sym (append-nil (entries (f .bare))) ∙ sym (rw n at (f .leaves [])) in
     let b = fields-numbers m (kind.Instruction ∷ []) (entries i) h in
     let g : SuitAll (kind.Instruction ∷ []) (saying m (kind.Instruction ∷ []) (entries i)) = (rw n at (f .fits [])) h (λ i. tt) in
-    record { bare = f .bare; form = e; line = record { grammar = g; numbers = b .0 ∙ ap (map entryNumber) (sym e); inside = subst Inside (sym e) (b .1) } }
+    record { bare = f .bare; form = e; line = record { grammar = g; named = names-some (saying m (kind.Instruction ∷ []) (entries i)); numbers = b .0 ∙ ap (map entryNumber) (sym e); inside = subst Inside (sym e) (b .1) } }
 
 -- IllegalWord and SIMHALT have none
-line-named : (vs : List Token) (i : Instruction) → Line vs i → 0 < length (getD (map bytes (namesOf kind.Instruction)) (placeOf i) [])
+line-named : (f : ℕ → Option ℕ) (vs : List Token) (i : Instruction) → Line f vs i → 0 < length (getD (map bytes (namesOf kind.Instruction)) (placeOf i) [])
 unfolding formOf numbersOf
-line-named [] i l = absurd (l .grammar)
-line-named (v ∷ vs) i l = place-named v (placeOf i) (l .grammar .0) (ap (λ (zs : List ℤ). getD zs 0 (pos 0)) (l .numbers))
+line-named f [] i l = absurd (l .grammar)
+line-named f (v ∷ vs) i l = place-named f v (placeOf i) (l .grammar .0) (ap (λ (zs : List ℤ). getD zs 0 (pos 0)) (l .numbers))
 
-pub illegal-word-none : (vs : List Token) (w : ℕ) → Line vs (Raw IllegalWord w) → ⊥
-illegal-word-none vs w l = let h : 0 < 0 = line-named vs (Raw IllegalWord w) l in absurd (omega arith)
+pub illegal-word-none : (f : ℕ → Option ℕ) (vs : List Token) (w : ℕ) → Line f vs (Raw IllegalWord w) → ⊥
+illegal-word-none f vs w l = let h : 0 < 0 = line-named f vs (Raw IllegalWord w) l in absurd (omega arith)
 
-pub simhalt-none : (vs : List Token) → Line vs (NoOperand SIMHALT) → ⊥
-simhalt-none vs l = let h : 0 < 0 = line-named vs (NoOperand SIMHALT) l in absurd (omega arith)
+pub simhalt-none : (f : ℕ → Option ℕ) (vs : List Token) → Line f vs (NoOperand SIMHALT) → ⊥
+simhalt-none f vs l = let h : 0 < 0 = line-named f vs (NoOperand SIMHALT) l in absurd (omega arith)

@@ -1,23 +1,27 @@
--- A line is in the form exactly when it is the spelling of an instruction's line. Assumes nothing.
+-- A line is in the form exactly when it is the spelling of an instruction's line, whatever its names are made. Assumes nothing.
 use Prim.Native.Nat.{ℕ}
-use mathlib.Core.Path.{_≡_, ap, _∙_}
+use mathlib.Core.Path.{_≡_, refl, ap, _∙_}
 use mathlib.Core.List.{List}
+use mathlib.Core.Option.{Option}
 use Rattle.isa.specs.declared.Instruction.{Instruction}
-use Rattle.numeric_spec.specs.declared.Built.the-variants as built
-use Rattle.numeric_spec.specs.Build.{builtOf}
-use Rattle.numeric_facts.specs.Built.{build-complete}
-use Rattle.sheet_spec.specs.Line.{Token}
-use Rattle.sheet_spec.specs.Spell.{spell, Line}
-use Rattle.sheet_spec.specs.Made.{madeAs, madeOf}
-use Rattle.sheet_size_facts.specs.Says.{says-line}
+use Rattle.sheet_spec.specs.Line.{Token, lineOf}
+use Rattle.sheet_spec.specs.Spell.{spell}
+use Rattle.sheet_spec.specs.Made.{Line, makes, made}
+use Rattle.sheet_spec.specs.Line.{Parsed, says, no}
+use Rattle.sheet_spec.specs.Promises.{InGrammar}
+use Rattle.sheet_facts.specs.Lines.{line-fits}
+use Rattle.sheet_size_facts.specs.Says.{line-says, line-makes}
 use Rattle.sheet_form_laws.specs.LineForm.{line-spelled, spelled-line}
 
-pub form-sound : (t : List ℕ) (i : Instruction) → madeOf (λ n. 0) t ≡ built.Instruction i → (vs : List Token) × Line vs i × (t ≡ spell vs)
-form-sound t i e = let d = says-line t i e in (d .0, d .2, spelled-line t (d .0) (d .1) .1)
+parsed-grammar : (t : List ℕ) → InGrammar (lineOf t)
+parsed-grammar t = go (lineOf t) refl
+  where
+    go : (p : Parsed) → lineOf t ≡ p → InGrammar p
+    go (says vs) e = line-fits t vs e
+    go no e = tt
 
-pub form-complete : (vs : List Token) (i : Instruction) → Line vs i → madeOf (λ n. 0) (spell vs) ≡ built.Instruction i
-unfolding madeOf
-form-complete vs i l =
-    ap (madeAs (λ n. 0)) (line-spelled vs (l .grammar))
-    ∙ ap builtOf (l .numbers)
-    ∙ build-complete i (l .inside)
+pub form-sound : (f : ℕ → Option ℕ) (t : List ℕ) (i : Instruction) → made f (lineOf t) ≡ makes i → (vs : List Token) × Line f vs i × (t ≡ spell vs)
+form-sound f t i e = let d = line-says f (lineOf t) i (parsed-grammar t) e in (d .0, d .2, spelled-line t (d .0) (d .1) .1)
+
+pub form-complete : (f : ℕ → Option ℕ) (vs : List Token) (i : Instruction) → Line f vs i → made f (lineOf (spell vs)) ≡ makes i
+form-complete f vs i l = ap (made f) (line-spelled vs (l .grammar)) ∙ line-makes f vs i l

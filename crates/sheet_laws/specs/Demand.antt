@@ -1,30 +1,30 @@
 -- Each line of an accepted sheet stands: its words are there, read back as its plain form, and its target is the named line's address.
-use Prim.Native.Nat.{ℕ, _*_, _%_, _≤_}
+use Prim.Native.Nat.{ℕ, pred, _*_, _%_, _≤_}
 use mathlib.Core.Path.{_≡_, refl, sym, ap, _∙_, subst}
 use mathlib.Core.Bool.{true}
 use mathlib.Core.List.{List, _++_}
 use native.Mathlib.Omega.{arith}
 use lib.ListN.{length}
 use Rattle.isa.specs.declared.Instruction.{Instruction}
-use Rattle.encode_spec.specs.Encode.{wordsOf}
-use Rattle.numeric_spec.specs.declared.Built.{Built}
-use Rattle.sheet_spec.specs.Made.{addressIn}
+use Rattle.encode_spec.specs.Encode.{encodeOf, wordsOf}
 use Rattle.read_spec.specs.declared.Reading.the-variants.{Read}
 use Rattle.read_spec.specs.Plain.{plain}
 use Rattle.read_spec.specs.Read.{readOf}
 use Rattle.read_spec.specs.Accepted as reads
 use Rattle.read_laws.specs.ReaderLaws.{complete}
-use Rattle.sheet_spec.specs.Translate.{countIn, addressesIn}
-use Rattle.sheet_spec.specs.Follow.{Next, on, to, either, stop, nextOf, target, lineAt, addressOf, countedAt, instructionIn, plainLine, named}
+use Rattle.m68k_encode.specs.Laws.{accepted-fine, accepted-words}
+use Rattle.numeric_spec.specs.Form.{formOf}
+use Rattle.sheet_spec.specs.Line.{Parsed}
+use Rattle.sheet_spec.specs.Made.{makes, made, ofLines}
+use Rattle.sheet_spec.specs.Sheet.{Sheet, sheetAt, lineAt, countAt, addressAt, resolved, wordsIn}
+use Rattle.sheet_spec.specs.Follow.{Next, on, to, either, stop, nextOf, target, lineNext, nextWith, named}
+use Rattle.sheet_spec.specs.Promises.{InGrammar, AcceptedSheet}
+use Rattle.sheet_size_facts.specs.Says.{line-makes}
 use Rattle.sheet_size_facts.specs.Lawful.{quiet, Goes, quietly, aimed}
-use Rattle.sheet_size_facts.specs.Made.{LineMade}
-use Rattle.sheet_size_facts.specs.Image.{address-is}
-use Rattle.sheet_spec.specs.Promises.{AcceptedSheet, wordsAt}
-use Rattle.sheet_size_facts.specs.Bounds.{line-at, count-some, names-bounded, addresses-bounded}
-use Rattle.sheet_size_facts.specs.Counted.{measured}
-use Rattle.sheet_size_facts.specs.Counted as counted
+use Rattle.sheet_size_facts.specs.Bounds.{upTo, up-to, address-is, count-some, names-bounded}
+use Rattle.sheet_size_facts.specs.Counted.{at-line, i, line, makes-it, encodes, entry-is, count-of, words-counted}
 use Rattle.sheet_laws.specs.InTypes.{inside-in-types}
-use Rattle.sheet_laws.specs.Follows.{Aims, Within, LineStands, AllStand}
+use Rattle.sheet_laws.specs.Follows.{Aims, Within, LineStands}
 
 -- ---- where a line goes: to the address t, and to line k of m; its target is even
 abbrev Lands : Next → ℕ → ℕ → ℕ → Type 0
@@ -42,58 +42,68 @@ aimed-lands (to u) t k m e h p q = (e, (p, q), rw e h)
 aimed-lands (either u) t k m e h p q = (e, (p, q), rw e h)
 aimed-lands stop t k m e h p q = (tt, tt, refl)
 
-module _ (text : List ℕ) (places room : ℕ) (ok : AcceptedSheet text places room) where
-  address-even : (n : ℕ) → addressOf text n % 2 ≡ 0
-  address-even n = omega (arith, ok .even)
+module _ (start : ℕ) (ps : List Parsed) (grammar : (n : ℕ) → InGrammar (lineAt (sheetAt start ps) n)) (room : ℕ) (ok : AcceptedSheet (sheetAt start ps) room) (even : start % 2 ≡ 0) where
+  abbrev s : Sheet
+  s = sheetAt start ps
 
-  abbrev A : ℕ → ℕ
-  A k = addressIn (addressesIn text) k
+  address-even : (n : ℕ) → 1 ≤ n → n ≤ length ps → addressAt s n % 2 ≡ 0
+  address-even n h g = omega (arith, address-is start ps n h g, even)
 
-  module _ (n : ℕ) (h : 1 ≤ n) (g : n ≤ countIn text) (l : LineMade (countIn text) (lineAt text n)) where
-    abbrev i : Instruction
-    i = l .made A
+  module _ (n : ℕ) (h : 1 ≤ n) (g : n ≤ length ps) where
+    abbrev j : Instruction
+    j = i start ps grammar room ok n h g
 
     abbrev a : ℕ
-    a = addressOf text n
+    a = addressAt s n
 
-    words-are : wordsAt text n ≡ wordsOf i a
-    words-are = counted.words-are text places room ok n h g l
+    number : encodeOf j a .number ≡ 0
+    number = encodes start ps grammar room ok n h g
 
-    counts-are : length (wordsOf i a) ≡ countedAt text n
-    counts-are = counted.counts-are text places room ok n h g l
+    next-is : nextWith (resolved s) s n ≡ nextOf j
+    next-is = ap lineNext (makes-it start ps grammar room ok n h g) ∙ at-line start ps grammar room ok n h g .follows .plain (addressAt s)
 
-    plain-is : plainLine text n ≡ plain i
-    plain-is = ap (λ (b : Built). plain (instructionIn b)) (counted.made text places room ok n h g l)
+    named-is : named s n ≡ target (nextOf (at-line start ps grammar room ok n h g .instruction (λ k. k)))
+    named-is =
+        let l = at-line start ps grammar room ok n h g in
+        let f = ofLines (length ps) (λ k. k) in
+        ap (λ x. target (lineNext x)) (ap (made f) (l .parsed) ∙ line-makes f (l .tokens) (l .instruction (λ k. k)) (l .line (λ k. k) (names-bounded start ps grammar (ok .measured))))
+        ∙ ap target (l .follows .plain (λ k. k))
 
-    next-is : nextOf (plainLine text n) ≡ nextOf i
-    next-is = ap nextOf plain-is ∙ l .follows .plain A
+    lands : Goes (upTo (length ps)) (at-line start ps grammar room ok n h g .instruction) → Lands (nextOf j) (addressAt s (named s n)) (named s n) (length ps)
+    lands (quietly q) = quiet-lands (nextOf j) (q (addressAt s)) (addressAt s (named s n)) (named s n) (length ps)
+    lands (aimed (m, p, e)) =
+        let u = up-to (length ps) m p in
+        subst (λ (k : ℕ). Lands (nextOf j) (addressAt s k) k (length ps)) (sym (named-is ∙ e (λ k. k)))
+        (aimed-lands (nextOf j) (addressAt s m) m (length ps) (e (addressAt s)) (address-even m (u .0) (u .1)) (u .0) (u .1))
 
-    named-is : named text n ≡ target (nextOf (l .made (λ k. k)))
-    named-is = ap (λ (b : Built). target (nextOf (instructionIn b))) (l .makes (λ k. k) (names-bounded text (measured text places room ok)))
+    landing : Lands (nextOf j) (addressAt s (named s n)) (named s n) (length ps)
+    landing = lands (at-line start ps grammar room ok n h g .follows .goes)
 
-    goes : Goes (countIn text) (l .made) → Lands (nextOf i) (addressOf text (named text n)) (named text n) (countIn text)
-    goes (quietly q) = quiet-lands (nextOf i) (q A) (addressOf text (named text n)) (named text n) (countIn text)
-    goes (aimed (m, p, q, e)) =
-        subst (λ (k : ℕ). Lands (nextOf i) (addressOf text k) k (countIn text)) (sym (named-is ∙ e (λ k. k)))
-        (aimed-lands (nextOf i) (addressOf text m) m (countIn text) (e A ∙ address-is text m p q) (address-even m) p q)
-
-    line-accepted : reads.Accepted a i
+    line-accepted : reads.Accepted a j
+    unfolding formOf
     line-accepted = (
-      inside-in-types i (l .inside A (addresses-bounded text (measured text places room ok))),
-      counted.is-in-order text places room ok n h g l,
-      l .follows .read A a (address-even n) (goes (l .follows .goes) .2),
+      inside-in-types j (line start ps grammar room ok n h g .inside),
+      accepted-fine j a number,
+      at-line start ps grammar room ok n h g .follows .read (addressAt s) a (address-even n h g) (landing .2),
     )
 
-    line-stands : LineStands text n
-    line-stands =
-        record {
-          some = count-some text (measured text places room ok) n h g;
-          counts = ap (λ (ws : List ℕ). length ws) words-are ∙ counts-are;
-          reads-back = λ rest. ap (λ (ws : List ℕ). readOf (ws ++ rest) a) words-are ∙ complete a i rest line-accepted
-              ∙ ap (λ (j : Instruction). Read j (2 * length (wordsOf i a))) (sym plain-is) ∙ ap (λ (k : ℕ). Read (plainLine text n) (2 * k)) counts-are;
-          aims = subst (λ (x : Next). Aims x (addressOf text (named text n))) (sym next-is) (goes (l .follows .goes) .0);
-          within = subst (λ (x : Next). Within x (countIn text) (named text n)) (sym next-is) (goes (l .follows .goes) .1);
-        }
+    words-are : wordsIn (encodeOf j a) ≡ wordsOf j a
+    words-are = accepted-words j a number
 
-  pub all-stand : AllStand text
-  all-stand = record { lines-some = ok .lines-some; each = λ n h g. line-stands n h g (line-at text (measured text places room ok) n h g) }
+    counts-are : length (wordsOf j a) ≡ countAt s n
+    counts-are = ap length (sym words-are) ∙ words-counted j a ∙ count-of start ps grammar room ok n h g
+
+    pub line-stands : LineStands s n
+    line-stands =
+        let l = at-line start ps grammar room ok n h g in
+        record {
+          some = count-some start ps grammar (ok .measured) n h g;
+          tokens = l .tokens;
+          instruction = j;
+          parsed = l .parsed;
+          line = line start ps grammar room ok n h g;
+          entry = entry-is start ps grammar room ok n h g;
+          reads-back = λ rest. ap (λ (ws : List ℕ). readOf (ws ++ rest) a) words-are ∙ complete a j rest line-accepted ∙ ap (λ (k : ℕ). Read (plain j) (2 * k)) counts-are;
+          aims = subst (λ (x : Next). Aims x (addressAt s (named s n))) (sym next-is) (landing .0);
+          within = subst (λ (x : Next). Within x (length ps) (named s n)) (sym next-is) (landing .1);
+        }

@@ -1,21 +1,28 @@
 -- Demand 3 from what holds of each line: the two followers stay together.
-use Prim.Native.Nat.{ℕ, zero, suc, _+_, _*_, _-_, _/_, _%_, _≤_, _<_}
+use Prim.Native.Nat.{ℕ, zero, suc, pred, _+_, _*_, _-_, _/_, _%_, _≤_, _<_}
 use mathlib.Core.Path.{_≡_, sym, ap, _∙_, subst}
 use mathlib.Core.Bool.{Bool, true, false}
 use mathlib.Core.List.{List, [], _∷_, _++_}
 use native.Mathlib.Omega.{arith}
-use native.Mathlib.Nat.{add-zero}
+use native.Mathlib.Numerals.{add-one}
 use native.Mathlib.Decide.{decLe}
-use lib.ListN.{length, drop, take}
+use lib.ListN.{length, drop, take, getD}
 use lib.Seq.{take-all}
 use borrow.Author.Tests.{lt-ltb, le-leb, lt-leb, eq-eqb, ne-eqb}
+use Rattle.isa.specs.declared.Instruction.{Instruction}
+use Rattle.isa.specs.declared.Encoded.{Encoded}
+use Rattle.encode_spec.specs.Encode.{encodeOf}
 use Rattle.read_spec.specs.declared.Reading.the-variants.{Read}
+use Rattle.read_spec.specs.Plain.{plain}
 use Rattle.read_spec.specs.Read.{readOf}
-use Rattle.sheet_spec.specs.Sheet.{linesIn, total}
-use Rattle.sheet_spec.specs.Translate.{startIn, countIn, addressesIn, imageIn}
-use Rattle.sheet_spec.specs.Follow.{Next, on, to, either, stop, nextOf, Place, follow, goes, target, addressOf, countedAt, plainLine, named, comeLine, stepLine, byLines, end, begins, readingAt, comeWord, stepWord, byWords, Together, both-ended, both-at}
-use Rattle.sheet_size_facts.specs.Image.{address-next, total-part, Counts, split, image-length, drop-before}
-use Rattle.sheet_spec.specs.Promises.{wordsAt}
+use Rattle.sheet_spec.specs.Line.{Token, Parsed, says}
+use Rattle.sheet_spec.specs.Made.{Line, Made, makes, made}
+use Rattle.sheet_spec.specs.Sheet.{Sheet, sheetAt, total, wordCount, endOf, lineAt, countAt, addressAt, resolved, encoded, wordsIn, image}
+use Rattle.sheet_spec.specs.Follow.{Next, on, to, either, stop, nextOf, Place, follow, goes, target, lineNext, nextWith, named, comeLine, stepLine, byLines, begins, readingAt, comeWord, stepWord, byWords, Reads, Together, both-ended, both-at}
+use Rattle.sheet_size_facts.specs.Says.{line-makes}
+use Rattle.sheet_size_facts.specs.Image.{total-suc, total-part, noWords, Counts, words-length, drop-before}
+use Rattle.sheet_size_facts.specs.Outcomes.{counts-length, lines-length}
+use Rattle.sheet_size_facts.specs.Bounds.{before, address-is}
 
 -- a target is the address t
 abbrev pub Aims : Next → ℕ → Type 0
@@ -32,89 +39,109 @@ Within (either x) m n = (1 ≤ n) × (n ≤ m)
 Within stop m n = Unit {0}
 
 -- what is used of each line of an accepted sheet
-pub record LineStands (text : List ℕ) (n : ℕ) : Type 0 where
-  pub some : 1 ≤ countedAt text n
-  pub counts : length (wordsAt text n) ≡ countedAt text n
-  pub reads-back : (rest : List ℕ) → readOf (wordsAt text n ++ rest) (addressOf text n) ≡ Read (plainLine text n) (2 * countedAt text n)
-  pub aims : Aims (nextOf (plainLine text n)) (addressOf text (named text n))
-  pub within : Within (nextOf (plainLine text n)) (countIn text) (named text n)
+pub record LineStands (s : Sheet) (n : ℕ) : Type 0 where
+  pub some : 1 ≤ countAt s n
+  pub tokens : List Token
+  pub instruction : Instruction
+  pub parsed : lineAt s n ≡ says tokens
+  pub line : Line (resolved s) tokens instruction
+  pub entry : getD (encoded s) (pred n) noWords ≡ encodeOf instruction (addressAt s n)
+  pub reads-back : (rest : List ℕ) → readOf (wordsIn (encodeOf instruction (addressAt s n)) ++ rest) (addressAt s n) ≡ Read (plain instruction) (2 * countAt s n)
+  pub aims : Aims (nextWith (resolved s) s n) (addressAt s (named s n))
+  pub within : Within (nextWith (resolved s) s n) (length (s .lines)) (named s n)
 
-pub record AllStand (text : List ℕ) : Type 0 where
-  pub lines-some : 1 ≤ countIn text
-  pub each : (n : ℕ) → 1 ≤ n → n ≤ countIn text → LineStands text n
+-- ---- the followers of a start and lines
+module _ (start : ℕ) (ps : List Parsed) (lines-some : 1 ≤ length ps) (counts : Counts (sheetAt start ps .counts) (encoded (sheetAt start ps)))
+    (stands : (n : ℕ) → 1 ≤ n → n ≤ length ps → LineStands (sheetAt start ps) n) where
+  abbrev s : Sheet
+  s = sheetAt start ps
 
--- ---- the followers
-module _ (text : List ℕ) (ok : AllStand text) where
-  counts : Counts (addressesIn text) (countIn text) (startIn text) (linesIn text)
-  counts j h = ok .each (suc j) (omega arith) (omega arith) .counts
+  -- the address of line n, and past the last line the end
+  abbrev at : ℕ → ℕ
+  at n = start + 2 * before s n
 
-  -- the offset of line n + 1 in words, and what stands there
-  offset : (n : ℕ) → (addressOf text (suc n) - startIn text) / 2 ≡ total (countIn text) (take n (linesIn text))
+  at-next : (n : ℕ) → 1 ≤ n → n ≤ length ps → at (n + 1) ≡ addressAt s n + 2 * countAt s n
+  at-next zero h g = absurd (omega arith)
+  at-next (suc n) h g = rw add-one (omega (arith, address-is start ps (suc n) h g, total-suc (s .counts) n (omega (arith, counts-length start ps))))
+
+  -- the offset of line n in words, and what stands there
+  offset : (n : ℕ) → (at n - start) / 2 ≡ before s n
   offset n = omega arith
 
-  pub there : (n : ℕ) → suc n ≤ countIn text
-      → readingAt (startIn text) (imageIn text) (addressOf text (suc n)) ≡ Read (plainLine text (suc n)) (2 * countedAt text (suc n))
-  there n h =
-      ap (λ (k : ℕ). readOf (drop k (imageIn text)) (addressOf text (suc n))) (offset n)
-      ∙ ap (λ (ws : List ℕ). readOf ws (addressOf text (suc n))) (drop-before text counts n h)
-      ∙ ok .each (suc n) (omega arith) h .reads-back (split text counts n h .0)
+  reads-there : (n : ℕ) (h : 1 ≤ n) (g : n ≤ length ps) → readingAt start (image s) (addressAt s n) ≡ Read (plain (stands n h g .instruction)) (2 * countAt s n)
+  reads-there n h g =
+      let l = stands n h g in
+      let d = drop-before (s .counts) (encoded s) counts (pred n) (omega (arith, lines-length start ps)) in
+      let o : (addressAt s n - start) / 2 ≡ before s n = omega (arith, address-is start ps n h g) in
+      ap (λ (k : ℕ). readOf (drop k (image s)) (addressAt s n)) o
+      ∙ ap (λ (ws : List ℕ). readOf ws (addressAt s n)) (d .1 ∙ ap (λ (e : Encoded). wordsIn e ++ d .0) (l .entry))
+      ∙ l .reads-back (d .0)
 
-  before-end : (n : ℕ) → suc n ≤ countIn text → total (countIn text) (take n (linesIn text)) < length (imageIn text)
-  before-end n h =
-      let z = total-part (countIn text) (linesIn text) n h in
-      omega (arith, z, image-length text counts, ok .each (suc n) (omega arith) h .some)
+  pub reads : (n : ℕ) → 1 ≤ n → n ≤ length ps → Reads s (image s) n
+  reads n h g =
+      let l = stands n h g in
+      record { tokens = l .tokens; instruction = l .instruction; parsed = l .parsed; line = l .line; reads = reads-there n h g }
 
-  begins-there : (n : ℕ) → suc n ≤ countIn text → begins (startIn text) (imageIn text) (addressOf text (suc n)) ≡ true
-  begins-there n h =
+  before-end : (n : ℕ) → 1 ≤ n → n ≤ length ps → before s n < length (image s)
+  before-end n h g =
+      omega (arith, total-part (s .counts) (pred n) (omega (arith, counts-length start ps)), words-length (s .counts) (encoded s) counts, stands n h g .some)
+
+  begins-there : (n : ℕ) → 1 ≤ n → n ≤ length ps → begins start (image s) (at n) ≡ true
+  begins-there n h g =
       rw (
-        le-leb (startIn text) (addressOf text (suc n)) (omega arith),
-        lt-ltb (addressOf text (suc n)) (end (startIn text) (imageIn text)) (omega (arith, before-end n h)),
-        eq-eqb ((addressOf text (suc n) - startIn text) % 2) 0 (omega arith),
+        le-leb start (at n) (omega arith),
+        lt-ltb (at n) (endOf start (length (image s))) (omega (arith, before-end n h g)),
+        eq-eqb ((at n - start) % 2) 0 (omega arith),
       )
 
   -- both come to line n, or to the end
-  comes : (n : ℕ) → 1 ≤ n → n ≤ countIn text + 1 → Together text (imageIn text) (comeLine text n) (comeWord (startIn text) (imageIn text) (addressOf text n))
-  comes zero h g = absurd (omega arith)
-  comes (suc n) h g = go (decLe (suc n) (countIn text))
+  comes : (n : ℕ) → 1 ≤ n → n ≤ length ps + 1 → Together s (image s) (comeLine s n) (comeWord start (image s) (at n))
+  comes n h g = go (decLe n (length ps))
     where
-      go : Dec (suc n ≤ countIn text) → Together text (imageIn text) (comeLine text (suc n)) (comeWord (startIn text) (imageIn text) (addressOf text (suc n)))
+      go : Dec (n ≤ length ps) → Together s (image s) (comeLine s n) (comeWord start (image s) (at n))
       go (yes d) =
+          let a = address-is start ps n h d in
           rw (
-            le-leb (suc n) (countIn text) d,
-            ne-eqb (addressOf text (suc n)) (end (startIn text) (imageIn text)) (omega (arith, before-end n d)),
-            begins-there n d,
-            there n d,
+            le-leb n (length ps) d,
+            ne-eqb (at n) (endOf start (length (image s))) (omega (arith, before-end n h d)),
+            begins-there n h d,
+            sym a,
+            reads-there n h d,
           )
-          (both-at (suc n) h d (there n d))
+          (both-at n h d (reads n h d))
       go (no d) =
-          let e : total (countIn text) (take n (linesIn text)) ≡ total (countIn text) (linesIn text) = ap (λ (ls : List (List ℕ)). total (countIn text) ls) (take-all n (linesIn text) (omega arith)) in
-          rw (
-            lt-leb (suc n) (countIn text) (omega arith),
-            eq-eqb (addressOf text (suc n)) (end (startIn text) (imageIn text)) (omega (arith, image-length text counts, e)),
-          )
-          both-ended
+          let e : before s n ≡ length (image s) = ap total (take-all (pred n) (s .counts) (omega (arith, counts-length start ps))) ∙ sym (words-length (s .counts) (encoded s) counts) in
+          rw (lt-leb n (length ps) (omega arith), eq-eqb (at n) (endOf start (length (image s))) (omega (arith, e))) both-ended
 
-  goes-on : (x : Next) (n : ℕ) → 1 ≤ n → n ≤ countIn text
-      → Aims x (addressOf text (named text n)) → Within x (countIn text) (named text n) → (c : Bool)
-      → Together text (imageIn text) (goes (comeLine text) x (n + 1) (named text n) c) (goes (comeWord (startIn text) (imageIn text)) x (addressOf text n + 2 * countedAt text n) (target x) c)
-  goes-on on n h g a w c = subst (λ (k : ℕ). Together text (imageIn text) (comeLine text (n + 1)) (comeWord (startIn text) (imageIn text) k)) (address-next text n h g) (comes (n + 1) (omega arith) (omega arith))
-  goes-on (to t) n h g a w c = subst (λ (k : ℕ). Together text (imageIn text) (comeLine text (named text n)) (comeWord (startIn text) (imageIn text) k)) (sym a) (comes (named text n) (w .0) (omega arith))
-  goes-on (either t) n h g a w true = subst (λ (k : ℕ). Together text (imageIn text) (comeLine text (named text n)) (comeWord (startIn text) (imageIn text) k)) (sym a) (comes (named text n) (w .0) (omega arith))
-  goes-on (either t) n h g a w false = subst (λ (k : ℕ). Together text (imageIn text) (comeLine text (n + 1)) (comeWord (startIn text) (imageIn text) k)) (address-next text n h g) (comes (n + 1) (omega arith) (omega arith))
+  onward : (n : ℕ) → 1 ≤ n → n ≤ length ps → Together s (image s) (comeLine s (n + 1)) (comeWord start (image s) (addressAt s n + 2 * countAt s n))
+  onward n h g = subst (λ (k : ℕ). Together s (image s) (comeLine s (n + 1)) (comeWord start (image s) k)) (at-next n h g) (comes (n + 1) (omega arith) (omega arith))
+
+  aside : (n t : ℕ) → t ≡ addressAt s n → 1 ≤ n → n ≤ length ps → Together s (image s) (comeLine s n) (comeWord start (image s) t)
+  aside n t e h g = subst (λ (k : ℕ). Together s (image s) (comeLine s n) (comeWord start (image s) k)) (sym (e ∙ address-is start ps n h g)) (comes n h (omega arith))
+
+  goes-on : (x : Next) (n : ℕ) → 1 ≤ n → n ≤ length ps → Aims x (addressAt s (named s n)) → Within x (length ps) (named s n) → (c : Bool)
+      → Together s (image s) (goes (comeLine s) x (n + 1) (named s n) c) (goes (comeWord start (image s)) x (addressAt s n + 2 * countAt s n) (target x) c)
+  goes-on on n h g a w c = onward n h g
+  goes-on (to t) n h g a w c = aside (named s n) t a (w .0) (w .1)
+  goes-on (either t) n h g a w true = aside (named s n) t a (w .0) (w .1)
+  goes-on (either t) n h g a w false = onward n h g
   goes-on stop n h g a w c = both-ended
 
-  steps : (p q : Place) (c : Bool) → Together text (imageIn text) p q → Together text (imageIn text) (stepLine text p c) (stepWord (startIn text) (imageIn text) q c)
+  next-of : (n : ℕ) (r : Reads s (image s) n) → nextWith (resolved s) s n ≡ nextOf (plain (r .instruction))
+  next-of n r = ap lineNext (ap (made (resolved s)) (r .parsed) ∙ line-makes (resolved s) (r .tokens) (r .instruction) (r .line))
+
+  steps : (p q : Place) (c : Bool) → Together s (image s) p q → Together s (image s) (stepLine s p c) (stepWord start (image s) q c)
   steps p q c both-ended = both-ended
   steps p q c (both-at n h g r) =
-      rw r (goes-on (nextOf (plainLine text n)) n h g (ok .each n h g .aims) (ok .each n h g .within) c)
+      rw (r .reads, sym (next-of n r)) (goes-on (nextWith (resolved s) s n) n h g (stands n h g .aims) (stands n h g .within) c)
 
-  follows : (p q : Place) (cs : List Bool) → Together text (imageIn text) p q
-      → Together text (imageIn text) (follow (stepLine text) p cs) (follow (stepWord (startIn text) (imageIn text)) q cs)
+  follows : (p q : Place) (cs : List Bool) → Together s (image s) p q → Together s (image s) (follow (stepLine s) p cs) (follow (stepWord start (image s)) q cs)
   follows p q [] t = t
-  follows p q (c ∷ cs) t = follows (stepLine text p c) (stepWord (startIn text) (imageIn text) q c) cs (steps p q c t)
+  follows p q (c ∷ cs) t = follows (stepLine s p c) (stepWord start (image s) q c) cs (steps p q c t)
 
   -- the followers are together after any choices
-  pub together : (choices : List Bool) → Together text (imageIn text) (byLines text choices) (byWords (startIn text) (imageIn text) choices)
+  pub together : (choices : List Bool) → Together s (image s) (byLines s choices) (byWords start (image s) choices)
   together cs =
-      follows (comeLine text 1) (comeWord (startIn text) (imageIn text) (startIn text)) cs
-      (subst (λ (k : ℕ). Together text (imageIn text) (comeLine text 1) (comeWord (startIn text) (imageIn text) k)) (add-zero (startIn text)) (comes 1 (omega arith) (omega arith)))
+      let z : at 1 ≡ start = omega arith in
+      follows (comeLine s 1) (comeWord start (image s) start) cs
+      (subst (λ (k : ℕ). Together s (image s) (comeLine s 1) (comeWord start (image s) k)) z (comes 1 (omega arith) (omega arith)))

@@ -1,6 +1,5 @@
 pub mod StartForm
 pub mod Otherwise
-pub mod Stands
 pub mod Follows
 pub mod Ranges
 pub mod InTypes

@@ -5,8 +5,9 @@ ghost use lib.ListN.{length};
 ghost use Rattle.base_spec.specs.Written.{placed};
 ghost use Rattle.base_text.specs.Wrote.{Wrote};
 ghost use Rattle.sheet_spec.specs.Translate.{imageOf, scratchOf};
-ghost use Rattle.print_spec.specs.Printed.{listedWords, lineText, sheetRefusal, printedOf};
-ghost use Rattle.sheet_print.specs.Listing.{firstCount, linesText, Rises, Laid};
+ghost use Rattle.print_spec.specs.Printed.{listedWords, lineText, sheetRefusal, printedOf, Put, Printed, longerText};
+ghost use Rattle.sheet_print.specs.Listing.{firstCount, linesText, Rises, Laid, notWide, wideBy};
+use print_spec::Output;
 
 // A tab and each word.
 fn put_words(out: &mut [u8], at: usize, words: &[u16]) -> usize
@@ -71,7 +72,7 @@ fn put_listing(addresses: &[u32], words: &[u16], out: &mut [u8]) -> usize
 }
 
 // `refused`, number, line, detail and value.
-pub fn put_refusal(out: &mut [u8], number: u8, line: usize, detail: u8, value: i64) -> usize
+fn put_refusal(out: &mut [u8], number: u8, line: usize, detail: u8, value: i64) -> usize
     requires { ⌜ 92 ≤ length (now out) ⌝ }
     ensures { λ r. ⌜ Wrote (now (out .entry)) 0 (sheetRefusal number line detail value) (now (out .exit)) r × (r ≤ 92) ⌝ }
 {
@@ -84,7 +85,7 @@ pub fn put_refusal(out: &mut [u8], number: u8, line: usize, detail: u8, value: i
 }
 
 // The listing or the refusal of a sheet, from the first place on; how many places it takes.
-pub fn print(text: &[u8], image: &mut [u16], scratch: &mut [u32], out: &mut [u8]) -> usize
+fn print_wide(text: &[u8], image: &mut [u16], scratch: &mut [u32], out: &mut [u8]) -> usize
     requires { ⌜ 282624 ≤ length (now out) ⌝ }
     ensures { λ r. ⌜ (r ≡ length (printedOf (now (text .entry)) (length (now (scratch .entry))) (length (now (image .entry))))) × (now (out .exit) ≡ placed (now (out .entry)) 0 (printedOf (now (text .entry)) (length (now (scratch .entry))) (length (now (image .entry))))) × (r ≤ 282624) ⌝ }
     ensures { λ r. ⌜ (now (image .exit) ≡ imageOf (now (text .entry)) (now (scratch .entry)) (now (image .entry))) × (now (scratch .exit) ≡ scratchOf (now (text .entry)) (now (scratch .entry)) (now (image .entry))) ⌝ }
@@ -96,4 +97,42 @@ pub fn print(text: &[u8], image: &mut [u16], scratch: &mut [u32], out: &mut [u8]
         return put_listing(&scratch[..lines], &image[..words], out);
     }
     put_refusal(out, r.number, r.line, r.detail, r.value)
+}
+
+fn not_wide() -> Output
+    ensures { λ r. ⌜ r ≡ notWide ⌝ }
+{
+    Output {
+        wide: false,
+        count: 0,
+    }
+}
+
+fn wide(count: usize) -> Output
+    ensures { λ r. ⌜ r ≡ wideBy count ⌝ }
+{
+    Output {
+        wide: true,
+        count: count,
+    }
+}
+
+// The same, where the buffer is wide enough; how much was written.
+pub fn print(text: &[u8], image: &mut [u16], scratch: &mut [u32], out: &mut [u8]) -> Output
+    ensures { λ r. ⌜ Printed (now (text .entry)) (now (image .entry)) (now (scratch .entry)) (now (out .entry)) (now (image .exit)) (now (scratch .exit)) (now (out .exit)) r × (r .count ≤ 282624) ⌝ }
+{
+    if out.len() < 282624 {
+        return not_wide();
+    }
+    wide(print_wide(text, image, scratch, out))
+}
+
+// What is printed for a text of more than 65,536 bytes.
+pub fn print_longer(out: &mut [u8]) -> Output
+    ensures { λ r. ⌜ Put longerText (now (out .entry)) (now (out .exit)) r × (r .count ≤ 282624) ⌝ }
+{
+    if out.len() < 282624 {
+        return not_wide();
+    }
+    wide(put_refusal(out, 10, 0, 0, 0))
 }

@@ -7,7 +7,8 @@ use lib.Dec.{eqb}
 use borrow.Author.Tests.{eq-eqb, eqb-true}
 use Rattle.sheet_spec.specs.Line.{equal}
 use Rattle.sheet_facts.specs.Facts.{equal-is, equal-refl}
-use Rattle.sheet_spec.specs.Translate.{Outcome, inOrder, refused, startIn, imageIn, outcomeOf, isInOrder, same}
+use Rattle.sheet_spec.specs.Sheet.{sheetIn, image}
+use Rattle.sheet_spec.specs.Translate.{Outcome, inOrder, refused, outcomeOf, isInOrder, same}
 use Rattle.sheet_spec.specs.Promises.{Same}
 use Rattle.base_facts.specs.Tests.{and-true}
 
@@ -21,21 +22,21 @@ unfolding same
 same-is s t e =
     let a = isInOrder (outcomeOf s 4096 45056) in
     let b = isInOrder (outcomeOf t 4096 45056) in
-    let c = eqb (startIn s) (startIn t) in
-    let p = and-true (a && b && c) (equal (imageIn s) (imageIn t)) e in
+    let c = eqb (sheetIn s .start) (sheetIn t .start) in
+    let p = and-true (a && b && c) (equal (image (sheetIn s)) (image (sheetIn t))) e in
     let q = and-true (a && b) c (p .0) in
     let r = and-true a b (q .0) in
     record {
       first = is-in-order (outcomeOf s 4096 45056) (r .0);
       second = is-in-order (outcomeOf t 4096 45056) (r .1);
-      starts = eqb-true (startIn s) (startIn t) (q .1);
-      images = equal-is (imageIn s) (imageIn t) (p .1);
+      starts = eqb-true (sheetIn s .start) (sheetIn t .start) (q .1);
+      images = equal-is (image (sheetIn s)) (image (sheetIn t)) (p .1);
     }
 
 pub is-same : (s t : List ℕ) → Same s t → same s t ≡ true
 unfolding same
 is-same s t h =
-    rw (h .first, h .second, eq-eqb (startIn s) (startIn t) (h .starts), h .images) (equal-refl (imageIn t))
+    rw (h .first, h .second, eq-eqb (sheetIn s .start) (sheetIn t .start) (h .starts), h .images) (equal-refl (image (sheetIn t)))
 
 pub same-refl : (s : List ℕ) → outcomeOf s 4096 45056 ≡ inOrder → same s s ≡ true
 same-refl s e = is-same s s (record { first = e; second = e; starts = refl; images = refl })

@@ -50,7 +50,7 @@ module _ (start : ℕ) (ps : List Parsed) where
   pub lines-length : length (encoded s) ≡ length ps
   lines-length = encoded-length (resolved s) (addresses s) ps places-length
 
-  sizing-each : sizing ps ≡ inOrder → (n : ℕ) → 1 ≤ n → n ≤ length ps → sizedOf (length ps) (lineAt s n) .number ≡ 0
+  pub sizing-each : sizing ps ≡ inOrder → (n : ℕ) → 1 ≤ n → n ≤ length ps → sizedOf (length ps) (lineAt s n) .number ≡ 0
   sizing-each e n h g =
       let m = each-in-order sizeOutcome 1 (sizesOf ps) e (sizedOf (length ps) no) (pred n) (omega (arith, length-map ps (sizedOf (length ps)))) in
       let z = in-order-zero _ (getD (sizesOf ps) (pred n) (sizedOf (length ps) no) .number) _ _ m in
@@ -62,7 +62,7 @@ module _ (start : ℕ) (ps : List Parsed) where
   pub accepted-sheet : (room : ℕ) → sheetOutcome s room ≡ inOrder → AcceptedSheet s room
   accepted-sheet room e =
       let a = both-in-order (sizing ps) _ e in
-      let b = both-in-order (closing s room) _ (a .1) in
+      let b = both-in-order (closing start (wordCount s) room) _ (a .1) in
       let c = both-in-order (require (leb (end s) (2 ^ 32)) 9) _ (b .0) in
       record {
         measured = record { sized = sizing-each (a .0); ends = leb-true (end s) (2 ^ 32) (require-true _ 9 (c .0)) };

@@ -49,24 +49,28 @@ placeFrom k f (n ∷ ns) = cond (equal f n && not (isNone f)) (literal false k) 
 abbrev pub asVariant : Kind → List ℕ → Token
 asVariant k f = placeFrom 0 f (map bytes (namesOf k))
 
+-- by a kind: a number, a label, either, or a variant's name
+abbrev pub byKind {ℓ} : {A : Type ℓ} → Kind → A → A → A → A → A
+byKind kind.Number n t p v = n
+byKind kind.Target n t p v = t
+byKind kind.Place n t p v = p
+byKind kind.Size n t p v = v
+byKind kind.TargetDirection n t p v = v
+byKind kind.RegisterOperand n t p v = v
+byKind kind.AddressWidth n t p v = v
+byKind kind.Condition n t p v = v
+byKind kind.BranchSize n t p v = v
+byKind kind.ShiftDirection n t p v = v
+byKind kind.Sign n t p v = v
+byKind kind.BitFieldOperation n t p v = v
+byKind kind.FieldValue n t p v = v
+byKind kind.TrapOperand n t p v = v
+byKind kind.RegisterChoice n t p v = v
+byKind kind.Operand n t p v = v
+byKind kind.Instruction n t p v = v
+
 abbrev pub token : Kind → List ℕ → Token
-token kind.Number f = asNumber (numberOf f)
-token kind.Target f = asLabel f
-token kind.Place f = cond (isLabel f) (asLabel f) (asNumber (numberOf f))
-token kind.Size f = asVariant kind.Size f
-token kind.TargetDirection f = asVariant kind.TargetDirection f
-token kind.RegisterOperand f = asVariant kind.RegisterOperand f
-token kind.AddressWidth f = asVariant kind.AddressWidth f
-token kind.Condition f = asVariant kind.Condition f
-token kind.BranchSize f = asVariant kind.BranchSize f
-token kind.ShiftDirection f = asVariant kind.ShiftDirection f
-token kind.Sign f = asVariant kind.Sign f
-token kind.BitFieldOperation f = asVariant kind.BitFieldOperation f
-token kind.FieldValue f = asVariant kind.FieldValue f
-token kind.TrapOperand f = asVariant kind.TrapOperand f
-token kind.RegisterChoice f = asVariant kind.RegisterChoice f
-token kind.Operand f = asVariant kind.Operand f
-token kind.Instruction f = asVariant kind.Instruction f
+token k f = byKind k (asNumber (numberOf f)) (asLabel f) (cond (isLabel f) (asLabel f) (asNumber (numberOf f))) (asVariant k f)
 
 -- what the fields of a line say, each by its kind; a variant's fields come after its name
 pub data Parsed : Type 0 where

@@ -8,7 +8,7 @@ use Rattle.sheet_spec.specs.declared.Kind.{Kind}
 use Rattle.sheet_spec.specs.declared.Kind.the-variants as kind
 use Rattle.sheet_spec.specs.Names.{bytes, namesOf}
 use Rattle.sheet_spec.specs.Grammar.{kindsOf}
-use Rattle.sheet_spec.specs.Line.{Token, literal, label, invalid}
+use Rattle.sheet_spec.specs.Line.{Token, literal, label, invalid, byKind}
 
 abbrev pub signText : Bool → List ℕ
 signText true = 45 ∷ []
@@ -27,23 +27,7 @@ nameText k (label n) = []
 nameText k invalid = []
 
 abbrev pub spelled : Kind → Token → List ℕ
-spelled kind.Number v = numberText v
-spelled kind.Target v = numberText v
-spelled kind.Place v = numberText v
-spelled kind.Size v = nameText kind.Size v
-spelled kind.TargetDirection v = nameText kind.TargetDirection v
-spelled kind.RegisterOperand v = nameText kind.RegisterOperand v
-spelled kind.AddressWidth v = nameText kind.AddressWidth v
-spelled kind.Condition v = nameText kind.Condition v
-spelled kind.BranchSize v = nameText kind.BranchSize v
-spelled kind.ShiftDirection v = nameText kind.ShiftDirection v
-spelled kind.Sign v = nameText kind.Sign v
-spelled kind.BitFieldOperation v = nameText kind.BitFieldOperation v
-spelled kind.FieldValue v = nameText kind.FieldValue v
-spelled kind.TrapOperand v = nameText kind.TrapOperand v
-spelled kind.RegisterChoice v = nameText kind.RegisterChoice v
-spelled kind.Operand v = nameText kind.Operand v
-spelled kind.Instruction v = nameText kind.Instruction v
+spelled k v = byKind k (numberText v) (numberText v) (numberText v) (nameText k v)
 
 -- what may stand in a field of a kind: a number below 2^64, -0 excepted; a line's number; the place of a name
 abbrev pub Written : Token → Type 0
@@ -69,23 +53,7 @@ Variant k (label n) = ⊥
 Variant k invalid = ⊥
 
 abbrev pub Suits : Kind → Token → Type 0
-Suits kind.Number v = Written v
-Suits kind.Target v = Labelled v
-Suits kind.Place v = Either v
-Suits kind.Size v = Variant kind.Size v
-Suits kind.TargetDirection v = Variant kind.TargetDirection v
-Suits kind.RegisterOperand v = Variant kind.RegisterOperand v
-Suits kind.AddressWidth v = Variant kind.AddressWidth v
-Suits kind.Condition v = Variant kind.Condition v
-Suits kind.BranchSize v = Variant kind.BranchSize v
-Suits kind.ShiftDirection v = Variant kind.ShiftDirection v
-Suits kind.Sign v = Variant kind.Sign v
-Suits kind.BitFieldOperation v = Variant kind.BitFieldOperation v
-Suits kind.FieldValue v = Variant kind.FieldValue v
-Suits kind.TrapOperand v = Variant kind.TrapOperand v
-Suits kind.RegisterChoice v = Variant kind.RegisterChoice v
-Suits kind.Operand v = Variant kind.Operand v
-Suits kind.Instruction v = Variant kind.Instruction v
+Suits k v = byKind k (Written v) (Labelled v) (Either v) (Variant k v)
 
 -- the fields that come next
 abbrev pub nextKinds : Kind → Token → List Kind

@@ -4,7 +4,7 @@ use mathlib.Core.Bool.{true, false}
 use lib.IntN.{pos, negsuc}
 use Rattle.numeric_spec.specs.Entry.{Entry, unsigned, signed}
 use Rattle.numeric_spec.specs.Form.{formOf}
-use Rattle.sheet_spec.specs.Line.{Token, literal, label}
+use Rattle.sheet_spec.specs.Line.{Token, literal, label, byKind}
 use Rattle.sheet_spec.specs.declared.Kind.{Kind}
 use Rattle.sheet_spec.specs.Spell.{nextKinds}
 use Rattle.sheet_spec.specs.Made.{Line}
@@ -32,7 +32,8 @@ abbrev pub aimed : ℕ → Token × Entry
 aimed n = (label n, unsigned (2 ^ 32 - 1) 0)
 
 abbrev pub field : Kind → Mark → Entry → Token × Entry
-field k m e = elim k [ kind.Number ↦ unmarked e | kind.Target ↦ elim m [ numbered n ↦ aimed n | named n ↦ aimed n ] | kind.Place ↦ elim m [ numbered n ↦ unmarked e | named n ↦ aimed n ] | kind.Size ↦ unmarked e | kind.TargetDirection ↦ unmarked e | kind.RegisterOperand ↦ unmarked e | kind.AddressWidth ↦ unmarked e | kind.Condition ↦ unmarked e | kind.BranchSize ↦ unmarked e | kind.ShiftDirection ↦ unmarked e | kind.Sign ↦ unmarked e | kind.BitFieldOperation ↦ unmarked e | kind.FieldValue ↦ unmarked e | kind.TrapOperand ↦ unmarked e | kind.RegisterChoice ↦ unmarked e | kind.Operand ↦ unmarked e | kind.Instruction ↦ unmarked e ]
+field k m e =
+    byKind k (unmarked e) (elim m [ numbered n ↦ aimed n | named n ↦ aimed n ]) (elim m [ numbered n ↦ unmarked e | named n ↦ aimed n ]) (unmarked e)
 
 -- the fields of entries, by the grammar, with a mark for each
 abbrev pub fieldsBy : (ℕ → Mark) → List Kind → List Entry → List (Token × Entry)

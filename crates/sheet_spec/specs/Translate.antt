@@ -9,7 +9,7 @@ use Rattle.isa.specs.declared.Measured.{Measured}
 use Rattle.isa.specs.declared.Encoded.{Encoded}
 use Rattle.sheet_spec.specs.Line.{equal, Parsed}
 use Rattle.sheet_spec.specs.declared.Listed.{Listed}
-use Rattle.sheet_spec.specs.Sheet.{isSheet, startLine, Start, at, notInForm, startOf, Sheet, sheetIn, sizesOf, lineCount, wordCount, end, addresses, encoded, image}
+use Rattle.sheet_spec.specs.Sheet.{isSheet, startLine, Start, at, notInForm, startOf, Sheet, sheetIn, sizesOf, lineCount, wordCount, endOf, addresses, encoded, image}
 
 -- what a place of 01's table says: in order, or a refusal with its line
 pub data Outcome : Type 0 where
@@ -55,8 +55,8 @@ abbrev pub sizing : List Parsed → Outcome
 sizing ps = inTurn sizeOutcome 1 (sizesOf ps)
 
 -- after all lines
-abbrev pub closing : Sheet → ℕ → Outcome
-closing s room = andThen (require (leb (end s) (2 ^ 32)) 9) (require (leb (wordCount s) room) 11)
+abbrev pub closing : ℕ → ℕ → ℕ → Outcome
+closing start words room = andThen (require (leb (endOf start words) (2 ^ 32)) 9) (require (leb words room) 11)
 
 -- each line in turn
 abbrev pub encoding : Sheet → Outcome
@@ -64,18 +64,19 @@ encoding s = inTurn encodeOutcome 1 (encoded s)
 
 -- of a start and lines
 abbrev pub sheetOutcome : Sheet → ℕ → Outcome
-sheetOutcome s room = andThen (sizing (s .lines)) (andThen (closing s room) (encoding s))
+sheetOutcome s room = andThen (sizing (s .lines)) (andThen (closing (s .start) (wordCount s) room) (encoding s))
 
 unfoldable pub outcomeOf : List ℕ → ℕ → ℕ → Outcome
 outcomeOf text places room = andThen (opening text places) (sheetOutcome (sheetIn text) room)
 
 -- the answer
-abbrev pub listedAs : Outcome → Sheet → Listed
-listedAs inOrder s = record { lines = lineCount s; words = wordCount s; number = 0; line = 0; detail = 0; value = pos 0 }
-listedAs (refused number line detail value) s = record { lines = 0; words = 0; number = number; line = line; detail = detail; value = value }
+abbrev pub listedAs : Outcome → ℕ → ℕ → Listed
+listedAs inOrder lines words = record { lines = lines; words = words; number = 0; line = 0; detail = 0; value = pos 0 }
+listedAs (refused number line detail value) lines words =
+    record { lines = 0; words = 0; number = number; line = line; detail = detail; value = value }
 
 unfoldable pub listedOf : List ℕ → ℕ → ℕ → Listed
-listedOf text places room = listedAs (outcomeOf text places room) (sheetIn text)
+listedOf text places room = listedAs (outcomeOf text places room) (lineCount (sheetIn text)) (wordCount (sheetIn text))
 
 -- what the lent image and scratch then are: their first places, later ones unchanged; refused, the image unchanged and the scratch 0
 abbrev pub over : List ℕ → List ℕ → List ℕ

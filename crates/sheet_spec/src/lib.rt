@@ -30,9 +30,3 @@ pub struct Listed {
     pub detail: u8,
     pub value: i64,
 }
-
-// 0, and whether the sheets are the same; or 11 where the lent places are too few.
-pub struct Comparison {
-    pub number: u8,
-    pub same: bool,
-}

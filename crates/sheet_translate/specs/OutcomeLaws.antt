@@ -1,5 +1,5 @@
 -- Laws of outcomes: no refusal has the number 0, and a refusal is known by its number.
-use Prim.Native.Nat.{ℕ, suc, _+_, _*_, _%_, _^_}
+use Prim.Native.Nat.{ℕ, suc, _%_, _^_}
 use mathlib.Core.Path.{_≡_, refl}
 use mathlib.Core.Bool.{Bool, true, false, cond}
 use mathlib.Core.List.{List, [], _∷_}
@@ -7,8 +7,10 @@ use native.Mathlib.Omega.{arith}
 use lib.Dec.{eqb, leb}
 use lib.IntN.{ℤ}
 use borrow.Author.Tests.{eqb-false}
-use Rattle.sheet_spec.specs.Sheet.{isSheet, startLine, linesIn, Start, at, notInForm, startOf, sizedOf, counted, lineEncoded}
-use Rattle.sheet_spec.specs.Translate.{Outcome, inOrder, refused, andThen, require, startOutcome, asOutcome, sizesOutcome, rangesOutcome, startIn, countIn, addressesIn, needIn, outcomeOf}
+use Rattle.isa.specs.declared.Measured.{Measured}
+use Rattle.isa.specs.declared.Encoded.{Encoded}
+use Rattle.sheet_spec.specs.Sheet.{isSheet, startLine, Start, at, notInForm, startOf, sizesOf, sheetIn, lineCount, wordCount, end, encoded}
+use Rattle.sheet_spec.specs.Translate.{Outcome, inOrder, refused, andThen, require, inTurn, sizeOutcome, encodeOutcome, asOutcome, startOutcome, opening, sizing, closing, outcomeOf}
 
 abbrev pub Sound : Outcome → Type 0
 Sound inOrder = Unit {0}
@@ -33,26 +35,25 @@ line-sound k number detail value = go (eqb number 0) refl
     go true e = tt
     go false e = eqb-false number 0 e
 
-pub sizes-sound : (n k : ℕ) (ls : List (List ℕ)) → Sound (sizesOutcome n k ls)
-sizes-sound n k [] = tt
-sizes-sound n k (l ∷ ls) =
-    let m = sizedOf n l in
-    or-sound (asOutcome k (m .number) (m .detail) (m .value)) (sizesOutcome n (suc k) ls) (line-sound k (m .number) (m .detail) (m .value)) (sizes-sound n (suc k) ls)
+pub turn-sound : {A : Type 0} (says : ℕ → A → Outcome) → ((k : ℕ) (x : A) → Sound (says k x)) → (k : ℕ) (xs : List A) → Sound (inTurn says k xs)
+turn-sound says h k [] = tt
+turn-sound says h k (x ∷ xs) = or-sound (says k x) (inTurn says (suc k) xs) (h k x) (turn-sound says h (suc k) xs)
 
-pub ranges-sound : (A : List ℕ) (n k a : ℕ) (ls : List (List ℕ)) → Sound (rangesOutcome A n k a ls)
-ranges-sound A n k a [] = tt
-ranges-sound A n k a (l ∷ ls) =
-    let e = lineEncoded A l a in
-    or-sound (asOutcome k (e .number) (e .detail) (e .value)) (rangesOutcome A n (suc k) (a + 2 * counted n l) ls)
-    (line-sound k (e .number) (e .detail) (e .value)) (ranges-sound A n (suc k) (a + 2 * counted n l) ls)
+pub sizes-sound : (k : ℕ) (ms : List Measured) → Sound (inTurn sizeOutcome k ms)
+sizes-sound k ms = turn-sound sizeOutcome (λ j m. line-sound j (m .number) (m .detail) (m .value)) k ms
+
+pub encoded-sound : (k : ℕ) (es : List Encoded) → Sound (inTurn encodeOutcome k es)
+encoded-sound k es = turn-sound encodeOutcome (λ j e. line-sound j (e .number) (e .detail) (e .value)) k es
 
 pub outcome-sound : (text : List ℕ) (places room : ℕ) → Sound (outcomeOf text places room)
 unfolding outcomeOf
 outcome-sound text places room =
-    or-sound (require (isSheet text) 10) _ (unless-sound (isSheet text) 10 (λ e. omega arith))
+    let s = sheetIn text in
+    or-sound (opening text places) _
+    (or-sound (require (isSheet text) 10) _ (unless-sound (isSheet text) 10 (λ e. omega arith))
     (or-sound (startOutcome (startOf (startLine text))) _ (opening-sound (startOf (startLine text)))
-    (or-sound (require (leb (countIn text) places) 11) _ (unless-sound (leb (countIn text) places) 11 (λ e. omega arith))
-    (or-sound (sizesOutcome (countIn text) 1 (linesIn text)) _ (sizes-sound (countIn text) 1 (linesIn text))
-    (or-sound (require (leb (startIn text + 2 * needIn text) (2 ^ 32)) 9) _ (unless-sound (leb (startIn text + 2 * needIn text) (2 ^ 32)) 9 (λ e. omega arith))
-    (or-sound (require (leb (needIn text) room) 11) _ (unless-sound (leb (needIn text) room) 11 (λ e. omega arith))
-    (ranges-sound (addressesIn text) (countIn text) 1 (startIn text) (linesIn text)))))))
+    (unless-sound (leb (lineCount s) places) 11 (λ e. omega arith))))
+    (or-sound (sizing (s .lines)) _ (sizes-sound 1 (sizesOf (s .lines)))
+    (or-sound (closing (s .start) (wordCount s) room) _
+    (or-sound (require (leb (end s) (2 ^ 32)) 9) _ (unless-sound (leb (end s) (2 ^ 32)) 9 (λ e. omega arith)) (unless-sound (leb (wordCount s) room) 11 (λ e. omega arith)))
+    (encoded-sound 1 (encoded s))))

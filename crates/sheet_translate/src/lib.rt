@@ -2,8 +2,9 @@
 ghost use mathlib.Core.Path.{_≡_};
 ghost use Prim.Native.Nat.{_≤_};
 ghost use lib.ListN.{length, replicate};
+ghost use Rattle.sheet_spec.specs.Translate as stage;
 ghost use Rattle.sheet_spec.specs.Translate.{inOrder, refused, listedAs};
-ghost use Rattle.sheet_translate.specs.Translated.{outcomeNumber, openingOf, closingOf, SizedSheet};
+ghost use Rattle.sheet_translate.specs.Translated.{outcomeNumber, SizedSheet};
 ghost use Rattle.sheet_spec.specs.Promises.{Translated};
 use sheet_spec::Listed;
 
@@ -34,7 +35,7 @@ fn refuse(scratch: &mut [u32], number: u8, line: usize, detail: u8, value: i64) 
 
 // Before the lines: the sheet's outline, START, the scratch. 0 where all are in order.
 fn opening(text: &[u8], places: usize) -> u8
-    ensures { λ r. ⌜ r ≡ outcomeNumber (openingOf (now (text .entry)) places) ⌝ }
+    ensures { λ r. ⌜ r ≡ outcomeNumber (stage.opening (now (text .entry)) places) ⌝ }
 {
     if !sheet_start::is_sheet(text) {
         return 10;
@@ -55,7 +56,7 @@ fn opening(text: &[u8], places: usize) -> u8
 // After all lines: the end, the image's room. 0 where both are in order.
 fn closing(start: u32, words: usize, room: usize) -> u8
     requires { ⌜ words ≤ 45056 ⌝ }
-    ensures { λ r. ⌜ r ≡ outcomeNumber (closingOf start words room) ⌝ }
+    ensures { λ r. ⌜ r ≡ outcomeNumber (stage.closing start words room) ⌝ }
 {
     if 4294967296 < start as usize + 2 * words {
         return 9;
@@ -95,7 +96,7 @@ fn lay_down(
 
 // The lines of a sheet whose opening is in order.
 fn translate_lines(text: &[u8], image: &mut [u16], scratch: &mut [u32]) -> Listed
-    requires { ⌜ openingOf (now text) (length (now scratch)) ≡ inOrder ⌝ }
+    requires { ⌜ stage.opening (now text) (length (now scratch)) ≡ inOrder ⌝ }
     ensures { λ r. ⌜ Translated (now (text .entry)) (now (image .entry)) (now (scratch .entry)) (now (image .exit)) (now (scratch .exit)) r ⌝ }
 {
     let lines = sheet_start::feeds(text) - 1;

@@ -1,6 +1,6 @@
 use borrow.Author.Needs.{needs}
-use Rattle.sheet_print.proofs.print.Statement.{statement}
-use Rattle.sheet_print.proofs.print.Tie as tie
+use Rattle.sheet_print.proofs.print_wide.Statement.{statement}
+use Rattle.sheet_print.proofs.print_wide.Tie as tie
 use native.Mathlib.Omega.{arith}
 use mir.Facts.{toZ-ofZ}
 use mir.Syntax.{w64}
@@ -37,8 +37,8 @@ returns-2 c =
     let f = from-first _ (p .0) (refusal-is (t .ensures) (c .before .before .before .before .before .if1 .left)) in
     ((f .0, f .1, omega arith), (t .ensures .image, t .ensures .scratch))
 
-pub print-spec : {M : Type 1} → statement M
-print-spec =
+pub print-wide-spec : {M : Type 1} → statement M
+print-wide-spec =
     tie.close
     (tie.spec
     (λ c κs. search needs)
