@@ -3,8 +3,8 @@
 ghost use mathlib.Core.Path.{_≡_};
 ghost use Prim.Native.Nat.{_≤_};
 ghost use lib.ListN.{length, replicate};
-ghost use Rattle.base_spec.specs.Written.{placed};
-ghost use Rattle.print_spec.specs.Printed.{printedOf};
+ghost use Rattle.print_spec.specs.Printed.{printedOf, Put};
+use print_spec::Output;
 
 fn text_places() -> [u8; 65536]
     ensures { λ r. ⌜ (r ≡ replicate 65536 0) × (65536 ≡ length r) ⌝ }
@@ -32,9 +32,8 @@ fn output_places() -> [u8; 282624]
 }
 
 // What is printed for a sheet of at most 65,536 bytes, with 4,096 places and 16,384 words lent.
-fn listing(text: &[u8], out: &mut [u8]) -> usize
-    requires { ⌜ 282624 ≤ length (now out) ⌝ }
-    ensures { λ r. ⌜ (r ≡ length (printedOf (now (text .entry)) 4096 16384)) × (now (out .exit) ≡ placed (now (out .entry)) 0 (printedOf (now (text .entry)) 4096 16384)) × (r ≤ 282624) ⌝ }
+fn listing(text: &[u8], out: &mut [u8]) -> Output
+    ensures { λ r. ⌜ Put (printedOf (now (text .entry)) 4096 16384) (now (out .entry)) (now (out .exit)) r × (r .count ≤ 282624) ⌝ }
 {
     let mut image = image_places();
     let mut scratch = scratch_places();
@@ -43,14 +42,14 @@ fn listing(text: &[u8], out: &mut [u8]) -> usize
 
 fn print_sheet(text: &[u8]) {
     let mut out = output_places();
-    let n = listing(text, &mut out);
+    let n = listing(text, &mut out).count;
     io::write_all(1, &out[..n]);
 }
 
 // What is printed for a longer text.
 fn print_longer() {
     let mut out = output_places();
-    let n = sheet_print::put_refusal(&mut out, 10, 0, 0, 0);
+    let n = sheet_print::print_longer(&mut out).count;
     io::write_all(1, &out[..n]);
 }
 

@@ -68,7 +68,7 @@ module _ (start : ℕ) (ps : List Parsed) (lines-some : 1 ≤ length ps) (counts
   offset : (n : ℕ) → (at n - start) / 2 ≡ before s n
   offset n = omega arith
 
-  reads-there : (n : ℕ) (h : 1 ≤ n) (g : n ≤ length ps) → readingAt start (image s) (addressAt s n) ≡ Read (plain (stands n h g .instruction)) (2 * countAt s n)
+  pub reads-there : (n : ℕ) (h : 1 ≤ n) (g : n ≤ length ps) → readingAt start (image s) (addressAt s n) ≡ Read (plain (stands n h g .instruction)) (2 * countAt s n)
   reads-there n h g =
       let l = stands n h g in
       let d = drop-before (s .counts) (encoded s) counts (pred n) (omega (arith, lines-length start ps)) in
@@ -77,7 +77,7 @@ module _ (start : ℕ) (ps : List Parsed) (lines-some : 1 ≤ length ps) (counts
       ∙ ap (λ (ws : List ℕ). readOf ws (addressAt s n)) (d .1 ∙ ap (λ (e : Encoded). wordsIn e ++ d .0) (l .entry))
       ∙ l .reads-back (d .0)
 
-  pub reads : (n : ℕ) → 1 ≤ n → n ≤ length ps → Reads s (image s) n
+  abbrev pub reads : (n : ℕ) → 1 ≤ n → n ≤ length ps → Reads s (image s) n
   reads n h g =
       let l = stands n h g in
       record { tokens = l .tokens; instruction = l .instruction; parsed = l .parsed; line = l .line; reads = reads-there n h g }

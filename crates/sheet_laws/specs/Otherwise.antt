@@ -37,18 +37,18 @@ module _ (start : ℕ) (ps : List Parsed) (room : ℕ) (ok : AcceptedSheet (shee
   all-sized =
       let d = sizedOf (length ps) no in
       all-in-order sizeOutcome d 1 (sizesOf ps) (λ j q n.
-        let m = getD (sizesOf ps) j d in
-        let r : j < length ps = omega (arith, length-map ps (sizedOf (length ps))) in
-        as-in-order n (m .number) (m .detail) (m .value)
-        (ap (λ (x : Measured). x .number) (map-at (sizedOf (length ps)) ps j no d r) ∙ ok .measured .sized (suc j) (omega arith) (omega arith)))
+      let m = getD (sizesOf ps) j d in
+      let r : j < length ps = omega (arith, length-map ps (sizedOf (length ps))) in
+      as-in-order n (m .number) (m .detail) (m .value)
+      (ap (λ (x : Measured). x .number) (map-at (sizedOf (length ps)) ps j no d r) ∙ ok .measured .sized (suc j) (omega arith) (omega arith)))
 
   all-encoded : encoding s ≡ inOrder
   all-encoded =
       all-in-order encodeOutcome noWords 1 (encoded s) (λ j q n.
-        let e = getD (encoded s) j noWords in
-        let r : j < length ps = omega (arith, lines-length start ps) in
-        as-in-order n (e .number) (e .detail) (e .value)
-        (ap (λ (x : Encoded). x .number) (encoded-is (resolved s) (addresses s) ps (places-length start ps) j r) ∙ ok .encoded (suc j) (omega arith) (omega arith)))
+      let e = getD (encoded s) j noWords in
+      let r : j < length ps = omega (arith, lines-length start ps) in
+      as-in-order n (e .number) (e .detail) (e .value)
+      (ap (λ (x : Encoded). x .number) (encoded-is (resolved s) (addresses s) ps (places-length start ps) j r) ∙ ok .encoded (suc j) (omega arith) (omega arith)))
 
   pub sheet-not-otherwise : sheetOutcome s room ≡ inOrder
   sheet-not-otherwise =

@@ -2,6 +2,8 @@
 use Prim.Native.Nat.{ℕ, suc, _-_, _/_, _≤_}
 use mathlib.Core.List.{List, [], _∷_, _++_}
 use lib.ListN.{length, take, drop, getD}
+use mathlib.Core.Bool.{true, false}
+use Rattle.print_spec.specs.declared.Output.{Output}
 use Rattle.print_spec.specs.Printed.{lineText}
 
 -- the words of the first line, where so many are left: half the bytes up to the next line, or all
@@ -26,3 +28,10 @@ Laid [] words = Unit {0}
 Laid (a ∷ rest) words =
     let count = firstCount (a ∷ rest) (length words) in
     Rises (a ∷ rest) × (count ≤ 11) × (count ≤ length words) × Laid rest (drop count words)
+
+-- how much was written, and that nothing was
+abbrev pub wideBy : ℕ → Output
+wideBy n = record { wide = true; count = n }
+
+abbrev pub notWide : Output
+notWide = record { wide = false; count = 0 }

@@ -8,9 +8,9 @@ use lib.ListN.{length, take, drop, getD, length-append, length-drop}
 use lib.Seq.{take-all, take-suc, take-at, drop-at, drop-cons, drop-drop}
 use Rattle.base_spec.specs.Written.{hex4Of}
 use Rattle.base_spec.specs.Refused.{tab}
-use Rattle.sheet_spec.specs.Sheet.{counted, addressesFrom}
-use Rattle.sheet_spec.specs.Translate.{lineWords, imageFrom}
-use Rattle.sheet_size_facts.specs.Image.{Counts, first-counts, later-counts}
+use Rattle.isa.specs.declared.Encoded.{Encoded}
+use Rattle.sheet_spec.specs.Sheet.{addressesFrom, wordsIn, allWords}
+use Rattle.sheet_size_facts.specs.Image.{Counts, later-counts}
 use Rattle.print_spec.specs.Printed.{listedWords, lineText, listingFrom}
 use Rattle.sheet_print.specs.Listing.{firstCount, linesText, Rises, Laid}
 
@@ -74,46 +74,43 @@ module _ (A W : List ℕ) (k from : ℕ) (h : k < length A) (l : Laid (drop k A)
         let part : from + c - from ≡ c = omega arith in
         rw (part, add-one, add-one, first, count, drop-drop c from W)
 
--- ---- from the lines of a sheet of n lines, each with as many words as counted
-module _ (A : List ℕ) (n : ℕ) where
-  -- the first line's words, and the others
-  module _ (a : ℕ) (l : List ℕ) (ls : List (List ℕ)) (h : Counts A n a (l ∷ ls)) where
-    abbrev W : List ℕ
-    W = lineWords A l a ++ imageFrom A n (a + 2 * counted n l) ls
+-- ---- from encoded lines, each with as many words as counted
+module _ (a c : ℕ) (cs : List ℕ) (e : Encoded) (es : List Encoded) (h : Counts (c ∷ cs) (e ∷ es)) where
+  first-counts : length (wordsIn e) ≡ c
+  first-counts = h .each 0 (omega arith)
 
-    first-count : firstCount (a ∷ addressesFrom n (a + 2 * counted n l) ls) (length W) ≡ counted n l
-    first-count = go ls (first-counts A n a l ls h)
-      where
-        go : (ms : List (List ℕ)) → length (lineWords A l a) ≡ counted n l
-            → firstCount (a ∷ addressesFrom n (a + 2 * counted n l) ms) (length (lineWords A l a ++ imageFrom A n (a + 2 * counted n l) ms)) ≡ counted n l
-        go [] e = rw append-nil e
-        go (m ∷ ms) e = omega arith
+  first-count : firstCount (a ∷ addressesFrom (a + 2 * c) cs) (length (wordsIn e ++ allWords es)) ≡ c
+  first-count = go cs es (h .lines) first-counts
+    where
+      go : (ds : List ℕ) (fs : List Encoded) → length (c ∷ ds) ≡ length (e ∷ fs) → length (wordsIn e) ≡ c
+          → firstCount (a ∷ addressesFrom (a + 2 * c) ds) (length (wordsIn e ++ allWords fs)) ≡ c
+      go [] [] q w = rw append-nil w
+      go [] (f ∷ fs) q w = absurd (omega arith)
+      go (d ∷ ds) fs q w = omega arith
 
-    rises : Rises (a ∷ addressesFrom n (a + 2 * counted n l) ls)
-    rises = go ls
-      where
-        go : (ms : List (List ℕ)) → Rises (a ∷ addressesFrom n (a + 2 * counted n l) ms)
-        go [] = omega arith
-        go (m ∷ ms) = omega arith
+  rises : Rises (a ∷ addressesFrom (a + 2 * c) cs)
+  rises = go cs
+    where
+      go : (ds : List ℕ) → Rises (a ∷ addressesFrom (a + 2 * c) ds)
+      go [] = omega arith
+      go (d ∷ ds) = omega arith
 
-  pub listing-is : (k a : ℕ) (ls : List (List ℕ)) → Counts A n a ls → linesText k (addressesFrom n a ls) (imageFrom A n a ls) ≡ listingFrom A n k a ls
-  listing-is k a [] h = refl
-  listing-is k a (l ∷ ls) h =
-      let e = first-counts A n a l ls h in
-      rw (
-        first-count a l ls h,
-        take-at (lineWords A l a) (imageFrom A n (a + 2 * counted n l) ls) (counted n l) e,
-        drop-at (lineWords A l a) (imageFrom A n (a + 2 * counted n l) ls) (counted n l) e,
-      )
-      (ap (λ (t : List ℕ). lineText k a (lineWords A l a) ++ t) (listing-is (suc k) (a + 2 * counted n l) ls (later-counts A n a l ls h)))
+pub listing-is : (k a : ℕ) (cs : List ℕ) (es : List Encoded) → Counts cs es → linesText k (addressesFrom a cs) (allWords es) ≡ listingFrom k (addressesFrom a cs) es
+listing-is k a [] es h = refl
+listing-is k a (c ∷ cs) [] h = absurd (omega (arith, h .lines))
+listing-is k a (c ∷ cs) (e ∷ es) h =
+    let q = first-counts a c cs e es h in
+    rw (first-count a c cs e es h, take-at (wordsIn e) (allWords es) c q, drop-at (wordsIn e) (allWords es) c q)
+    (ap (λ (t : List ℕ). lineText k a (wordsIn e) ++ t) (listing-is (suc k) (a + 2 * c) cs es (later-counts c cs e es h)))
 
-  pub laid : ((l : List ℕ) (a : ℕ) → length (lineWords A l a) ≤ 11) → (a : ℕ) (ls : List (List ℕ)) → Counts A n a ls → Laid (addressesFrom n a ls) (imageFrom A n a ls)
-  laid few a [] h = tt
-  laid few a (l ∷ ls) h =
-      let e = first-counts A n a l ls h in
-      rw (first-count a l ls h, drop-at (lineWords A l a) (imageFrom A n (a + 2 * counted n l) ls) (counted n l) e) (
-        rises a l ls h,
-        omega (arith, e, few l a),
-        rw length-append (omega (arith, e)),
-        laid few (a + 2 * counted n l) ls (later-counts A n a l ls h),
-      )
+pub laid : (a : ℕ) (cs : List ℕ) (es : List Encoded) → Counts cs es → ((k : ℕ) → k < length cs → getD cs k 0 ≤ 11) → Laid (addressesFrom a cs) (allWords es)
+laid a [] es h few = tt
+laid a (c ∷ cs) [] h few = absurd (omega (arith, h .lines))
+laid a (c ∷ cs) (e ∷ es) h few =
+    let q = first-counts a c cs e es h in
+    rw (first-count a c cs e es h, drop-at (wordsIn e) (allWords es) c q) (
+      rises a c cs e es h,
+      few 0 (omega arith),
+      rw length-append (omega (arith, q)),
+      laid (a + 2 * c) cs es (later-counts c cs e es h) (λ k g. few (suc k) (omega arith)),
+    )

@@ -2,43 +2,52 @@
 use mathlib.Core.Path.{_≡_, refl, sym}
 use mathlib.Core.Bool.{Bool, true, false, _&&_}
 use mathlib.Core.List.{List}
-use Prim.Native.Nat.{ℕ, _≤_, _<_}
+use Prim.Native.Nat.{ℕ, suc, _≤_, _<_}
 use native.Mathlib.Omega.{arith}
-use lib.ListN.{length, take, drop, length-append}
+use lib.ListN.{length, take, drop, getD, length-append}
 use lib.Seq.{take-at}
 use lib.Dec.{leb, eqb}
 use lib.IntN.{pos}
-use borrow.Author.Tests.{lt-leb}
+use borrow.Author.Tests.{le-leb, lt-leb}
 use Rattle.base_spec.specs.Written.{placed}
 use Rattle.base_text.specs.Wrote.{Wrote}
 use Rattle.sheet_spec.specs.declared.Listed.{Listed}
-use Rattle.sheet_spec.specs.Sheet.{isSheet, feeds, last, linesIn}
-use Rattle.sheet_spec.specs.Translate.{Outcome, inOrder, refused, startIn, countIn, addressesIn, needIn, outcomeOf, listedOf, imageIn, over, imageOf, scratchOf}
+use Rattle.sheet_spec.specs.Sheet.{isSheet, feeds, last, Sheet, sheetIn, lineCount, wordCount, lineAt, addresses, encoded, image}
+use Rattle.sheet_spec.specs.Translate.{Outcome, inOrder, refused, opening, outcomeOf, listedOf, over, imageOf, scratchOf}
 use Rattle.sheet_size_facts.specs.Image.{Counts}
-use Rattle.sheet_size_facts.specs.Outcomes.{accepted}
+use Rattle.sheet_size_facts.specs.Outcomes.{counts-length, accepted}
+use Rattle.sheet_size_facts.specs.Bounds.{count-is}
 use Rattle.sheet_size_facts.specs.Counted.{counts, image-counts}
 use Rattle.sheet_facts.specs.SheetLaws.{count-most}
-use Rattle.sheet_passes.specs.PassLaws.{line-most, words-length}
+use Rattle.sheet_facts.specs.Lines.{line-grammar}
+use Rattle.sheet_passes.specs.PassLaws.{counted-most}
 use Rattle.sheet_spec.specs.Promises.{Translated}
 use Rattle.sheet_translate.specs.OutcomeLaws.{Sound, outcome-sound}
-use Rattle.sheet_translate.specs.PlaceLaws.{addresses-length}
-use Rattle.print_spec.specs.Printed.{listingOf, sheetRefusal, printedOf}
-use Rattle.sheet_print.specs.Listing.{linesText, Laid}
+use Rattle.sheet_translate.specs.PlaceLaws.{sheet-places}
+use Rattle.print_spec.specs.declared.Output.{Output}
+use Rattle.print_spec.specs.Printed.{listingOf, sheetRefusal, printedOf, isWide, Put, Printed, longerText}
+use Rattle.sheet_print.specs.Listing.{linesText, Laid, wideBy, notWide}
 use Rattle.sheet_print.specs.ListingLaws.{listing-is, laid}
 
 -- ---- an accepted sheet
 module _ (text : List ℕ) (places room : ℕ) (e : outcomeOf text places room ≡ inOrder) where
-  counted-words : Counts (addressesIn text) (countIn text) (startIn text) (linesIn text)
-  counted-words = counts text places room (accepted text places room e)
+  abbrev S : Sheet
+  S = sheetIn text
 
-  listing-laid : Laid (addressesIn text) (imageIn text)
-  listing-laid =
-      laid (addressesIn text) (countIn text) (λ l a. omega (arith, words-length (addressesIn text) l a, line-most (addressesIn text) l a))
-      (startIn text) (linesIn text) counted-words
+  counted-words : Counts (S .counts) (encoded S)
+  counted-words = counts (S .start) (S .lines) (line-grammar text) room (accepted text places room e .lines)
 
-  listing-text : linesText 1 (addressesIn text) (imageIn text) ≡ printedOf text places room
+  few-words : (k : ℕ) → k < length (S .counts) → getD (S .counts) k 0 ≤ 11
+  few-words k h =
+      let q : suc k ≤ lineCount S = omega (arith, counts-length (S .start) (S .lines)) in
+      omega (arith, count-is (S .start) (S .lines) (suc k) (omega arith) q, counted-most (lineCount S) (lineAt S (suc k)))
+
+  listing-laid : Laid (addresses S) (image S)
+  listing-laid = laid (S .start) (S .counts) (encoded S) counted-words few-words
+
+  listing-text : linesText 1 (addresses S) (image S) ≡ printedOf text places room
   unfolding printedOf listingOf
-  listing-text = rw e (listing-is (addressesIn text) (countIn text) 1 (startIn text) (linesIn text) counted-words)
+  listing-text = rw e (listing-is 1 (S .start) (S .counts) (encoded S) counted-words)
 
 -- what is printed of an accepted sheet, from the scratch and the image that the translator leaves
 pub record Listable (scratch image : List ℕ) (lines words : ℕ) (printed : List ℕ) : Type 0 where
@@ -49,13 +58,13 @@ pub record Listable (scratch image : List ℕ) (lines words : ℕ) (printed : Li
   pub listing : linesText 1 (take lines scratch) (take words image) ≡ printed
 
 accepted-listable : (text v s : List ℕ) → outcomeOf text (length s) (length v) ≡ inOrder
-    → Listable (over (addressesIn text) s) (over (imageIn text) v) (countIn text) (needIn text) (printedOf text (length s) (length v))
+    → Listable (over (addresses (sheetIn text)) s) (over (image (sheetIn text)) v) (lineCount (sheetIn text)) (wordCount (sheetIn text)) (printedOf text (length s) (length v))
 accepted-listable text v s e =
     let a = accepted text (length s) (length v) e in
-    let n = addresses-length (countIn text) (startIn text) (linesIn text) in
+    let n = sheet-places text in
     let m = image-counts text (length s) (length v) e in
-    let scratch = take-at (addressesIn text) (drop (length (addressesIn text)) s) (countIn text) n in
-    let image = take-at (imageIn text) (drop (length (imageIn text)) v) (needIn text) m in
+    let scratch = take-at (addresses (sheetIn text)) (drop (length (addresses (sheetIn text))) s) (lineCount (sheetIn text)) n in
+    let image = take-at (image (sheetIn text)) (drop (length (image (sheetIn text))) v) (wordCount (sheetIn text)) m in
     record {
       held = rw length-append (omega (arith, n));
       room = rw length-append (omega (arith, m));
@@ -87,6 +96,25 @@ module _ {text v s v′ s′ : List ℕ} {r : Listed} (t : Translated text v s v
 pub from-first : {buf out t : List ℕ} {r : ℕ} (p : List ℕ) → Wrote buf 0 t out r → t ≡ p → (r ≡ length p) × (out ≡ placed buf 0 p)
 from-first p w e = rw (sym e) (omega (arith, w .next), w .image)
 
+-- ---- by the buffer
+pub put-wide : (t out out′ : List ℕ) (n : ℕ) → 282624 ≤ length out → (n ≡ length t) × (out′ ≡ placed out 0 t) → Put t out out′ (wideBy n)
+put-wide t out out′ n h p = let e = le-leb 282624 (length out) h in record { answer = rw (e, p .0); buffer = rw e (p .1) }
+
+pub put-nothing : (t out : List ℕ) → length out < 282624 → Put t out out notWide
+put-nothing t out h = let e = lt-leb 282624 (length out) h in record { answer = rw e; buffer = rw e }
+
+pub printed-wide : (text v s out v′ s′ out′ : List ℕ) (n : ℕ) → 282624 ≤ length out
+    → (n ≡ length (printedOf text (length s) (length v))) × (out′ ≡ placed out 0 (printedOf text (length s) (length v))) → v′ ≡ imageOf text s v → s′ ≡ scratchOf text s v
+    → Printed text v s out v′ s′ out′ (wideBy n)
+printed-wide text v s out v′ s′ out′ n h p i q =
+    let e = le-leb 282624 (length out) h in
+    record { put = put-wide (printedOf text (length s) (length v)) out out′ n h p; image = rw e i; scratch = rw e q }
+
+pub printed-nothing : (text v s out : List ℕ) → length out < 282624 → Printed text v s out v s out notWide
+printed-nothing text v s out h =
+    let e = lt-leb 282624 (length out) h in
+    record { put = put-nothing (printedOf text (length s) (length v)) out h; image = rw e; scratch = rw e }
+
 -- a text of more than 65,536 bytes is refused with 10, whatever is lent
 sheet-long : (text : List ℕ) → 65536 < length text → isSheet text ≡ false
 sheet-long text h = rw (lt-leb (length text) 65536 h) (long (leb 1 (length text)))
@@ -95,6 +123,6 @@ sheet-long text h = rw (lt-leb (length text) 65536 h) (long (leb 1 (length text)
     long true = refl
     long false = refl
 
-pub long-refused : (text : List ℕ) (places room : ℕ) → 65536 < length text → printedOf text places room ≡ sheetRefusal 10 0 0 (pos 0)
+pub long-refused : (text : List ℕ) (places room : ℕ) → 65536 < length text → printedOf text places room ≡ longerText
 unfolding printedOf outcomeOf
 long-refused text places room h = rw (sheet-long text h)

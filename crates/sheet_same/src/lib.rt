@@ -1,12 +1,9 @@
 // Whether two sheets are the same.
 ghost use mathlib.Core.Path.{_≡_};
-ghost use Prim.Native.Nat.{_≤_};
-ghost use lib.ListN.{length};
+ghost use lib.ListN.{length, replicate};
 ghost use Rattle.sheet_spec.specs.Line.{equal};
 ghost use Rattle.sheet_spec.specs.Translate.{imageOf, scratchOf};
-ghost use Rattle.sheet_spec.specs.Translate as listing;
-ghost use Rattle.sheet_spec.specs.Promises.{Compared};
-use sheet_spec::Comparison;
+ghost use Rattle.sheet_spec.specs.Translate as sheets;
 
 fn equal_words(v: &[u16], w: &[u16]) -> bool
     ensures { λ r. ⌜ r ≡ equal (now (v .entry)) (now (w .entry)) ⌝ }
@@ -32,8 +29,8 @@ fn compare(
     second_image: &mut [u16],
     scratch: &mut [u32],
 ) -> bool
-    requires { ⌜ (4096 ≤ length (now scratch)) × (45056 ≤ length (now «first_image»)) × (45056 ≤ length (now «second_image»)) ⌝ }
-    ensures { λ r. ⌜ (r ≡ listing.same (now (first .entry)) (now (second .entry)))
+    requires { ⌜ (4096 ≡ length (now scratch)) × (45056 ≡ length (now «first_image»)) × (45056 ≡ length (now «second_image»)) ⌝ }
+    ensures { λ r. ⌜ (r ≡ sheets.same (now (first .entry)) (now (second .entry)))
         × (now («first_image» .exit) ≡ imageOf (now (first .entry)) (now (scratch .entry)) (now («first_image» .entry)))
         × (now («second_image» .exit) ≡ imageOf (now (second .entry)) (now (scratch .entry)) (now («second_image» .entry)))
         × (now (scratch .exit) ≡ scratchOf (now (second .entry)) (scratchOf (now (first .entry)) (now (scratch .entry)) (now («first_image» .entry))) (now («second_image» .entry))) ⌝ }
@@ -48,26 +45,30 @@ fn compare(
     (a.number == 0) & (b.number == 0) & (start == other) & words
 }
 
-pub fn same(
-    first: &[u8],
-    second: &[u8],
-    first_image: &mut [u16],
-    second_image: &mut [u16],
-    scratch: &mut [u32],
-) -> Comparison
-    ensures { λ r. ⌜ Compared (now (first .entry)) (now (second .entry)) (now («first_image» .entry)) (now («second_image» .entry)) (now (scratch .entry))
-        (now («first_image» .exit)) (now («second_image» .exit)) (now (scratch .exit)) r ⌝ }
+fn image_places() -> [u16; 45056]
+    ensures { λ r. ⌜ (r ≡ replicate 45056 0) × (45056 ≡ length r) ⌝ }
 {
-    if (4096 <= scratch.len()) & (45056 <= first_image.len()) & (45056 <= second_image.len()) {
-        let same = compare(first, second, first_image, second_image, scratch);
-        return Comparison {
-            number: 0,
-            same: same,
-        };
-    }
-    sheet_translate::zero(scratch);
-    Comparison {
-        number: 11,
-        same: false,
-    }
+    [0; 45056]
+}
+
+fn scratch_places() -> [u32; 4096]
+    ensures { λ r. ⌜ (r ≡ replicate 4096 0) × (4096 ≡ length r) ⌝ }
+{
+    [0; 4096]
+}
+
+// Whether two sheets are the same, with places for 4,096 lines and for their words.
+pub fn same(first: &[u8], second: &[u8]) -> bool
+    ensures { λ r. ⌜ r ≡ sheets.same (now (first .entry)) (now (second .entry)) ⌝ }
+{
+    let mut first_image = image_places();
+    let mut second_image = image_places();
+    let mut scratch = scratch_places();
+    compare(
+        first,
+        second,
+        &mut first_image,
+        &mut second_image,
+        &mut scratch,
+    )
 }

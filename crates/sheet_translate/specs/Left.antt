@@ -26,9 +26,9 @@ pub record Left (text v s v′ s′ : List ℕ) (r : Listed) : Type 0 where
   pub accepts : outcomeOf text (length s) (length v) ≡ inOrder
   pub lines : r .lines ≡ lineCount (sheetIn text)
   pub counted : r .words ≡ wordCount (sheetIn text)
+  pub words : take (r .words) v′ ≡ image (sheetIn text)
   pub image : v′ ≡ over (image (sheetIn text)) v
   pub scratch : s′ ≡ over (addresses (sheetIn text)) s
-  pub words : take (r .words) v′ ≡ image (sheetIn text)
   pub addresses : (n : ℕ) → 1 ≤ n → n ≤ lineCount (sheetIn text) → getD s′ (pred n) 0 ≡ addressAt (sheetIn text) n
 
 address-at : (text s : List ℕ) (n : ℕ) → 1 ≤ n → n ≤ lineCount (sheetIn text) → getD (over (addresses (sheetIn text)) s) (pred n) 0 ≡ addressAt (sheetIn text) n
@@ -40,14 +40,14 @@ left text v s v′ s′ r t h =
     let e = number-fine text (length s) (length v) r (t .listed) h in
     let answer : r ≡ listedAs inOrder (lineCount (sheetIn text)) (wordCount (sheetIn text)) = t .listed ∙ ap (λ (w : Outcome). listedAs w (lineCount (sheetIn text)) (wordCount (sheetIn text))) e in
     let counted : r .words ≡ wordCount (sheetIn text) = ap (λ (x : Listed). x .words) answer in
-    let image : v′ ≡ over (image (sheetIn text)) v = t .image ∙ ap (λ (w : Outcome). imageAs w (image (sheetIn text)) v) e in
+    let written : v′ ≡ over (image (sheetIn text)) v = t .image ∙ ap (λ (w : Outcome). imageAs w (image (sheetIn text)) v) e in
     let scratch : s′ ≡ over (addresses (sheetIn text)) s = t .scratch ∙ ap (λ (w : Outcome). scratchAs w (addresses (sheetIn text)) s) e in
     record {
       accepts = e;
       lines = ap (λ (x : Listed). x .lines) answer;
       counted = counted;
-      image = image;
+      image = written;
       scratch = scratch;
-      words = rw image (over-take (image (sheetIn text)) v (r .words) (image-counts text (length s) (length v) e ∙ sym counted));
+      words = rw written (over-take (image (sheetIn text)) v (r .words) (image-counts text (length s) (length v) e ∙ sym counted));
       addresses = λ n g k. rw scratch (address-at text s n g k);
     }

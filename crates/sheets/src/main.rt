@@ -98,7 +98,7 @@ fn read_header(list: &[u8], from: usize) -> Header
 fn print_sheet(sheet: &[u8], image: &mut [u16], scratch: &mut [u32], out: &mut [u8])
     requires { ⌜ 282625 ≤ length (now out) ⌝ }
 {
-    let n = sheet_print::print(sheet, image, scratch, out);
+    let n = sheet_print::print(sheet, image, scratch, out).count;
     let end = base_text::put_byte(out, n, b'\n');
     io::write_all(1, &out[..end]);
 }
