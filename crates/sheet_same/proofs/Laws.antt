@@ -12,6 +12,7 @@ use Rattle.sheet_spec.specs.declared.Listed.{Listed}
 use Rattle.sheet_spec.specs.Sheet.{sheetIn, lineCount, wordCount, image}
 use Rattle.sheet_spec.specs.Translate.{Outcome, inOrder, refused, outcomeOf, listedAs, listedOf, imageAs, imageOf, scratchOf, isInOrder, same}
 use Rattle.sheet_size_facts.specs.Outcomes.{accepted}
+use Rattle.sheet_size_facts.specs.Bounds.{address-is}
 use Rattle.sheet_spec.specs.Promises.{Translated}
 use Rattle.sheet_translate.specs.OutcomeLaws.{Sound, outcome-sound}
 use Rattle.sheet_translate.specs.PlaceLaws.{scratch-length, image-length, words-fit}
@@ -37,7 +38,7 @@ module _ (text v s v′ s′ : List ℕ) (r : Listed) (t : Translated text v s v
   start-left h =
       let l = left text v s v′ s′ r t h in
       let some = accepted text (length s) (length v) (l .accepts) .lines-some in
-      omega (arith, l .addresses 1 (omega arith) (omega arith))
+      omega (arith, l .addresses 1 (omega arith) (omega arith), address-is (sheetIn text .start) (sheetIn text .lines) 1 (omega arith) some)
 
   judged : 4096 ≡ length s → 45056 ≡ length v → eqb (r .number) 0 ≡ isInOrder (outcomeOf text 4096 45056)
   unfolding listedOf
