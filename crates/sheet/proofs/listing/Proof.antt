@@ -7,7 +7,7 @@ returns c =
     let b = c .before .before .before .before in
     let s = b .before .before .before .before .scratch-places .ensures .1 in
     let v = b .before .before .before .before .before .image-places .ensures .1 in
-    rw (s, v) (b .print .ensures .0)
+    rw (s, v) (b .print .ensures .0 .put, b .print .ensures .1)
 
 pub listing-spec : {M : Type 1} → statement M
 listing-spec =
