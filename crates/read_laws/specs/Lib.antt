@@ -17,3 +17,4 @@ pub mod Shift
 pub mod Every
 pub mod ReaderLaws
 pub mod Kept
+pub mod One
