@@ -1,6 +1,8 @@
 -- What a run of words reads as (01, "The reading").
 use Prim.Native.Nat.{ℕ, _*_, _/_, _%_}
 use mathlib.Core.List.{List}
+use lib.IntN.{pos}
+use Rattle.isa.specs.declared.Measured.{Measured}
 use Rattle.isa.specs.declared.Instruction.{Instruction}
 use Rattle.read_spec.specs.declared.Group.{Group}
 use Rattle.read_spec.specs.declared.Reading.{Reading}
@@ -32,8 +34,12 @@ readingOf none = Nothing
 unfoldable pub readOf : List ℕ → ℕ → Reading
 readOf ws a = readingOf (run (reader a) a 0 ws)
 
--- 01's number: 5 where the words end and some longer run reads, 6 where none does and no beginning does; detail and value are 0
-abbrev pub readingNumber : Reading → ℕ
-readingNumber (Read i n) = 0
-readingNumber Short = 5
-readingNumber Nothing = 6
+-- a refusal: detail and value are 0 where 01 names none
+abbrev pub refusedRun : ℕ → Measured
+refusedRun k = record { size = 0; number = k; detail = 0; value = pos 0 }
+
+-- 01's number, detail and value: 5 where the words end and some longer run reads, 6 where none does and no beginning does
+abbrev pub readingRefusal : Reading → Measured
+readingRefusal (Read i n) = record { size = n; number = 0; detail = 0; value = pos 0 }
+readingRefusal Short = refusedRun 5
+readingRefusal Nothing = refusedRun 6
