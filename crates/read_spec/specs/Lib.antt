@@ -5,6 +5,7 @@ pub mod RoundTrip
 pub mod Tree
 pub mod Number
 pub mod Operand
+pub mod Modes
 pub mod Layout
 pub mod Map
 pub mod Operation
