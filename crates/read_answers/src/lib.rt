@@ -5,7 +5,7 @@ ghost use lib.ListN.{length};
 ghost use Rattle.base_spec.specs.Written.{placed};
 ghost use Rattle.base_text.specs.Wrote.{Wrote};
 ghost use Rattle.base_spec.specs.Lines.{Answered};
-ghost use Rattle.read_spec.specs.Read.{refusedRun};
+ghost use Rattle.read_spec.specs.Refusal.{refusedRun};
 ghost use Rattle.print_spec.specs.ReadAnswer.{refusalText, readingText};
 ghost use Rattle.read_runs.specs.Kept.{runText, keptAnswerOf};
 ghost use Rattle.read_answers.specs.Put.{minusIf, heldText, firstNumbers, putText};

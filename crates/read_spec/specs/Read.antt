@@ -1,8 +1,6 @@
 -- What a run of words reads as (01, "The reading").
 use Prim.Native.Nat.{ℕ, _*_, _/_, _%_}
 use mathlib.Core.List.{List}
-use lib.IntN.{pos}
-use Rattle.isa.specs.declared.Measured.{Measured}
 use Rattle.isa.specs.declared.Instruction.{Instruction}
 use Rattle.read_spec.specs.declared.Group.{Group}
 use Rattle.read_spec.specs.declared.Reading.{Reading}
@@ -33,13 +31,3 @@ readingOf none = Nothing
 
 unfoldable pub readOf : List ℕ → ℕ → Reading
 readOf ws a = readingOf (run (reader a) a 0 ws)
-
--- a refusal: detail and value are 0 where 01 names none
-abbrev pub refusedRun : ℕ → Measured
-refusedRun k = record { size = 0; number = k; detail = 0; value = pos 0 }
-
--- 01's number, detail and value: 5 where the words end and some longer run reads, 6 where none does and no beginning does
-abbrev pub readingRefusal : Reading → Measured
-readingRefusal (Read i n) = record { size = n; number = 0; detail = 0; value = pos 0 }
-readingRefusal Short = refusedRun 5
-readingRefusal Nothing = refusedRun 6

@@ -6,7 +6,8 @@ use Rattle.isa.specs.declared.Encoded.{Encoded}
 use Rattle.isa.specs.declared.Measured.{Measured}
 use Rattle.encode_spec.specs.Encode.{encodeOf, sizeOf}
 use Rattle.read_spec.specs.declared.Reading.{Reading}
-use Rattle.read_spec.specs.Read.{readOf, readingRefusal}
+use Rattle.read_spec.specs.Read.{readOf}
+use Rattle.read_spec.specs.Refusal.{readingRefusal}
 use Rattle.read_spec.specs.declared.Reading.the-variants.{Read, Short, Nothing}
 use Rattle.read_spec.specs.Plain.{plain}
 use Rattle.read_spec.specs.LeftOut.{leftOut}
