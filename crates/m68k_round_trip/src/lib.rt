@@ -1,6 +1,7 @@
 // The round trip on the code itself.
 ghost use mathlib.Core.Path.{_≡_};
 ghost use Rattle.encode_spec.specs.Encode.{encodeOf};
+ghost use Rattle.read_spec.specs.Refusal.{refusedRun};
 ghost use Rattle.read_spec.specs.Read.{readOf};
 ghost use Rattle.read_spec.specs.RoundTrip.{readBackOf, ReadsBack, refusedBack, writtenBack, WritesBack};
 use isa::Encoded;
@@ -19,7 +20,7 @@ pub fn read_back(instruction: Instruction, address: u32) -> Reading
 }
 
 fn refused(number: u8) -> Encoded
-    ensures { λ r. ⌜ r ≡ refusedBack number ⌝ }
+    ensures { λ r. ⌜ r ≡ refusedBack (refusedRun number) ⌝ }
 {
     Encoded {
         words: [0; 11],

@@ -2,7 +2,8 @@
 use mathlib.Core.Bool.{cond, _&&_}
 use mathlib.Core.List.{List, [], _∷_, _++_}
 use Prim.Native.Nat.{ℕ}
-use lib.IntN.{ℤ, pos}
+use lib.IntN.{ℤ}
+use Rattle.isa.specs.declared.Measured.{Measured}
 use Rattle.base_spec.specs.Written.{decimalOf, signedOf}
 use Rattle.base_spec.specs.Refused.{tab, refusedText, notInForm}
 use Rattle.base_spec.specs.Parts.{fields}
@@ -11,7 +12,8 @@ use Rattle.base_spec.specs.Numbers.{magnitudeOf}
 use Rattle.numeric_spec.specs.Form.{numbersOf}
 use Rattle.read_spec.specs.declared.Reading.{Reading}
 use Rattle.read_spec.specs.declared.Reading.the-variants.{Read, Short, Nothing}
-use Rattle.read_spec.specs.Read.{readOf, readingNumber}
+use Rattle.read_spec.specs.Refusal.{readingRefusal}
+use Rattle.read_spec.specs.Read.{readOf}
 use Rattle.print_spec.specs.Run.{isAddressField, allWords, fieldWords}
 
 -- each number, and a tab
@@ -23,14 +25,14 @@ numbersText (z ∷ zs) = signedOf z ++ tab ++ numbersText zs
 unfoldable pub readText : List ℤ → ℕ → List ℕ
 readText zs n = numbersText zs ++ (61 ∷ 62 ∷ 9 ∷ []) ++ decimalOf n ++ (10 ∷ [])
 
--- refused⇥number⇥0⇥0
-abbrev pub refusalText : ℕ → List ℕ
-refusalText number = refusedText number 0 (pos 0) ++ (10 ∷ [])
+-- refused⇥number⇥detail⇥value
+abbrev pub refusalText : Measured → List ℕ
+refusalText m = refusedText (m .number) (m .detail) (m .value) ++ (10 ∷ [])
 
 abbrev pub readingText : Reading → List ℕ
 readingText (Read i n) = readText (numbersOf i) n
-readingText Short = refusalText (readingNumber Short)
-readingText Nothing = refusalText (readingNumber Nothing)
+readingText Short = refusalText (readingRefusal Short)
+readingText Nothing = refusalText (readingRefusal Nothing)
 
 -- for the fields of a line: an address, then words
 abbrev pub answerTo : List (List ℕ) → List ℕ

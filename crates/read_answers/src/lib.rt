@@ -5,6 +5,7 @@ ghost use lib.ListN.{length};
 ghost use Rattle.base_spec.specs.Written.{placed};
 ghost use Rattle.base_text.specs.Wrote.{Wrote};
 ghost use Rattle.base_spec.specs.Lines.{Answered};
+ghost use Rattle.read_spec.specs.Refusal.{refusedRun};
 ghost use Rattle.print_spec.specs.ReadAnswer.{refusalText, readingText};
 ghost use Rattle.read_runs.specs.Kept.{runText, keptAnswerOf};
 ghost use Rattle.read_answers.specs.Put.{minusIf, heldText, firstNumbers, putText};
@@ -62,7 +63,7 @@ fn put_read(out: &mut [u8], at: usize, numbers: Numbers, bytes: u32) -> usize
 // A refusal with no detail and no value.
 fn put_refused(out: &mut [u8], at: usize, number: u8) -> usize
     requires { ⌜ at + 37 ≤ length (now out) ⌝ }
-    ensures { λ r. ⌜ Wrote (now (out .entry)) at (refusalText number) (now (out .exit)) r × (r ≤ at + 37) ⌝ }
+    ensures { λ r. ⌜ Wrote (now (out .entry)) at (refusalText (refusedRun number)) (now (out .exit)) r × (r ≤ at + 37) ⌝ }
 {
     let next = base_text::put_refusal(out, at, number, 0, 0);
     base_text::put_byte(out, next, b'\n')

@@ -32,7 +32,7 @@ use Rattle.isa.specs.declared.Operand.the-variants.{Register}
 use Rattle.isa.specs.declared.Instruction.{Instruction}
 use Rattle.encode_spec.specs.Logic.{logicalParts}
 use Rattle.read_spec.specs.LeftOut.{leftOut}
-use Rattle.read_spec.specs.Layouts.{readableModes}
+use Rattle.read_spec.specs.Modes.{readableModes}
 use Rattle.read_spec.specs.Accepted.{InTypes, InstructionInTypes, Accepted}
 use Rattle.read_laws.specs.Statements.{Reads, Sound}
 use Rattle.read_laws.specs.Tests.{equal, yes, among, each}

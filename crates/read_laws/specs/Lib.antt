@@ -1,6 +1,7 @@
 pub mod Statements
 pub mod Tests
 pub mod MapLaws
+pub mod ModesLaws
 pub mod Operands
 pub mod LayingLaws
 pub mod DecodedLaws
@@ -16,4 +17,5 @@ pub mod FromData
 pub mod Shift
 pub mod Every
 pub mod ReaderLaws
+pub mod One
 pub mod Kept

@@ -1,5 +1,5 @@
 -- The operation code map: what a group says of the fields of its words, by induction over the rows; which group fields are in; and the sizes.
-use Prim.Native.Nat.{ℕ, suc, _+_, _-_, _<_}
+use Prim.Native.Nat.{ℕ, suc, _+_, _-_, _<_, _≤_}
 use mathlib.Core.Path.{_≡_, refl, ap}
 use mathlib.Core.Bool.{Bool, true, false, _&&_, cond}
 use mathlib.Core.List.{List, [], _∷_}
@@ -15,6 +15,19 @@ use Rattle.read_places.specs.GroupLaws.{same-group}
 use Rattle.read_spec.specs.Operation.{sizeAt}
 use Rattle.base_facts.specs.Tests.{all, allIn, below, and-true, eqb-eq, eqb-is, ltb-is, leb-is}
 use Rattle.read_laws.specs.Tests.{Fact, known, Known, says, implies, among, each-test}
+
+-- at most one row has any upper ten bits, so that it plays no part which row comes first
+abbrev pub rowsAt : List Row → ℕ → ℕ → ℕ → ℕ
+rowsAt [] line x opmode = 0
+rowsAt (r ∷ rs) line x opmode = cond (inRow r line x opmode) (suc (rowsAt rs line x opmode)) (rowsAt rs line x opmode)
+
+pub one-row : (line x opmode : ℕ) → line < 16 → x < 8 → opmode < 8 → rowsAt map line x opmode ≤ 1
+unfolding map
+one-row line x opmode hl hx ho =
+    let few : ℕ → ℕ → ℕ → Bool = λ line x opmode. leb (rowsAt map line x opmode) 1 in
+    let a = below (λ line. all (λ x. all (few line x) 8) 8) 16 refl line hl in
+    let b = below (λ x. all (few line x) 8) 8 a x hx in
+    leb-is (rowsAt map line x opmode) 1 (below (few line x) 8 b opmode ho)
 
 -- the upper ten bits of an operation word of a group
 abbrev pub At : Group → ℕ → ℕ → ℕ → Type 0

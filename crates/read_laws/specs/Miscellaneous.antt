@@ -37,7 +37,8 @@ use Rattle.read_spec.specs.declared.Specifier.the-variants as specifier
 use Rattle.read_spec.specs.declared.Tail.{Tail}
 use Rattle.read_spec.specs.Tree.{ret}
 use Rattle.read_spec.specs.Layout.{one, alone, bare}
-use Rattle.read_spec.specs.Layouts.{readableModes, unsizedModes, unsizedSize, unsizedLayout}
+use Rattle.read_spec.specs.Modes.{readableModes, movemModesAt, unsizedModes}
+use Rattle.read_spec.specs.Layouts.{unsizedSize, unsizedLayout}
 use Rattle.read_spec.specs.Map.{groupAt, map}
 use Rattle.read_spec.specs.Operand.{permitted}
 use Rattle.read_spec.specs.Operation.{sizeAt, oneAt, unsizedAt, toMemoryAt}
@@ -317,12 +318,13 @@ movem-laying a direction s mask o =
 
 movem-code : (direction : TargetDirection) (s : Size) → not (isByte s) ≡ true
     → At group.MovemExt 4 (movemCode direction) (movemOpmode s) × (toMemoryAt (5 - movemCode direction) ≡ direction) × (sizeAt (movemOpmode s - 1) ≡ s)
+    × (movemModesAt (movemCode direction) ≡ movemModes direction)
 unfolding groupAt map
 movem-code direction Byte z = absurd (false≢true z)
-movem-code ToMemory Word z = (at-code group.MovemExt 4 4 2 refl, refl, refl)
-movem-code ToMemory Long z = (at-code group.MovemExt 4 4 3 refl, refl, refl)
-movem-code FromMemory Word z = (at-code group.MovemExt 4 6 2 refl, refl, refl)
-movem-code FromMemory Long z = (at-code group.MovemExt 4 6 3 refl, refl, refl)
+movem-code ToMemory Word z = (at-code group.MovemExt 4 4 2 refl, refl, refl, refl)
+movem-code ToMemory Long z = (at-code group.MovemExt 4 4 3 refl, refl, refl, refl)
+movem-code FromMemory Word z = (at-code group.MovemExt 4 6 2 refl, refl, refl, refl)
+movem-code FromMemory Long z = (at-code group.MovemExt 4 6 3 refl, refl, refl, refl)
 
 -- EXT stands where MOVEM to memory has no mode
 not-ext : (direction : TargetDirection) (ea : ℕ) → permitted (movemModes direction) ea ≡ true → eqb (movemCode direction) 4 && ltb ea 8 ≡ false
@@ -333,21 +335,22 @@ pub movem-reads : (a : ℕ) (direction : TargetDirection) (s : Size) (mask : ℕ
     → Reads a (MOVEM direction s mask o)
 movem-reads a direction s mask o ((h, n), e, l) =
     let form = movem-laying a direction s mask o in
-    let (c, y, z) = movem-code direction s (unless-reason (not (isByte s)) 20 (form .back e .0 .0)) in
+    let (c, y, z, v) = movem-code direction s (unless-reason (not (isByte s)) 20 (form .back e .0 .0)) in
     let k : mask % 65536 ≡ mask = omega arith in
-    laying-reads form c e n (λ d m. let q = not-ext direction (eaField o) m in (rw (q, y, z), (h, refl), rw (q, y, z, k)))
+    laying-reads form c e n (λ d m. let q = not-ext direction (eaField o) m in (rw (q, v, z), (h, refl), rw (q, y, z, k)))
 
 pub movem-ext-sound : Sound group.MovemExt
 unfolding map
 movem-ext-sound a line x opmode ea hl hx ho he e f h p i r =
     let (w, (z, (k, u))) = in-group group.MovemExt (λ l x o. equal (wordOf 4 (movemCode (toMemoryAt (5 - x))) (movemOpmode (sizeAt (o - 1))) 0) (wordOf l x o 0)
-    ∷ yes (not (isByte (sizeAt (o - 1)))) ∷ equal (extOpmode (sizeAt (o - 2)) (sizeAt (o - 1))) o ∷ yes (not (eqb o 0)) ∷ equal l 4 ∷ []) refl line
+    ∷ yes (not (isByte (sizeAt (o - 1)))) ∷ equal (extOpmode (sizeAt (o - 2)) (sizeAt (o - 1))) o ∷ yes (not (eqb o 0)) ∷ equal l 4
+    ∷ equal (movemModesAt x) (movemModes (toMemoryAt (5 - x))) ∷ []) refl line
     x opmode e in
     let s = sizeAt (opmode - 1) in
     let direction = toMemoryAt (5 - x) in
     let j = EXT (Data ea) (sizeAt (opmode - 2)) s in
     either-encodes a i j (MOVEM direction s (f .value % 65536) (f .source)) (wordOf line x opmode ea) (eqb x 4 && ltb ea 8) bare
-    (one specifier.Word s ea (movemModes direction)) f h r
+    (one specifier.Word s ea (movemModesAt x)) f h r
     (λ q g.
     let (b, d) = and-true (eqb x 4) _ q in
     word-as a j _ _ _ (omega (arith, k, u .1 .0, eqb-eq x 4 b)) (alone-encodes a j _ specifier.Nothing f g
@@ -355,7 +358,7 @@ movem-ext-sound a line x opmode ea hl hx ho he e f h p i r =
     (λ q g.
     let m : f .value % 65536 ≡ f .value = omega (arith, g .1 .0) in
     rw m (word-as a (MOVEM direction s (f .value) (f .source)) _ _ _ (omega (arith, w))
-    (laying-encodes ea f (movem-laying a direction s (f .value) (f .source)) (true-unless (not (isByte s)) (noEncoding 20) z, tt) g p (λ n. (g .1 .0, n)) refl
+    (laying-encodes ea f (movem-laying a direction s (f .value) (f .source)) (true-unless (not (isByte s)) (noEncoding 20) z, tt) (rw (u .1 .1 .0) at g) p (λ n. (g .1 .0, n)) refl
     (λ e. rw e))))
 
 -- ---- LEA, and CHK of a word or of a long

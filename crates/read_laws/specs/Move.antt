@@ -26,7 +26,8 @@ use Rattle.read_spec.specs.declared.Specifier.the-variants as specifier
 use Rattle.read_spec.specs.declared.Tail.{Tail}
 use Rattle.read_spec.specs.Operand.{permitted}
 use Rattle.read_spec.specs.Layout.{one, two, noLayout}
-use Rattle.read_spec.specs.Layouts.{readableModes, moveLayout, moveaLayout}
+use Rattle.read_spec.specs.Modes.{readableModes}
+use Rattle.read_spec.specs.Layouts.{moveLayout, moveaLayout}
 use Rattle.read_spec.specs.Map.{groupAt, map}
 use Rattle.read_spec.specs.Operation.{moveSize}
 use Rattle.read_spec.specs.Decoded.{wordOf}

@@ -1,4 +1,4 @@
--- The reader and the encoder are each other's inverse: T1 to T5, from what is proved of each instruction and each group.
+-- The reader and the encoder are each other's inverse: T1 to T4, from what is proved of each instruction and each group.
 use Prim.Native.Nat.{ℕ, zero, suc, _+_, _*_, _/_, _%_, _<_}
 use mathlib.Core.Path.{_≡_, refl, ap, sym, _∙_, subst}
 use mathlib.Core.List.{List, [], _∷_, _++_, append-nil}
@@ -124,9 +124,9 @@ plain-words a i h =
     (reader-complete a i h []) in
     (s .0, s .1, sym (append-nil (wordsOf (plain i) a)) ∙ sym (s .2) ∙ append-nil (wordsOf i a))
 
--- ---- one: equal words have equal plain forms
-pub one : (a : ℕ) (i j : Instruction) → Accepted a i → Accepted a j → wordsOf i a ≡ wordsOf j a → plain i ≡ plain j
-one a i j h g e =
+-- ---- equal words have equal plain forms, where both read
+pub read-one : (a : ℕ) (i j : Instruction) → Accepted a i → Accepted a j → wordsOf i a ≡ wordsOf j a → plain i ≡ plain j
+read-one a i j h g e =
     let x : got (plain i) (length (wordsOf i a)) [] ≡ got (plain j) (length (wordsOf j a)) [] = sym (reader-complete a i h [])
     ∙ ap (λ (l : List ℕ). run (reader a) a 0 (l ++ [])) e ∙ reader-complete a j g [] in
     cc

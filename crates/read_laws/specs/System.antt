@@ -142,7 +142,7 @@ movec-encodes a to v h =
     let g = of-general (v / 4096 % 16) (omega arith) in
     let m : v % 4096 % 4096 ≡ v % 4096 = omega arith in
     let w : v / 4096 % 16 * 4096 + v % 4096 ≡ v = omega arith in (
-      (tt, passed (itemsOf (MOVEC to (v % 4096) (generalOf (v / 4096 % 16))) a) (lt-number (numberOfRegister (generalOf (v / 4096 % 16))) (g .1), tt), refl),
+      (omega arith, passed (itemsOf (MOVEC to (v % 4096) (generalOf (v / 4096 % 16))) a) (lt-number (numberOfRegister (generalOf (v / 4096 % 16))) (g .1), tt), refl),
       rw m,
       rw (m, g .0, w),
     )

@@ -1,12 +1,12 @@
-// What an operation word is, and what follows it (the manual, section 4, each instruction's format; section 8).
+// What an operation word is, and what follows it (the manual, sections 4 and 6, each instruction's format; section 8).
 // line, x, opmode and ea are bits 15 to 12, 11 to 9, 8 to 6 and 5 to 0 of the operation word.
 ghost use mathlib.Core.Bool.{cond};
 ghost use mathlib.Core.Path.{_≡_};
 ghost use Prim.Native.Nat.{_<_};
 ghost use Rattle.isa.specs.declared.Size.the-variants.{Long, Word};
-ghost use Rattle.encode_spec.specs.Bits.{staticModes};
+ghost use Rattle.read_spec.specs.Modes.{readableModes, staticModesAt, unsizedModes};
 ghost use Rattle.read_spec.specs.Layout.{two, one, alone, bare, noLayout};
-ghost use Rattle.read_spec.specs.Layouts.{readableModes, immediateSpecifier, immediateLayout, dynamicBitMovepLayout, casLayout, moveaLayout, moveLayout, oneLayout, unsizedModes, unsizedSize, unsizedLayout, unsizedOneIllegalLayout, nbcdLinkLayout, peaSwapBkptLayout, movemExtLayout, systemSpecifier, systemLayout, leaExtbLayout, quickLayout, trapSpecifier, conditionalLayout, branchLayout, intoDataLayout, fromDataLayout, logicExchangeLayout, logicCompareLayout, bitFieldLayout, layoutOf};
+ghost use Rattle.read_spec.specs.Layouts.{immediateSpecifier, immediateLayout, dynamicBitMovepLayout, casLayout, moveaLayout, moveLayout, oneLayout, unsizedSize, unsizedLayout, unsizedOneIllegalLayout, nbcdLinkLayout, peaSwapBkptLayout, movemExtLayout, systemSpecifier, systemLayout, leaExtbLayout, quickLayout, trapSpecifier, conditionalLayout, branchLayout, intoDataLayout, fromDataLayout, logicExchangeLayout, logicCompareLayout, bitFieldLayout, layoutOf};
 use isa::BitFieldOperation;
 use isa::Size;
 use isa::UnsizedOneOperation;
@@ -19,7 +19,8 @@ use isa_operands::DATA;
 use isa_operands::DATA_ALTERABLE;
 use isa_operands::DATA_NOT_IMMEDIATE;
 use isa_operands::MEMORY_ALTERABLE;
-use isa_operands::movem_modes;
+use isa_operands::MOVEM_FROM_MEMORY;
+use isa_operands::MOVEM_TO_MEMORY;
 use isa_values::bit_field_operation;
 use isa_values::code::is_byte;
 use read_spec::Group;
@@ -30,11 +31,17 @@ use read_values::operation::is_exchange;
 use read_values::operation::less;
 use read_values::operation::move_size;
 use read_values::operation::size_at;
-use read_values::operation::to_memory_at;
 use read_values::operation::to_status;
 use read_values::operation::unsized_at;
 
 pub mod map; // the group of an operation word
+
+// One mode alone: Dn, (An)+ and d16(An).
+const DATA_REGISTER: u16 = 0b1;
+
+const POSTINCREMENT: u16 = 0b1000;
+
+const DISPLACEMENT: u16 = 0b10_0000;
 
 // A specifier and two operands.
 fn two(
@@ -62,14 +69,14 @@ fn two(
 fn one(specifier: Specifier, size: Size, ea: u8, modes: u16) -> Layout
     ensures { λ r. ⌜ r ≡ one specifier size ea modes ⌝ }
 {
-    two(specifier, size, ea, modes, 0, 1)
+    two(specifier, size, ea, modes, 0, DATA_REGISTER)
 }
 
 // A specifier alone.
 fn alone(specifier: Specifier) -> Layout
     ensures { λ r. ⌜ r ≡ alone specifier ⌝ }
 {
-    one(specifier, Size::Byte, 0, 1)
+    one(specifier, Size::Byte, 0, DATA_REGISTER)
 }
 
 // Nothing more.
@@ -88,9 +95,9 @@ fn no_layout() -> Layout
         specifier: Specifier::Nothing,
         size: Size::Byte,
         source: 0,
-        readable: 1,
+        readable: DATA_REGISTER,
         destination: 0,
-        writable: 1,
+        writable: DATA_REGISTER,
     }
 }
 
@@ -128,7 +135,7 @@ fn immediate_specifier(size: Size) -> Specifier
 
 // The modes of BTST, BCHG, BCLR and BSET with a number; BTST only reads its operand.
 fn static_modes(kind: u8) -> u16
-    ensures { λ r. ⌜ r ≡ staticModes kind ⌝ }
+    ensures { λ r. ⌜ r ≡ staticModesAt kind ⌝ }
 {
     modes_if(kind == 0, DATA_NOT_IMMEDIATE, DATA_ALTERABLE)
 }
@@ -154,7 +161,7 @@ fn dynamic_bit_movep_layout(opmode: u8, ea: u8) -> Layout
     let kind = less(opmode, 4);
     let modes = modes_if(kind == 0, DATA, DATA_ALTERABLE);
     if ea / 8 == 1 {
-        one(Specifier::Nothing, Size::Word, 40 + ea % 8, 32)
+        one(Specifier::Nothing, Size::Word, 40 + ea % 8, DISPLACEMENT)
     } else {
         one(Specifier::Nothing, Size::Byte, ea, modes)
     }
@@ -292,7 +299,7 @@ fn movem_ext_layout(x: u8, opmode: u8, ea: u8) -> Layout
     ensures { λ r. ⌜ r ≡ movemExtLayout x opmode ea ⌝ }
 {
     let size = size_at(less(opmode, 1));
-    let modes = movem_modes(to_memory_at(less(5, x)));
+    let modes = modes_if(x == 4, MOVEM_TO_MEMORY, MOVEM_FROM_MEMORY);
     if (x == 4) & (ea < 8) {
         bare()
     } else {
@@ -417,7 +424,14 @@ fn logic_compare_layout(x: u8, opmode: u8, ea: u8) -> Layout
 {
     let size = size_at(less(opmode, 4));
     if ea / 8 == 1 {
-        two(Specifier::Nothing, Size::Byte, 24 + ea % 8, 8, 24 + x, 8)
+        two(
+            Specifier::Nothing,
+            Size::Byte,
+            24 + ea % 8,
+            POSTINCREMENT,
+            24 + x,
+            POSTINCREMENT,
+        )
     } else {
         one(Specifier::Nothing, size, ea, DATA_ALTERABLE)
     }

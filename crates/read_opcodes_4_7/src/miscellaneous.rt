@@ -1,4 +1,4 @@
-// Line 4 up to $4E3F.
+// Line 4 but for $4E40 to $4E7F.
 ghost use mathlib.Core.Path.{_≡_};
 ghost use Rattle.isa.specs.declared.Instruction.the-variants.{OneOperand, UnsizedIntoRegister};
 ghost use Rattle.isa.specs.declared.RegisterOperand.the-variants.{Data};

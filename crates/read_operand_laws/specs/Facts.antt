@@ -115,7 +115,7 @@ distance-fits t p = signed32-fits (difference t p) (omega arith)
 pub reach-lt : (p : ℕ) (z : ℤ) → reach p z < 2 ^ 32
 reach-lt p z = omega arith
 
--- ---- what each field holds (Register and BitField: values.specs.Fields)
+-- ---- what each field holds (Register and BitField: isa_values.specs.Fields)
 short-word : (z : ℤ) → leZ (negsuc 32767) z && leZ z (pos 32767) && true ≡ fits (2 ^ 15) z
 short-word z = and-yes (leZ (negsuc 32767) z && leZ z (pos 32767)) ∙ within-fits 32767 z
 

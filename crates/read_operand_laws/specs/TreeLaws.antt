@@ -103,7 +103,6 @@ module _ {A : Type 0} where
 
   pub guard-alive : (b : Bool) (t : Tree A) → b ≡ true → Alive t → Alive (guard b t)
   guard-alive b t e l = rw e l
-  -- ---- by place
 
 -- ---- one tree after another
 module _ {A B : Type 0} where

@@ -9,13 +9,9 @@ use Rattle.isa.specs.declared.Operand.the-variants.{Immediate, Register, Indire
 use Rattle.isa.specs.declared.TrapOperand.{TrapOperand}
 use Rattle.isa.specs.declared.Instruction.{Instruction}
 use Rattle.isa.specs.declared.Instruction.the-variants.{IntoRegister, MOVEM, Transfer, Pair, Quick, MOVEQ, ImmediateInto, WordIntoData, SWAP, EXG, UnsizedIntoRegister, UnsizedOne, UnsizedPair, EXT, OneOperand, Bcc, Scc, DBcc, Branch, Link, UNLK, Shift, Vector, Status, ConditionCode, MOVEUSP, Raw, NoOperand, RTD, MOVEC, TRAPcc, MULL, Pack, CAS, CAS2, BF, DIVL}
-use Rattle.isa.specs.declared.BranchSize.the-variants.{Short}
-use Rattle.isa.specs.declared.BranchOperation.{BranchOperation}
-use Rattle.isa.specs.declared.Condition.{Condition}
 use Rattle.isa.specs.declared.TrapOperand.the-variants as trap
-use Rattle.encode_spec.specs.Item.{fine, wordAddress}
+use Rattle.encode_spec.specs.Item.{fine}
 use Rattle.encode_spec.specs.Encode.{refusalOf, wordsOf}
-use Rattle.encode_spec.specs.Ea.{distance}
 use Rattle.read_spec.specs.LeftOut.{leftOut}
 use mathlib.Core.List.{List, [], _∷_, _++_}
 
@@ -73,7 +69,7 @@ InstructionInTypes (MOVEUSP to r) = Unit {0}
 InstructionInTypes (Raw op w) = w < 65536
 InstructionInTypes (NoOperand op) = Unit {0}
 InstructionInTypes (RTD d) = d < 2 ^ 32
-InstructionInTypes (MOVEC to control r) = Unit {0}
+InstructionInTypes (MOVEC to control r) = control < 65536
 InstructionInTypes (TRAPcc condition x) = TrapInTypes x
 InstructionInTypes (MULL o low high sign) = InTypes o
 InstructionInTypes (Pack op o d adjustment) = InTypes o × InTypes d × (adjustment < 65536)
@@ -85,16 +81,6 @@ InstructionInTypes (DIVL o quotient remainder wide sign) = InTypes o
 -- what `encode` accepts at an address, and the reader does not leave out
 abbrev pub Accepted : ℕ → Instruction → Type 0
 Accepted a i = InstructionInTypes i × (refusalOf true i a ≡ fine) × (leftOut i a ≡ false)
-
--- a short branch of -1, at a
-pub data MinusOne (a : ℕ) : Instruction → Type 0 where
-  always : (op : BranchOperation) (t : ℕ) → distance t (wordAddress a 1) ≡ negsuc 0 → MinusOne a (Branch op t Short)
-  where-true : (t : ℕ) (c : Condition) → distance t (wordAddress a 1) ≡ negsuc 0 → MinusOne a (Bcc t c Short)
-
--- what `encode` accepts, IllegalWord and SIMHALT apart
-pub data Accepts (a : ℕ) (i : Instruction) : Type 0 where
-  not-left-out : Accepted a i → Accepts a i
-  minus-one : InstructionInTypes i → refusalOf true i a ≡ fine → MinusOne a i → Accepts a i
 
 -- each is a word
 abbrev pub Words : List ℕ → Type 0

@@ -1,4 +1,4 @@
--- The instruction that an operation word and what follows it are (the manual, section 4, each instruction's format).
+-- The instruction that an operation word and what follows it are (the manual, sections 4 and 6, each instruction's format).
 -- a is the address of the operation word; line, x, opmode and ea are its fields; v, o and d are the value of its specifier, its
 -- source and its destination.
 use Prim.Native.Nat.{ℕ, _+_, _*_, _-_, _/_, _%_, _^_}

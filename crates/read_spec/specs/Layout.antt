@@ -1,4 +1,4 @@
--- What follows an operation word, in the order of figure 2-1, "Instruction Word General Format": the special operand
+-- What follows an operation word, in the order of the manual's figure 2-1, "Instruction Word General Format": the special operand
 -- specifier, the source's words, the destination's words.
 use Prim.Native.Nat.{ℕ, _+_, _*_, _/_, _%_}
 use mathlib.Core.Bool.{Bool, true, false, not, _&&_, _||_}
@@ -11,6 +11,7 @@ use Rattle.read_spec.specs.declared.Layout.{Layout}
 use Rattle.read_spec.specs.declared.Tail.{Tail}
 use Rattle.read_spec.specs.Tree.{Tree, ret, more, bind, guard}
 use Rattle.read_spec.specs.Operand.{permitted, operandTree}
+use Rattle.read_spec.specs.Modes.{onlyMode}
 
 -- A bit-field's offset or width in six bits: Do or Dw before a register or a number.
 abbrev pub valuePart : ℕ → Bool
@@ -65,14 +66,14 @@ two k s ea modes to toModes =
     record { accepted = true; specifier = k; size = s; source = ea; readable = modes; destination = to; writable = toModes }
 
 abbrev pub one : Specifier → Size → ℕ → ℕ → Layout
-one k s ea modes = two k s ea modes 0 1
+one k s ea modes = two k s ea modes 0 (onlyMode 0)
 
 abbrev pub alone : Specifier → Layout
-alone k = one k Byte 0 1
+alone k = one k Byte 0 (onlyMode 0)
 
 abbrev pub bare : Layout
 bare = alone specifier.Nothing
 
 abbrev pub noLayout : Layout
 noLayout =
-    record { accepted = false; specifier = specifier.Nothing; size = Byte; source = 0; readable = 1; destination = 0; writable = 1 }
+    record { accepted = false; specifier = specifier.Nothing; size = Byte; source = 0; readable = onlyMode 0; destination = 0; writable = onlyMode 0 }

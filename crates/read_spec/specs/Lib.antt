@@ -1,10 +1,12 @@
 pub mod Plain
 pub mod LeftOut
 pub mod Accepted
+pub mod Refusal
 pub mod RoundTrip
 pub mod Tree
 pub mod Number
 pub mod Operand
+pub mod Modes
 pub mod Layout
 pub mod Map
 pub mod Operation

@@ -1,4 +1,4 @@
--- What the fields of an operation word name (the manual, section 4, each instruction's format).
+-- What the fields of an operation word name (the manual, sections 4 and 6, each instruction's format).
 use Prim.Native.Nat.{ℕ, _-_, _/_, _%_}
 use mathlib.Core.Bool.{Bool, _&&_, _||_, cond}
 use mathlib.Core.List.{[], _∷_}

@@ -31,9 +31,3 @@ readingOf none = Nothing
 
 unfoldable pub readOf : List ℕ → ℕ → Reading
 readOf ws a = readingOf (run (reader a) a 0 ws)
-
--- 01's number: 5 where the words end and some longer run reads, 6 where none does and no beginning does; detail and value are 0
-abbrev pub readingNumber : Reading → ℕ
-readingNumber (Read i n) = 0
-readingNumber Short = 5
-readingNumber Nothing = 6

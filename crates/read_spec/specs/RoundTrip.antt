@@ -3,15 +3,16 @@ use Prim.Native.Nat.{ℕ, _*_}
 use lib.ListN.{take, replicate}
 use Rattle.isa.specs.declared.Instruction.{Instruction}
 use Rattle.isa.specs.declared.Encoded.{Encoded}
+use Rattle.isa.specs.declared.Measured.{Measured}
 use Rattle.encode_spec.specs.Encode.{encodeOf, sizeOf}
 use Rattle.read_spec.specs.declared.Reading.{Reading}
-use Rattle.read_spec.specs.Read.{readOf, readingNumber}
+use Rattle.read_spec.specs.Read.{readOf}
+use Rattle.read_spec.specs.Refusal.{readingRefusal}
 use Rattle.read_spec.specs.declared.Reading.the-variants.{Read, Short, Nothing}
 use Rattle.read_spec.specs.Plain.{plain}
 use Rattle.read_spec.specs.LeftOut.{leftOut}
 use mathlib.Core.Path.{_≡_}
 use mathlib.Core.Bool.{false}
-use lib.IntN.{pos}
 use mathlib.Core.List.{List}
 
 -- what the two ways round give
@@ -22,13 +23,13 @@ readBackOf i a = readOf (take (encodeOf i a .count) (encodeOf i a .words)) a
 abbrev pub ReadsBack : Instruction → ℕ → Reading → Type 0
 ReadsBack i a r = encodeOf i a .number ≡ 0 → leftOut i a ≡ false → r ≡ Read (plain i) (sizeOf i .size)
 
-abbrev pub refusedBack : ℕ → Encoded
-refusedBack n = record { words = replicate 11 0; count = 0; number = n; detail = 0; value = pos 0 }
+abbrev pub refusedBack : Measured → Encoded
+refusedBack m = record { words = replicate 11 0; count = 0; number = m .number; detail = m .detail; value = m .value }
 
 abbrev pub writtenBack : Reading → ℕ → Encoded
 writtenBack (Read i n) a = encodeOf i a
-writtenBack Short a = refusedBack (readingNumber Short)
-writtenBack Nothing a = refusedBack (readingNumber Nothing)
+writtenBack Short a = refusedBack (readingRefusal Short)
+writtenBack Nothing a = refusedBack (readingRefusal Nothing)
 
 -- what reads is accepted again, and its words are those read
 abbrev pub WritesBack : List ℕ → ℕ → Encoded → Type 0

@@ -1,4 +1,4 @@
-// What the fields of an operation word name (the manual, section 4, each instruction's format).
+// What the fields of an operation word name (the manual, sections 4 and 6, each instruction's format).
 ghost use mathlib.Core.Path.{_≡_};
 ghost use Prim.Native.Nat.{_-_, _<_};
 ghost use Rattle.read_spec.specs.Decoded.{highAt, wordOf};

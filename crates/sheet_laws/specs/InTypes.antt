@@ -89,7 +89,7 @@ inside-in-types (MOVEUSP b r) h = tt
 inside-in-types (Raw op v) (e, h) = small 65536 v (h .0) (omega arith)
 inside-in-types (NoOperand op) h = tt
 inside-in-types (RTD v) (e, h) = small (2 ^ 32) v (h .0) (omega arith)
-inside-in-types (MOVEC b v r) h = tt
+inside-in-types (MOVEC b v r) (e, h) = small 65536 v (h .1 .0) (omega arith)
 inside-in-types (TRAPcc c x) (e, h) = trap-in-types x (h .1)
 inside-in-types (MULL o v c g) (e, h) =
     first o (byteForm v) (front (operandForm o ++ byteForm v) (registerChoiceForm c) (front (operandForm o ++ byteForm v ++ registerChoiceForm c) (signForm g) h))

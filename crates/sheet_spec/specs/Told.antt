@@ -12,10 +12,8 @@ use Rattle.sheet_spec.specs.declared.Kind.the-variants as kind
 use mathlib.Core.List.{List, [], _∷_, _++_, map}
 use mathlib.Core.Path.{_≡_}
 use mathlib.Core.Option.{some}
-use Rattle.isa.specs.declared.RawOperation.the-variants.{IllegalWord}
-use Rattle.isa.specs.declared.NoOperandOperation.the-variants.{SIMHALT}
 use Rattle.isa.specs.declared.Instruction.{Instruction}
-use Rattle.isa.specs.declared.Instruction.the-variants.{Raw, NoOperand}
+use Rattle.read_spec.specs.LeftOut.{Ordinary}
 
 -- the line that a target names; an operand's target may be its number instead
 pub data Mark : Type 0 where
@@ -49,7 +47,7 @@ unaimed m ks es = map (λ w. w .1) (fieldsBy m ks es)
 
 -- all but IllegalWord and SIMHALT
 abbrev pub HasLine : Instruction → Type 0
-HasLine i = ((w : ℕ) → i ≡ Raw IllegalWord w → ⊥) × (i ≡ NoOperand SIMHALT → ⊥)
+HasLine i = Ordinary i
 
 -- a line for an instruction: its entries, with 0 for each target that a line's name stands for
 pub record Told (m : ℕ → Mark) (i : Instruction) : Type 0 where

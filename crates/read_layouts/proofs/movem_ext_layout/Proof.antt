@@ -6,14 +6,12 @@ returns : tie.Need-returns
 returns c = rw (c .bare .ensures, c .before .if1 .taken)
 
 returns-2 : tie.Need-returns-2
-returns-2 c = rw (c .one .ensures, c .before .before .movem-modes .ensures, c .before .before .before .to-memory-at .ensures, c .before .before .before .before .less2 .ensures, c .before .before .before .before .before .size-at .ensures, c .before .before .before .before .before .before .less .ensures, c .before .if1 .left)
+returns-2 c = rw (c .one .ensures, c .before .before .modes-if .ensures, c .before .before .before .size-at .ensures, c .before .before .before .before .less .ensures, c .before .if1 .left)
 
 pub movem-ext-layout-spec : {M : Type 1} → statement M
 movem-ext-layout-spec =
     tie.close
     (tie.spec
-    (λ c κs. search needs)
-    (λ c κs. search needs)
     (λ c κs. search needs)
     (λ c κs. search needs)
     (λ c κs. search needs)

@@ -1,18 +1,24 @@
--- Equal words have equal plain forms, short branches of -1 included: 01's rule for several instructions with the same words never applies.
+-- T5, equal words have equal plain forms: 01's rule for several instructions with the same words never applies. A short branch of -1, which the
+-- reader leaves out, shares its word with nothing that reads.
 use Prim.Native.Nat.{ℕ, _+_, _*_, _/_, _%_, _^_, _<_}
 use mathlib.Core.Path.{_≡_, refl, ap, sym, _∙_}
-use mathlib.Core.Bool.{true}
+use mathlib.Core.Bool.{Bool, true, false}
 use mathlib.Core.List.{List, [], _∷_, append-nil}
 use native.Mathlib.Omega.{arith}
-use lib.Dec.{leb}
+use lib.Dec.{leb, eqb}
 use lib.ListN.{length}
-use lib.IntN.{ℤ, negsuc}
-use Rattle.isa.specs.declared.BranchSize.the-variants.{Short, Long}
+use lib.IntN.{ℤ, pos, negsuc}
+use Rattle.isa.specs.declared.BranchSize.{BranchSize}
+use Rattle.isa.specs.declared.BranchSize.the-variants.{Short, Word, Long}
 use Rattle.isa.specs.declared.BranchOperation.{BranchOperation}
 use Rattle.isa.specs.declared.BranchOperation.the-variants.{BRA, BSR}
 use Rattle.isa.specs.declared.Condition.{Condition}
 use Rattle.isa.specs.declared.Instruction.{Instruction}
-use Rattle.isa.specs.declared.Instruction.the-variants.{Branch, Bcc}
+use Rattle.isa.specs.declared.Instruction.the-variants.{IntoRegister, MOVEM, Transfer, Pair, Quick, MOVEQ, ImmediateInto, WordIntoData, SWAP, EXG, UnsizedIntoRegister, UnsizedOne, UnsizedPair, EXT, OneOperand, Bcc, Scc, DBcc, Branch, Link, UNLK, Shift, Vector, Status, ConditionCode, MOVEUSP, Raw, NoOperand, RTD, MOVEC, TRAPcc, MULL, Pack, CAS, CAS2, BF, DIVL}
+use Rattle.isa.specs.declared.RawOperation.{RawOperation}
+use Rattle.isa.specs.declared.RawOperation.the-variants.{LINEA, LINEF, IllegalWord}
+use Rattle.isa.specs.declared.NoOperandOperation.{NoOperandOperation}
+use Rattle.isa.specs.declared.NoOperandOperation.the-variants.{RTE, RESET, RTR, TRAPV, ILLEGAL, RTS, NOP, SIMHALT}
 use Rattle.encode_spec.specs.Item.{fine, noEncoding, unless, wordAddress}
 use Rattle.isa_spec.specs.Code.{conditionCode}
 use Rattle.encode_spec.specs.Ea.{distance}
@@ -27,9 +33,20 @@ use Rattle.read_spec.specs.Plain.{plain}
 use Rattle.read_spec.specs.Read.{readOf}
 use Rattle.read_operand_laws.specs.Facts.{reach-distance}
 use Rattle.encode_facts.specs.Items.{address-lt, fine-both, unless-reason}
-use Rattle.base_facts.specs.Tests.{leb-is}
-use Rattle.read_spec.specs.Accepted.{InstructionInTypes, Accepted, MinusOne, always, where-true, Accepts, minus-one, not-left-out}
-use Rattle.read_laws.specs.ReaderLaws.{complete, one, short-exactly}
+use Rattle.base_facts.specs.Tests.{leb-is, eqb-eq, never}
+use Rattle.read_spec.specs.LeftOut.{Ordinary, isMinusOne}
+use Rattle.read_spec.specs.Accepted.{InstructionInTypes, Accepted}
+use Rattle.read_laws.specs.ReaderLaws.{complete, read-one, short-exactly}
+
+-- a short branch of -1, at a
+data MinusOne (a : ℕ) : Instruction → Type 0 where
+  always : (op : BranchOperation) (t : ℕ) → distance t (wordAddress a 1) ≡ negsuc 0 → MinusOne a (Branch op t Short)
+  where-true : (t : ℕ) (c : Condition) → distance t (wordAddress a 1) ≡ negsuc 0 → MinusOne a (Bcc t c Short)
+
+-- what is accepted reads, or is such a branch
+data Accepts (a : ℕ) (i : Instruction) : Type 0 where
+  not-left-out : Accepted a i → Accepts a i
+  minus-one : MinusOne a i → Accepts a i
 
 -- its word, by the condition's code
 abbrev wordFor : ℕ → ℕ
@@ -115,8 +132,84 @@ both a i j s t e f (where-true x c h) (where-true y d g) w =
     let q : c ≡ d = sym (of-code c) ∙ ap conditionOf k ∙ of-code d in
     ap (λ (n : ℕ). Bcc n c Short) (same-target a x y s t h g) ∙ ap (λ (x : Condition). Bcc y x Short) q
 
-pub one-of-all : (a : ℕ) (i j : Instruction) → Accepts a i → Accepts a j → wordsOf i a ≡ wordsOf j a → plain i ≡ plain j
-one-of-all a i j (not-left-out h) (not-left-out g) w = one a i j h g w
-one-of-all a i j (not-left-out h) (minus-one t e m) w = apart a j i e m h (sym w)
-one-of-all a i j (minus-one t e m) (not-left-out g) w = apart a i j e m g w
-one-of-all a i j (minus-one s e m) (minus-one t f n) w = ap plain (both a i j s t e f m n w)
+-- ---- which of the two an accepted instruction is
+is-minus-one : (z : ℤ) → isMinusOne z ≡ true → z ≡ negsuc 0
+is-minus-one (pos n) e = never e
+is-minus-one (negsuc n) e = ap negsuc (eqb-eq n 0 e)
+
+branch-is : (a u : ℕ) (op : BranchOperation) (s : BranchSize) → u < 2 ^ 32 → refusalOf true (Branch op u s) a ≡ fine → Accepts a (Branch op u s)
+branch-is a u op Word t e = not-left-out (t, e, refl)
+branch-is a u op Long t e = not-left-out (t, e, refl)
+branch-is a u op Short t e = go (isMinusOne (distance u (wordAddress a 1))) refl
+  where
+    go : (b : Bool) → isMinusOne (distance u (wordAddress a 1)) ≡ b → Accepts a (Branch op u Short)
+    go true m = minus-one (always op u (is-minus-one (distance u (wordAddress a 1)) m))
+    go false m = not-left-out (t, e, m)
+
+bcc-is : (a u : ℕ) (c : Condition) (s : BranchSize) → u < 2 ^ 32 → refusalOf true (Bcc u c s) a ≡ fine → Accepts a (Bcc u c s)
+bcc-is a u c Word t e = not-left-out (t, e, refl)
+bcc-is a u c Long t e = not-left-out (t, e, refl)
+bcc-is a u c Short t e = go (isMinusOne (distance u (wordAddress a 1))) refl
+  where
+    go : (b : Bool) → isMinusOne (distance u (wordAddress a 1)) ≡ b → Accepts a (Bcc u c Short)
+    go true m = minus-one (where-true u c (is-minus-one (distance u (wordAddress a 1)) m))
+    go false m = not-left-out (t, e, m)
+
+accepts : (a : ℕ) (i : Instruction) → InstructionInTypes i → refusalOf true i a ≡ fine → Ordinary i → Accepts a i
+accepts a (IntoRegister op o r s) t e k = not-left-out (t, e, refl)
+accepts a (MOVEM d s mask o) t e k = not-left-out (t, e, refl)
+accepts a (Transfer op d s r o) t e k = not-left-out (t, e, refl)
+accepts a (Pair op o d s) t e k = not-left-out (t, e, refl)
+accepts a (Quick op n o s) t e k = not-left-out (t, e, refl)
+accepts a (MOVEQ v r) t e k = not-left-out (t, e, refl)
+accepts a (ImmediateInto op v o s) t e k = not-left-out (t, e, refl)
+accepts a (WordIntoData op o r sign) t e k = not-left-out (t, e, refl)
+accepts a (SWAP r) t e k = not-left-out (t, e, refl)
+accepts a (EXG x y) t e k = not-left-out (t, e, refl)
+accepts a (UnsizedIntoRegister op o r) t e k = not-left-out (t, e, refl)
+accepts a (UnsizedOne op o) t e k = not-left-out (t, e, refl)
+accepts a (UnsizedPair op o d) t e k = not-left-out (t, e, refl)
+accepts a (EXT r from to) t e k = not-left-out (t, e, refl)
+accepts a (OneOperand op o s) t e k = not-left-out (t, e, refl)
+accepts a (Bcc u c s) t e o = bcc-is a u c s t e
+accepts a (Scc o c) t e k = not-left-out (t, e, refl)
+accepts a (DBcc r u c) t e k = not-left-out (t, e, refl)
+accepts a (Branch op u s) t e o = branch-is a u op s t e
+accepts a (Link op r d) t e k = not-left-out (t, e, refl)
+accepts a (UNLK r) t e k = not-left-out (t, e, refl)
+accepts a (Shift op count o d s) t e k = not-left-out (t, e, refl)
+accepts a (Vector op v) t e k = not-left-out (t, e, refl)
+accepts a (Status op v) t e k = not-left-out (t, e, refl)
+accepts a (ConditionCode op v) t e k = not-left-out (t, e, refl)
+accepts a (MOVEUSP to r) t e k = not-left-out (t, e, refl)
+accepts a (Raw LINEA w) t e o = not-left-out (t, e, refl)
+accepts a (Raw LINEF w) t e o = not-left-out (t, e, refl)
+accepts a (Raw IllegalWord w) t e o = absurd (o .0 w refl)
+accepts a (NoOperand RTE) t e o = not-left-out (t, e, refl)
+accepts a (NoOperand RESET) t e o = not-left-out (t, e, refl)
+accepts a (NoOperand RTR) t e o = not-left-out (t, e, refl)
+accepts a (NoOperand TRAPV) t e o = not-left-out (t, e, refl)
+accepts a (NoOperand ILLEGAL) t e o = not-left-out (t, e, refl)
+accepts a (NoOperand RTS) t e o = not-left-out (t, e, refl)
+accepts a (NoOperand NOP) t e o = not-left-out (t, e, refl)
+accepts a (NoOperand SIMHALT) t e o = absurd (o .1 refl)
+accepts a (RTD d) t e k = not-left-out (t, e, refl)
+accepts a (MOVEC to control r) t e k = not-left-out (t, e, refl)
+accepts a (TRAPcc c x) t e k = not-left-out (t, e, refl)
+accepts a (MULL o low high sign) t e k = not-left-out (t, e, refl)
+accepts a (Pack op o d adjustment) t e k = not-left-out (t, e, refl)
+accepts a (CAS compare update o s) t e k = not-left-out (t, e, refl)
+accepts a (CAS2 c d x y p q s) t e k = not-left-out (t, e, refl)
+accepts a (BF op o f r) t e k = not-left-out (t, e, refl)
+accepts a (DIVL o q r wide sign) t e k = not-left-out (t, e, refl)
+
+-- ---- one: typed, accepted instructions, IllegalWord and SIMHALT apart, with equal words at an address have equal plain forms
+pub one : (a : ℕ) (i j : Instruction) → InstructionInTypes i → InstructionInTypes j → refusalOf true i a ≡ fine → refusalOf true j a ≡ fine
+    → Ordinary i → Ordinary j → wordsOf i a ≡ wordsOf j a → plain i ≡ plain j
+one a i j s t e f p q w = go (accepts a i s e p) (accepts a j t f q)
+  where
+    go : Accepts a i → Accepts a j → plain i ≡ plain j
+    go (not-left-out h) (not-left-out g) = read-one a i j h g w
+    go (not-left-out h) (minus-one m) = apart a j i f m h (sym w)
+    go (minus-one m) (not-left-out g) = apart a i j e m g w
+    go (minus-one m) (minus-one n) = ap plain (both a i j s t e f m n w)
