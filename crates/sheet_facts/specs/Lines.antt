@@ -54,7 +54,7 @@ pub line-fits : (t : List ℕ) (vs : List Token) → lineOf t ≡ says vs → Su
 line-fits = by-line (λ ks fs vs. SuitAll ks vs) tt (λ k ks f fs v vs e h r. (token-suits k f v e h, r))
 
 -- ---- what the lines of a text say is in the grammar
-parsed-grammar : (t : List ℕ) → InGrammar (lineOf t)
+pub parsed-grammar : (t : List ℕ) → InGrammar (lineOf t)
 parsed-grammar t = go (lineOf t) refl
   where
     go : (p : Parsed) → lineOf t ≡ p → InGrammar p

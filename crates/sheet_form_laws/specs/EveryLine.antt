@@ -21,14 +21,15 @@ use Rattle.sheet_spec.specs.Spell.{SuitAll}
 use Rattle.sheet_spec.specs.Made.{namesAll, Line}
 use Rattle.sheet_size_facts.specs.Says.{entries, place-named}
 use Rattle.sheet_size_facts.specs.Fitting.{fields-numbers, Fitting}
-use Rattle.sheet_spec.specs.Told.{Mark, saying, unaimed, HasLine, Told}
+use Rattle.sheet_spec.specs.Told.{Mark, saying, unaimed, Told}
+use Rattle.read_spec.specs.LeftOut.{Ordinary}
 use Rattle.sheet_size_facts.specs.Sorts.{variant-fitting}
 use Rattle.sheet_size_facts.specs.Rows.{row}
 
-fitted : (i : Instruction) → HasLine i → (m : ℕ → Mark) → Fitting entries (kind.Instruction ∷ []) i m []
+fitted : (i : Instruction) → Ordinary i → (m : ℕ → Mark) → Fitting entries (kind.Instruction ∷ []) i m []
 fitted i l m =
     let r = row {d = λ k. true} i in
-    let law = r .law (subst HasLine (sym (r .is)) l) in
+    let law = r .law (subst Ordinary (sym (r .is)) l) in
     subst (λ (j : Instruction). Fitting entries (kind.Instruction ∷ []) j m []) (r .is)
     (variant-fitting (record { form = entries; kind = kind.Instruction; suits = λ v h. h; names = λ n. (λ h. h, λ k top. refl); top = 98; bare = λ x. x })
     (placeOf (r .con (r .z))) (λ h. ap (λ t. t .0) (law (r .z))) (r .sort) (r .con) (λ w. ap (λ t. (t .1, t .2)) (law w)) (r .z) m [])
@@ -39,7 +40,7 @@ names-some (literal s n ∷ vs) = names-some vs
 names-some (label n ∷ vs) = names-some vs
 names-some (invalid ∷ vs) = names-some vs
 
-pub every-line : (m : ℕ → Mark) (i : Instruction) → HasLine i → Inside (formOf i) → Told m i
+pub every-line : (m : ℕ → Mark) (i : Instruction) → Ordinary i → Inside (formOf i) → Told m i
 unfolding formOf numbersOf
 every-line m i l h =
     let f = fitted i l m in

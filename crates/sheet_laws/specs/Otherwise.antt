@@ -10,7 +10,7 @@ use borrow.Author.Tests.{eq-eqb, le-leb}
 use Rattle.isa.specs.declared.Measured.{Measured}
 use Rattle.isa.specs.declared.Encoded.{Encoded}
 use Rattle.sheet_spec.specs.Line.{Parsed, no}
-use Rattle.sheet_spec.specs.Sheet.{isSheet, startLine, startOf, sizedOf, sizesOf, Sheet, sheetAt, sheetIn, lineCount, wordCount, end, addresses, resolved, encoded}
+use Rattle.sheet_spec.specs.Sheet.{isSheet, startLine, startOf, sizedOf, sizesOf, Sheet, sheetAt, sheetIn, lineCount, wordCount, endOf, addresses, resolved, encoded}
 use Rattle.sheet_spec.specs.Translate.{Outcome, inOrder, andThen, require, inTurn, sizeOutcome, encodeOutcome, startOutcome, opening, sizing, closing, encoding, sheetOutcome, outcomeOf}
 use Rattle.sheet_spec.specs.Promises.{AcceptedSheet, AcceptedText}
 use Rattle.sheet_facts.specs.Listing.{as-in-order}
@@ -50,12 +50,15 @@ module _ (start : ℕ) (ps : List Parsed) (room : ℕ) (ok : AcceptedSheet (shee
       as-in-order n (e .number) (e .detail) (e .value)
       (ap (λ (x : Encoded). x .number) (encoded-is (resolved s) (addresses s) ps (places-length start ps) j r) ∙ ok .encoded (suc j) (omega arith) (omega arith)))
 
-  pub sheet-not-otherwise : sheetOutcome s room ≡ inOrder
-  sheet-not-otherwise =
+  all-fine : sheetOutcome s room ≡ inOrder
+  all-fine =
       and-fine (sizing ps) _ all-sized
       (and-fine (closing start (wordCount s) room) _
-      (and-fine (require (leb (end s) (2 ^ 32)) 9) _ (require-is _ 9 (le-leb (end s) (2 ^ 32) (ok .measured .ends))) (require-is _ 11 (le-leb (wordCount s) room (ok .image))))
+      (and-fine (require (leb (endOf (s .start) (wordCount s)) (2 ^ 32)) 9) _ (require-is _ 9 (le-leb (endOf (s .start) (wordCount s)) (2 ^ 32) (ok .measured .ends))) (require-is _ 11 (le-leb (wordCount s) room (ok .image))))
       all-encoded)
+
+pub sheet-not-otherwise : (start : ℕ) (ps : List Parsed) (room : ℕ) → AcceptedSheet (sheetAt start ps) room → sheetOutcome (sheetAt start ps) room ≡ inOrder
+sheet-not-otherwise start ps room ok = all-fine start ps room ok
 
 -- of a text
 pub not-otherwise : (text : List ℕ) (places room : ℕ) → AcceptedText text places room → outcomeOf text places room ≡ inOrder

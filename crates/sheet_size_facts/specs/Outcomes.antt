@@ -9,7 +9,7 @@ use borrow.Author.Tests.{eqb-true, leb-true}
 use Rattle.isa.specs.declared.Measured.{Measured}
 use Rattle.isa.specs.declared.Encoded.{Encoded}
 use Rattle.sheet_spec.specs.Line.{Parsed, no}
-use Rattle.sheet_spec.specs.Sheet.{isSheet, startLine, Start, at, notInForm, startOf, startNumber, sizedOf, sizesOf, halfOf, Sheet, sheetAt, sheetIn, lineCount, wordCount, end, lineAt, addressAt, addresses, resolved, encoded}
+use Rattle.sheet_spec.specs.Sheet.{isSheet, startLine, Start, at, notInForm, startOf, startNumber, sizedOf, sizesOf, halfOf, Sheet, sheetAt, sheetIn, lineCount, wordCount, endOf, lineAt, addressAt, addresses, resolved, encoded}
 use Rattle.sheet_spec.specs.Translate.{Outcome, inOrder, andThen, require, inTurn, sizeOutcome, encodeOutcome, startOutcome, opening, sizing, closing, encoding, sheetOutcome, outcomeOf}
 use Rattle.sheet_spec.specs.Promises.{MeasuredSheet, AcceptedSheet, AcceptedText}
 use Rattle.sheet_facts.specs.SheetLaws.{outline, count-feeds}
@@ -59,16 +59,19 @@ module _ (start : ℕ) (ps : List Parsed) where
   encoding-each : encoding s ≡ inOrder → (n : ℕ) → 1 ≤ n → n ≤ length ps → getD (encoded s) (pred n) noWords .number ≡ 0
   encoding-each e n h g = in-order-zero _ (getD (encoded s) (pred n) noWords .number) _ _ (each-in-order encodeOutcome 1 (encoded s) e noWords (pred n) (omega (arith, lines-length)))
 
-  pub accepted-sheet : (room : ℕ) → sheetOutcome s room ≡ inOrder → AcceptedSheet s room
-  accepted-sheet room e =
+  accepts : (room : ℕ) → sheetOutcome s room ≡ inOrder → AcceptedSheet s room
+  accepts room e =
       let a = both-in-order (sizing ps) _ e in
       let b = both-in-order (closing start (wordCount s) room) _ (a .1) in
-      let c = both-in-order (require (leb (end s) (2 ^ 32)) 9) _ (b .0) in
+      let c = both-in-order (require (leb (endOf (s .start) (wordCount s)) (2 ^ 32)) 9) _ (b .0) in
       record {
-        measured = record { sized = sizing-each (a .0); ends = leb-true (end s) (2 ^ 32) (require-true _ 9 (c .0)) };
+        measured = record { sized = sizing-each (a .0); ends = leb-true (endOf (s .start) (wordCount s)) (2 ^ 32) (require-true _ 9 (c .0)) };
         image = leb-true (wordCount s) room (require-true _ 11 (c .1));
         encoded = λ n h g. sym (ap (λ (x : Encoded). x .number) (encoded-is (resolved s) (addresses s) ps places-length (pred n) (omega arith))) ∙ encoding-each (b .1) n h g;
       }
+
+pub accepted-sheet : (start : ℕ) (ps : List Parsed) (room : ℕ) → sheetOutcome (sheetAt start ps) room ≡ inOrder → AcceptedSheet (sheetAt start ps) room
+accepted-sheet start ps room e = accepts start ps room e
 
 -- ---- a text
 pub accepted : (text : List ℕ) (places room : ℕ) → outcomeOf text places room ≡ inOrder → AcceptedText text places room

@@ -42,19 +42,19 @@ use Rattle.sheet_size_facts.specs.Says.{entries, place-named}
 use Rattle.sheet_size_facts.specs.Turned.{Input, Turned}
 use Rattle.sheet_size_facts.specs.Sorts.{chosen}
 use Rattle.sheet_size_facts.specs.Rows.{Row, row}
-use Rattle.sheet_spec.specs.Told.{HasLine}
+use Rattle.read_spec.specs.LeftOut.{Ordinary}
 use Rattle.m68k_encode.specs.Sizes as sizes
 use Rattle.m68k_encode.specs.Sizes.{bare-size, aim-size}
 use Rattle.sheet_size_facts.specs.Lawful.{branch-stays, quiet, Goes, quietly, aimed, Follows}
 
 -- what a line's first field says is an instruction's name
-named-listed : (i : Instruction) → 0 < length (getD (map bytes (namesOf kind.Instruction)) (placeOf i) []) → HasLine i
+named-listed : (i : Instruction) → 0 < length (getD (map bytes (namesOf kind.Instruction)) (placeOf i) []) → Ordinary i
 named-listed i h = (
   λ w e. let z : 0 < 0 = subst (λ (j : Instruction). 0 < length (getD (map bytes (namesOf kind.Instruction)) (placeOf j) [])) e h in absurd (omega arith),
   λ e. let z : 0 < 0 = subst (λ (j : Instruction). 0 < length (getD (map bytes (namesOf kind.Instruction)) (placeOf j) [])) e h in absurd (omega arith),
 )
 
-listed : {d : ℕ → Bool} (i : Instruction) (vs : List Token) → Input d (kind.Instruction ∷ []) vs (entries i ++ []) → HasLine i
+listed : {d : ℕ → Bool} (i : Instruction) (vs : List Token) → Input d (kind.Instruction ∷ []) vs (entries i ++ []) → Ordinary i
 listed i [] h = absurd (h .fits)
 listed i (v ∷ vs) h = named-listed i (place-named (λ k. some 0) v (placeOf i) (h .fits .0) (ap (λ (zs : List ℤ). getD zs 0 (pos 0)) (h .zeros)))
 
@@ -69,11 +69,11 @@ module _ {d : ℕ → Bool} {i : Instruction} (r : Row d i) where
 
   -- where their plain forms go, and that they are read
   abbrev Read : Type 0
-  Read = HasLine (r .con (r .z)) → (w : r .Z) → (nextOf (plain.plain (r .con w)) ≡ nextOf (r .con w)) × ((a : ℕ) → a % 2 ≡ 0 → follow.target (nextOf (r .con w)) % 2 ≡ 0 → leftOut (r .con w) a ≡ false)
+  Read = Ordinary (r .con (r .z)) → (w : r .Z) → (nextOf (plain.plain (r .con w)) ≡ nextOf (r .con w)) × ((a : ℕ) → a % 2 ≡ 0 → follow.target (nextOf (r .con w)) % 2 ≡ 0 → leftOut (r .con w) a ≡ false)
 
   -- where they go
   abbrev Going : Type 0
-  Going = HasLine (r .con (r .z)) → (y : (ℕ → ℕ) → r .Z) → r .sort .Aims y → Goes d (λ f. r .con (y f))
+  Going = Ordinary (r .con (r .z)) → (y : (ℕ → ℕ) → r .Z) → r .sort .Aims y → Goes d (λ f. r .con (y f))
 
   made : Read → Going → Kept → Made (r .con (r .z))
   made read goes kept vs h g =
@@ -95,7 +95,7 @@ module _ {d : ℕ → Bool} {i : Instruction} (r : Row d i) where
   made-row read goes kept = subst Made (r .is) (made read goes kept)
 
   -- without a target
-  still : (HasLine (r .con (r .z)) → (w : r .Z) → _≡_ {A = Next × (ℕ → Bool) × Bool} (nextOf (plain.plain (r .con w)), leftOut (r .con w), quiet (nextOf (r .con w))) (nextOf (r .con w), λ a. false, true)) → Kept → Made i
+  still : (Ordinary (r .con (r .z)) → (w : r .Z) → _≡_ {A = Next × (ℕ → Bool) × Bool} (nextOf (plain.plain (r .con w)), leftOut (r .con w), quiet (nextOf (r .con w))) (nextOf (r .con w), λ a. false, true)) → Kept → Made i
   still law = made-row (λ l w. (ap (λ t. t .0) (law l w), λ a e t. ap (λ t. t .1 a) (law l w))) (λ l y a. quietly (λ f. ap (λ t. t .2) (law l (y f))))
 
 pub instruction-turned : {d : ℕ → Bool} (i : Instruction) (vs : List Token) → Input d (kind.Instruction ∷ []) vs (entries i ++ []) → Inside (entries i) → Turned d Instruction entries (Follows d i) [] vs []

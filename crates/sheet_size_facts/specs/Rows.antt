@@ -49,7 +49,7 @@ use Rattle.numeric_spec.specs.Form.{placeOf}
 use Rattle.sheet_spec.specs.declared.Kind.{Kind}
 use Rattle.sheet_spec.specs.declared.Kind.the-variants as kind
 use Rattle.sheet_spec.specs.Grammar.{kindsOf}
-use Rattle.sheet_spec.specs.Told.{HasLine}
+use Rattle.read_spec.specs.LeftOut.{Ordinary}
 use Rattle.m68k_encode.specs.Sizes.{bare}
 use Rattle.sheet_size_facts.specs.Says.{entries}
 use Rattle.sheet_size_facts.specs.Sorts.{Sort, none, _⊗_, number, integer, target, place, isNamed, Enum, variant, enum, choice}
@@ -135,7 +135,7 @@ operand =
 -- where it has a name, the grammar of its fields and its form are those of a sort
 abbrev pub Law : {d : ℕ → Bool} {Z : Type 0} → Sort d Z → (Z → Instruction) → Z → Type 0
 Law {d} {Z} s con z =
-    HasLine (con z) → (w : Z)
+    Ordinary (con z) → (w : Z)
     → _≡_ {A = Bool × List Kind × List Entry} (isNamed kind.Instruction (placeOf (con z)), kindsOf kind.Instruction (placeOf (con z)), entries (con w)) (true, s .kinds, unsigned 98 (placeOf (con z)) ∷ s .form w)
 
 -- the sort of its fields, what makes it of their values, and these

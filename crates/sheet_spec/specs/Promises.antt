@@ -12,7 +12,7 @@ use Rattle.sheet_spec.specs.declared.Kind.the-variants as kind
 use Rattle.sheet_spec.specs.Line.{Parsed, says, no}
 use Rattle.sheet_spec.specs.Spell.{SuitAll, spell}
 use Rattle.sheet_spec.specs.Made.{made}
-use Rattle.sheet_spec.specs.Sheet.{isSheet, startLine, instructionLines, at, startOf, sizedOf, Sheet, sheetIn, lineCount, wordCount, end, lineAt, countAt, addressAt, resolved, encodedAs, wordsIn, image}
+use Rattle.sheet_spec.specs.Sheet.{isSheet, startLine, instructionLines, at, startOf, sizedOf, Sheet, sheetIn, lineCount, wordCount, endOf, lineAt, countAt, addressAt, resolved, encodedAs, wordsIn, image}
 use Rattle.sheet_spec.specs.Translate.{Outcome, inOrder, outcomeOf, listedOf, imageOf, scratchOf}
 use Rattle.sheet_spec.specs.Follow.{Reads, Together, byLines, byWords}
 
@@ -28,7 +28,7 @@ InGrammar no = Unit {0}
 -- each line is measured, and the end is at most 2^32
 pub record MeasuredSheet (s : Sheet) : Type 0 where
   pub sized : (n : ℕ) → 1 ≤ n → n ≤ lineCount s → sizedOf (lineCount s) (lineAt s n) .number ≡ 0
-  pub ends : end s ≤ 2 ^ 32
+  pub ends : endOf (s .start) (wordCount s) ≤ 2 ^ 32
 
 -- every place of 01's table is in order: of a start and lines, and of a text
 pub record AcceptedSheet (s : Sheet) (room : ℕ) : Type 0 where

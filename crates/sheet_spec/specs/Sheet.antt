@@ -107,9 +107,6 @@ wordCount s = total (s .counts)
 abbrev pub endOf : ℕ → ℕ → ℕ
 endOf start words = start + 2 * words
 
-abbrev pub end : Sheet → ℕ
-end s = endOf (s .start) (wordCount s)
-
 -- the lines' addresses: the start plus twice the words of all lines before
 abbrev pub addressesFrom : ℕ → List ℕ → List ℕ
 addressesFrom a [] = []

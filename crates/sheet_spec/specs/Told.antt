@@ -13,7 +13,6 @@ use mathlib.Core.List.{List, [], _∷_, _++_, map}
 use mathlib.Core.Path.{_≡_}
 use mathlib.Core.Option.{some}
 use Rattle.isa.specs.declared.Instruction.{Instruction}
-use Rattle.read_spec.specs.LeftOut.{Ordinary}
 
 -- the line that a target names; an operand's target may be its number instead
 pub data Mark : Type 0 where
@@ -44,10 +43,6 @@ saying m ks es = map (λ w. w .0) (fieldsBy m ks es)
 
 abbrev pub unaimed : (ℕ → Mark) → List Kind → List Entry → List Entry
 unaimed m ks es = map (λ w. w .1) (fieldsBy m ks es)
-
--- all but IllegalWord and SIMHALT
-abbrev pub HasLine : Instruction → Type 0
-HasLine i = Ordinary i
 
 -- a line for an instruction: its entries, with 0 for each target that a line's name stands for
 pub record Told (m : ℕ → Mark) (i : Instruction) : Type 0 where

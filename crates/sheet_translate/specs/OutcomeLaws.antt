@@ -9,7 +9,7 @@ use lib.IntN.{ℤ}
 use borrow.Author.Tests.{eqb-false}
 use Rattle.isa.specs.declared.Measured.{Measured}
 use Rattle.isa.specs.declared.Encoded.{Encoded}
-use Rattle.sheet_spec.specs.Sheet.{isSheet, startLine, Start, at, notInForm, startOf, sizesOf, sheetIn, lineCount, wordCount, end, encoded}
+use Rattle.sheet_spec.specs.Sheet.{isSheet, startLine, Start, at, notInForm, startOf, sizesOf, sheetIn, lineCount, wordCount, endOf, encoded}
 use Rattle.sheet_spec.specs.Translate.{Outcome, inOrder, refused, andThen, require, inTurn, sizeOutcome, encodeOutcome, asOutcome, startOutcome, opening, sizing, closing, outcomeOf}
 
 abbrev pub Sound : Outcome → Type 0
@@ -55,5 +55,5 @@ outcome-sound text places room =
     (unless-sound (leb (lineCount s) places) 11 (λ e. omega arith))))
     (or-sound (sizing (s .lines)) _ (sizes-sound 1 (sizesOf (s .lines)))
     (or-sound (closing (s .start) (wordCount s) room) _
-    (or-sound (require (leb (end s) (2 ^ 32)) 9) _ (unless-sound (leb (end s) (2 ^ 32)) 9 (λ e. omega arith)) (unless-sound (leb (wordCount s) room) 11 (λ e. omega arith)))
+    (or-sound (require (leb (endOf (s .start) (wordCount s)) (2 ^ 32)) 9) _ (unless-sound (leb (endOf (s .start) (wordCount s)) (2 ^ 32)) 9 (λ e. omega arith)) (unless-sound (leb (wordCount s) room) 11 (λ e. omega arith)))
     (encoded-sound 1 (encoded s))))
