@@ -6,8 +6,7 @@ use lib.Dec.{ltb, eqb}
 use lib.ListN.{set, length}
 use lib.IntN.{ℤ, pos}
 use Rattle.encode_state.specs.declared.Encoder.{Encoder}
-use Rattle.isa_spec.specs.Field.{fieldNumber}
-use Rattle.encode_spec.specs.Item.{Item, Part, Verdict, fine, malformed, outOfRange, noEncoding, word, check, range, ranged}
+use Rattle.encode_spec.specs.Item.{Item, Part, Verdict, refusal, isFine, word, check, range, ranged}
 use Rattle.encode_spec.specs.Encode.{padded}
 
 -- e with one word more, where it is not refused and has room
@@ -27,10 +26,7 @@ refused e number detail value =
     e
 
 abbrev pub marked : Verdict → Encoder → Encoder
-marked fine e = e
-marked malformed e = refused e 1 0 (pos 0)
-marked (outOfRange f z) e = refused e 2 (fieldNumber f) z
-marked (noEncoding r) e = refused e 3 r (pos 0)
+marked v e = cond (isFine v) e (refused e (refusal v .number) (refusal v .detail) (refusal v .value))
 
 abbrev pub step : Encoder → Item → Encoder
 step e (word w) = pushed e w

@@ -7,7 +7,7 @@ use lib.IntN.{ℤ}
 use lib.ListN.{length, take, drop, getD, replicate, length-append, length-replicate}
 use native.Mathlib.Omega.{arith}
 use lib.Seq.{take-at}
-use borrow.Author.Tests.{le-leb, lt-leb}
+use borrow.Author.Tests.{lt-ltb, le-ltb, le-leb, lt-leb}
 use Rattle.isa.specs.declared.Field.{Field}
 use Rattle.isa.specs.declared.Instruction.{Instruction}
 use Rattle.isa.specs.declared.Encoded.{Encoded}
@@ -163,7 +163,7 @@ refused-as (outOfRange f z) ws l h = record { answer = refl; lent = refl }
 refused-as (noEncoding r) ws l h = record { answer = refl; lent = refl }
 
 short-as : (v : Verdict) (ws l : List ℕ) → encodedAs v ws .number ≡ 0 → length l < 2 * (encodedAs v ws .count) → Bytes v ws l short l
-short-as fine ws l h m = record { answer = rw (lt-leb (2 * length ws) (length l) m); lent = rw (bytes-length ws, lt-leb (2 * length ws) (length l) m) }
+short-as fine ws l h m = record { answer = rw (lt-ltb (length l) (2 * length ws) m); lent = rw (bytes-length ws, lt-leb (2 * length ws) (length l) m) }
 short-as malformed ws l h m = absurd (omega arith)
 short-as (outOfRange f z) ws l h m = absurd (omega arith)
 short-as (noEncoding r) ws l h m = absurd (omega arith)
@@ -171,7 +171,7 @@ short-as (noEncoding r) ws l h m = absurd (omega arith)
 done-as : (v : Verdict) (ws l : List ℕ) → encodedAs v ws .number ≡ 0 → 2 * (encodedAs v ws .count) ≤ length l
     → Bytes v ws l (measured (encodedAs v ws)) (bytesIn (take (encodedAs v ws .count) (encodedAs v ws .words)) ++ drop (2 * (encodedAs v ws .count)) l)
 done-as fine ws l h m =
-    record { answer = rw (le-leb (2 * length ws) (length l) m); lent = rw (taken ws, bytes-length ws, le-leb (2 * length ws) (length l) m) }
+    record { answer = rw (le-ltb (length l) (2 * length ws) m); lent = rw (taken ws, bytes-length ws, le-leb (2 * length ws) (length l) m) }
 done-as malformed ws l h m = absurd (omega arith)
 done-as (outOfRange f z) ws l h m = absurd (omega arith)
 done-as (noEncoding r) ws l h m = absurd (omega arith)

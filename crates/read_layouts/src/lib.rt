@@ -4,7 +4,9 @@ ghost use mathlib.Core.Bool.{cond};
 ghost use mathlib.Core.Path.{_≡_};
 ghost use Prim.Native.Nat.{_<_};
 ghost use Rattle.isa.specs.declared.Size.the-variants.{Long, Word};
-ghost use Rattle.encode_spec.specs.Bits.{staticModes};
+ghost use Rattle.isa_spec.specs.Mode.{bits};
+ghost use Rattle.encode_spec.specs.Ea.{dataAlterable, dataNotImmediate};
+ghost use lib.Dec.{eqb};
 ghost use Rattle.read_spec.specs.Layout.{two, one, alone, bare, noLayout};
 ghost use Rattle.read_spec.specs.Layouts.{readableModes, immediateSpecifier, immediateLayout, dynamicBitMovepLayout, casLayout, moveaLayout, moveLayout, oneLayout, unsizedModes, unsizedSize, unsizedLayout, unsizedOneIllegalLayout, nbcdLinkLayout, peaSwapBkptLayout, movemExtLayout, systemSpecifier, systemLayout, leaExtbLayout, quickLayout, trapSpecifier, conditionalLayout, branchLayout, intoDataLayout, fromDataLayout, logicExchangeLayout, logicCompareLayout, bitFieldLayout, layoutOf};
 use isa::BitFieldOperation;
@@ -128,7 +130,7 @@ fn immediate_specifier(size: Size) -> Specifier
 
 // The modes of BTST, BCHG, BCLR and BSET with a number; BTST only reads its operand.
 fn static_modes(kind: u8) -> u16
-    ensures { λ r. ⌜ r ≡ staticModes kind ⌝ }
+    ensures { λ r. ⌜ r ≡ cond (eqb kind 0) (bits dataNotImmediate) (bits dataAlterable) ⌝ }
 {
     modes_if(kind == 0, DATA_NOT_IMMEDIATE, DATA_ALTERABLE)
 }

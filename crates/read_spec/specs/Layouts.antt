@@ -9,9 +9,10 @@ use Rattle.isa.specs.declared.BitFieldOperation.{BitFieldOperation}
 use Rattle.isa.specs.declared.UnsizedOneOperation.{UnsizedOneOperation}
 use Rattle.isa.specs.declared.UnsizedOneOperation.the-variants.{PEA, NBCD, JSR, JMP, TAS, MOVEtoCCR, MOVEfromCCR, MOVEtoSR, MOVEfromSR}
 use Rattle.isa_spec.specs.Code.{isByte}
-use Rattle.encode_spec.specs.Ea.{everyMode, dataModes, alterable, dataAlterable, memoryAlterable, control, dataNotImmediate, bitFieldRead, bitFieldWritten}
+use Rattle.isa_spec.specs.Mode.{everyColumn, dataColumn, alterableColumn, controlColumn, bits}
+use Rattle.encode_spec.specs.Ea.{dataAlterable, memoryAlterable, dataNotImmediate, bitFieldRead, bitFieldWritten}
 use Rattle.encode_spec.specs.Movement.{movemModes}
-use Rattle.encode_spec.specs.Bits.{dynamicModes, staticModes, writes}
+use Rattle.encode_spec.specs.Bits.{writes}
 use Rattle.read_spec.specs.declared.Specifier.{Specifier}
 use Rattle.read_spec.specs.declared.Specifier.the-variants as specifier
 use Rattle.read_spec.specs.declared.Layout.{Layout}
@@ -22,7 +23,7 @@ use Rattle.read_spec.specs.Operation.{sizeAt, moveSize, toStatus, toMemo
 
 -- any mode, but not a byte of an address register
 abbrev pub readableModes : Size → ℕ
-readableModes s = cond (isByte s) dataModes everyMode
+readableModes s = cond (isByte s) (bits dataColumn) (bits everyColumn)
 
 -- an immediate before the destination
 abbrev pub immediateSpecifier : Size → Specifier
@@ -34,38 +35,38 @@ immediateSpecifier Long = specifier.Long
 abbrev pub immediateLayout : ℕ → ℕ → ℕ → Layout
 immediateLayout x opmode ea =
     cond (toStatus x opmode ea) (alone (immediateSpecifier (sizeAt opmode)))
-    (one (immediateSpecifier (sizeAt opmode)) (sizeAt opmode) ea (cond (eqb x 6) dataNotImmediate dataAlterable))
+    (one (immediateSpecifier (sizeAt opmode)) (sizeAt opmode) ea (cond (eqb x 6) (bits dataNotImmediate) (bits dataAlterable)))
 
 -- BTST BCHG BCLR BSET with a data register, and MOVEP, which reaches memory through d16(An) only
 abbrev pub dynamicBitMovepLayout : ℕ → ℕ → Layout
 dynamicBitMovepLayout opmode ea =
-    cond (eqb (ea / 8) 1) (one specifier.Nothing Word (40 + ea % 8) 32) (one specifier.Nothing Byte ea (dynamicModes (opmode - 4)))
+    cond (eqb (ea / 8) 1) (one specifier.Nothing Word (40 + ea % 8) 32) (one specifier.Nothing Byte ea (cond (eqb (opmode - 4) 0) (bits dataColumn) (bits dataAlterable)))
 
 -- CAS and CAS2
 abbrev pub casLayout : ℕ → ℕ → Layout
-casLayout x ea = cond (eqb ea 60 && leb 6 x) (alone specifier.CompareTwo) (one specifier.Compare (sizeAt (x - 5)) ea memoryAlterable)
+casLayout x ea = cond (eqb ea 60 && leb 6 x) (alone specifier.CompareTwo) (one specifier.Compare (sizeAt (x - 5)) ea (bits memoryAlterable))
 
 -- MOVEA has no byte
 abbrev pub moveaLayout : Size → ℕ → Layout
-moveaLayout s ea = cond (isByte s) noLayout (one specifier.Nothing s ea everyMode)
+moveaLayout s ea = cond (isByte s) noLayout (one specifier.Nothing s ea (bits everyColumn))
 
 -- MOVE: the destination's register before its mode
 abbrev pub moveLayout : Size → ℕ → ℕ → ℕ → Layout
-moveLayout s x opmode ea = cond (eqb opmode 1) (moveaLayout s ea) (two specifier.Nothing s ea (readableModes s) (opmode * 8 + x) dataAlterable)
+moveLayout s x opmode ea = cond (eqb opmode 1) (moveaLayout s ea) (two specifier.Nothing s ea (readableModes s) (opmode * 8 + x) (bits dataAlterable))
 
 abbrev pub oneLayout : Size → ℕ → ℕ → Layout
-oneLayout s x ea = one specifier.Nothing s ea (cond (eqb x 5) (readableModes s) dataAlterable)
+oneLayout s x ea = one specifier.Nothing s ea (cond (eqb x 5) (readableModes s) (bits dataAlterable))
 
 abbrev pub unsizedModes : UnsizedOneOperation → ℕ
-unsizedModes PEA = control
-unsizedModes NBCD = dataAlterable
-unsizedModes JSR = control
-unsizedModes JMP = control
-unsizedModes TAS = dataAlterable
-unsizedModes MOVEtoCCR = dataModes
-unsizedModes MOVEfromCCR = dataAlterable
-unsizedModes MOVEtoSR = dataModes
-unsizedModes MOVEfromSR = dataAlterable
+unsizedModes PEA = bits controlColumn
+unsizedModes NBCD = bits dataAlterable
+unsizedModes JSR = bits controlColumn
+unsizedModes JMP = bits controlColumn
+unsizedModes TAS = bits dataAlterable
+unsizedModes MOVEtoCCR = bits dataColumn
+unsizedModes MOVEfromCCR = bits dataAlterable
+unsizedModes MOVEtoSR = bits dataColumn
+unsizedModes MOVEfromSR = bits dataAlterable
 
 abbrev pub unsizedSize : UnsizedOneOperation → Size
 unsizedSize PEA = Long
@@ -96,7 +97,7 @@ peaSwapBkptLayout ea = cond (ltb ea 16) bare (unsizedLayout PEA ea)
 -- MOVEM, and EXT
 abbrev pub movemExtLayout : ℕ → ℕ → ℕ → Layout
 movemExtLayout x opmode ea =
-    cond (eqb x 4 && ltb ea 8) bare (one specifier.Word (sizeAt (opmode - 1)) ea (movemModes (toMemoryAt (5 - x))))
+    cond (eqb x 4 && ltb ea 8) bare (one specifier.Word (sizeAt (opmode - 1)) ea (bits (movemModes (toMemoryAt (5 - x)))))
 
 -- TRAP LINK UNLK MOVE USP RESET NOP STOP RTE RTD RTS TRAPV RTR MOVEC
 abbrev pub systemSpecifier : ℕ → Specifier
@@ -107,10 +108,10 @@ systemLayout ea = cond (ltb ea 56 || eqb (ea / 2) 29) (alone (systemSpecifier ea
 
 -- LEA, and EXTB.L
 abbrev pub leaExtbLayout : ℕ → ℕ → Layout
-leaExtbLayout x ea = cond (eqb x 4 && ltb ea 8) bare (one specifier.Nothing Long ea control)
+leaExtbLayout x ea = cond (eqb x 4 && ltb ea 8) bare (one specifier.Nothing Long ea (bits controlColumn))
 
 abbrev pub quickLayout : Size → ℕ → Layout
-quickLayout s ea = one specifier.Nothing s ea (cond (isByte s) dataAlterable alterable)
+quickLayout s ea = one specifier.Nothing s ea (cond (isByte s) (bits dataAlterable) (bits alterableColumn))
 
 -- Scc, DBcc and TRAPcc
 abbrev pub trapSpecifier : ℕ → Specifier
@@ -119,7 +120,7 @@ trapSpecifier ea = cond (eqb ea 58) specifier.Word (cond (eqb ea 59) specifier.L
 abbrev pub conditionalLayout : ℕ → Layout
 conditionalLayout ea =
     cond (eqb (ea / 8) 1) (alone specifier.Word)
-    (cond (leb 58 ea && leb ea 60) (alone (trapSpecifier ea)) (one specifier.Nothing Byte ea dataAlterable))
+    (cond (leb 58 ea && leb ea 60) (alone (trapSpecifier ea)) (one specifier.Nothing Byte ea (bits dataAlterable)))
 
 -- the displacement's byte: $00 before a word, $FF before a long
 abbrev pub branchLayout : ℕ → Layout
@@ -127,35 +128,35 @@ branchLayout byte = cond (eqb byte 0) (alone specifier.Word) (cond (eqb byte 255
 
 -- <ea>,Dn of OR, AND, SUB, CMP and ADD
 abbrev pub intoDataLayout : ℕ → Size → ℕ → Layout
-intoDataLayout line s ea = one specifier.Nothing s ea (cond (eqb line 8 || eqb line 12) dataModes (readableModes s))
+intoDataLayout line s ea = one specifier.Nothing s ea (cond (eqb line 8 || eqb line 12) (bits dataColumn) (readableModes s))
 
 -- Dn,<ea> of OR, AND, SUB and ADD; below 16 stand the forms Dy,Dx and -(Ay),-(Ax) of others
 abbrev pub fromDataLayout : Specifier → Size → ℕ → Layout
-fromDataLayout k s ea = cond (ltb ea 16) (alone k) (one specifier.Nothing s ea memoryAlterable)
+fromDataLayout k s ea = cond (ltb ea 16) (alone k) (one specifier.Nothing s ea (bits memoryAlterable))
 
 -- EXG of two data registers, two address registers, or a data and an address register
 abbrev pub isExchange : ℕ → ℕ → Bool
 isExchange opmode ea = ltb ea 16 && (eqb opmode 5 || leb 8 ea)
 
 abbrev pub logicExchangeLayout : ℕ → ℕ → Layout
-logicExchangeLayout opmode ea = cond (isExchange opmode ea) bare (one specifier.Nothing (sizeAt (opmode - 4)) ea memoryAlterable)
+logicExchangeLayout opmode ea = cond (isExchange opmode ea) bare (one specifier.Nothing (sizeAt (opmode - 4)) ea (bits memoryAlterable))
 
 -- CMPM takes two (An)+ only; EOR
 abbrev pub logicCompareLayout : ℕ → ℕ → ℕ → Layout
 logicCompareLayout x opmode ea =
     cond (eqb (ea / 8) 1) (two specifier.Nothing Byte (24 + ea % 8) 8 (24 + x) 8)
-    (one specifier.Nothing (sizeAt (opmode - 4)) ea dataAlterable)
+    (one specifier.Nothing (sizeAt (opmode - 4)) ea (bits dataAlterable))
 
 abbrev pub bitFieldLayout : BitFieldOperation → ℕ → Layout
-bitFieldLayout op ea = one specifier.BitField Byte ea (cond (writes op) bitFieldWritten bitFieldRead)
+bitFieldLayout op ea = one specifier.BitField Byte ea (cond (writes op) (bits bitFieldWritten) (bits bitFieldRead))
 
 abbrev pub layoutOf : Group → ℕ → ℕ → ℕ → ℕ → Layout
 layoutOf group.Unused line x opmode ea = noLayout
 layoutOf group.ImmediateInto line x opmode ea = immediateLayout x opmode ea
-layoutOf group.StaticBit line x opmode ea = one specifier.Byte Byte ea (staticModes opmode)
+layoutOf group.StaticBit line x opmode ea = one specifier.Byte Byte ea (cond (eqb opmode 0) (bits dataNotImmediate) (bits dataAlterable))
 layoutOf group.DynamicBitMovep line x opmode ea = dynamicBitMovepLayout opmode ea
-layoutOf group.MOVES line x opmode ea = one specifier.General (sizeAt opmode) ea memoryAlterable
-layoutOf group.Bounds line x opmode ea = one specifier.General (sizeAt x) ea control
+layoutOf group.MOVES line x opmode ea = one specifier.General (sizeAt opmode) ea (bits memoryAlterable)
+layoutOf group.Bounds line x opmode ea = one specifier.General (sizeAt x) ea (bits controlColumn)
 layoutOf group.CAS line x opmode ea = casLayout x ea
 layoutOf group.MOVE line x opmode ea = moveLayout (moveSize line) x opmode ea
 layoutOf group.OneOperand line x opmode ea = oneLayout (sizeAt opmode) x ea
@@ -163,11 +164,11 @@ layoutOf group.UnsizedOneIllegal line x opmode ea = unsizedOneIllegalLayout x op
 layoutOf group.NbcdLink line x opmode ea = nbcdLinkLayout ea
 layoutOf group.PeaSwapBkpt line x opmode ea = peaSwapBkptLayout ea
 layoutOf group.MovemExt line x opmode ea = movemExtLayout x opmode ea
-layoutOf group.MULL line x opmode ea = one specifier.Multiply Long ea dataModes
-layoutOf group.DIVL line x opmode ea = one specifier.Divide Long ea dataModes
+layoutOf group.MULL line x opmode ea = one specifier.Multiply Long ea (bits dataColumn)
+layoutOf group.DIVL line x opmode ea = one specifier.Divide Long ea (bits dataColumn)
 layoutOf group.System line x opmode ea = systemLayout ea
 layoutOf group.LeaExtb line x opmode ea = leaExtbLayout x ea
-layoutOf group.CHK line x opmode ea = one specifier.Nothing (cond (eqb opmode 4) Long Word) ea dataModes
+layoutOf group.CHK line x opmode ea = one specifier.Nothing (cond (eqb opmode 4) Long Word) ea (bits dataColumn)
 layoutOf group.Quick line x opmode ea = quickLayout (sizeAt (opmode % 4)) ea
 layoutOf group.Conditional line x opmode ea = conditionalLayout ea
 layoutOf group.Branch line x opmode ea = branchLayout (opmode % 4 * 64 + ea)
@@ -178,10 +179,10 @@ layoutOf group.LogicDecimal line x opmode ea = fromDataLayout specifier.Nothing 
 layoutOf group.LogicPack line x opmode ea = fromDataLayout specifier.Word (sizeAt (opmode - 4)) ea
 layoutOf group.LogicExchange line x opmode ea = logicExchangeLayout opmode ea
 layoutOf group.LogicCompare line x opmode ea = logicCompareLayout x opmode ea
-layoutOf group.WordIntoData line x opmode ea = one specifier.Nothing Word ea dataModes
-layoutOf group.IntoAddress line x opmode ea = one specifier.Nothing (cond (eqb opmode 7) Long Word) ea everyMode
+layoutOf group.WordIntoData line x opmode ea = one specifier.Nothing Word ea (bits dataColumn)
+layoutOf group.IntoAddress line x opmode ea = one specifier.Nothing (cond (eqb opmode 7) Long Word) ea (bits everyColumn)
 layoutOf group.ShiftRegister line x opmode ea = bare
-layoutOf group.ShiftMemory line x opmode ea = one specifier.Nothing Word ea memoryAlterable
+layoutOf group.ShiftMemory line x opmode ea = one specifier.Nothing Word ea (bits memoryAlterable)
 layoutOf group.BitField line x opmode ea = bitFieldLayout (bitFieldAt ((x - 4) * 2 + opmode / 4)) ea
 layoutOf group.LineA line x opmode ea = bare
 layoutOf group.LineF line x opmode ea = bare
