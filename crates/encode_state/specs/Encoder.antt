@@ -1,12 +1,12 @@
 -- The encoder's state, and what each item does to it. Once refused, nothing changes it.
 use Prim.Native.Nat.{ℕ, _+_, _*_, _%_, _^_}
-use mathlib.Core.Bool.{Bool, cond}
+use mathlib.Core.Bool.{Bool, true, false, cond}
 use mathlib.Core.List.{List, [], _∷_}
 use lib.Dec.{ltb, eqb}
 use lib.ListN.{set, length}
 use lib.IntN.{ℤ, pos}
 use Rattle.encode_state.specs.declared.Encoder.{Encoder}
-use Rattle.encode_spec.specs.Item.{Item, Part, Verdict, refusal, isFine, word, check, range, ranged}
+use Rattle.encode_spec.specs.Item.{Item, Part, Verdict, Refusal, refusal, isFine, word, check, range, ranged}
 use Rattle.encode_spec.specs.Encode.{padded}
 
 -- e with one word more, where it is not refused and has room
@@ -25,8 +25,12 @@ refused e number detail value =
     (record { address = e .address; check = e .check; words = e .words; count = e .count; number = number; detail = detail; value = value })
     e
 
+abbrev pub refusedUnless : Bool → Refusal → Encoder → Encoder
+refusedUnless true r e = e
+refusedUnless false r e = refused e (r .number) (r .detail) (r .value)
+
 abbrev pub marked : Verdict → Encoder → Encoder
-marked v e = cond (isFine v) e (refused e (refusal v .number) (refusal v .detail) (refusal v .value))
+marked v e = refusedUnless (isFine v) (refusal v) e
 
 abbrev pub step : Encoder → Item → Encoder
 step e (word w) = pushed e w

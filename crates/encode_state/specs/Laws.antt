@@ -12,7 +12,7 @@ use Rattle.encode_state.specs.declared.Encoder.{Encoder}
 use Rattle.isa.specs.declared.Encoded.{Encoded}
 use Rattle.encode_spec.specs.Item.{Item, Part, Verdict, fine, malformed, outOfRange, noEncoding, refusal, isFine, word, check, range, ranged, wordsIn, countOf, wordAddress, laid, orElse, failure}
 use Rattle.encode_spec.specs.Encode.{padded, encodedAs}
-use Rattle.encode_state.specs.Encoder.{pushed, refused, marked, step, run, nextAddress, runParts, holding}
+use Rattle.encode_state.specs.Encoder.{pushed, refused, refusedUnless, marked, step, run, nextAddress, runParts, holding}
 use Rattle.encode_facts.specs.Items.{words-count, count-append, address-address}
 
 -- ---- a refused state stays as it is
@@ -31,7 +31,7 @@ refuse-refused e n d z h = rw h
 by-fine : (Q : Encoder → Type 0) (v : Verdict) (e : Encoder) → Q e → ((n d : ℕ) (z : ℤ) → Q (refused e n d z)) → Q (marked v e)
 by-fine Q v e p q = go (isFine v)
   where
-    go : (t : Bool) → Q (cond t e (refused e (refusal v .number) (refusal v .detail) (refusal v .value)))
+    go : (t : Bool) → Q (refusedUnless t (refusal v) e)
     go true = p
     go false = q _ _ _
 

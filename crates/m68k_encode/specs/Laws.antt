@@ -48,12 +48,6 @@ encoded-fine malformed ws h = absurd (omega arith)
 encoded-fine (outOfRange f z) ws h = absurd (omega arith)
 encoded-fine (noEncoding r) ws h = absurd (omega arith)
 
-measured-fine : (v : Verdict) (n : ℕ) → measuredAs v n .number ≡ 0 → v ≡ fine
-measured-fine fine n h = refl
-measured-fine malformed n h = absurd (omega arith)
-measured-fine (outOfRange f z) n h = absurd (omega arith)
-measured-fine (noEncoding r) n h = absurd (omega arith)
-
 -- ---- where `encode` refuses and `size` does not, the number is 2 and the field does not hold the value
 
 outcome : {v : Verdict} (ws : List ℕ) → RangeOnly v → OnlyOutOfRange (encodedAs v ws)
@@ -64,7 +58,7 @@ pub range-law : (i : Instruction) (a : ℕ) → sizeOf i .number ≡ 0 → OnlyO
 unfolding sizeOf encodeOf
 range-law i a h =
     let s = alike-failure (itemsOf i a) (itemsOf i 0) (instruction-lays i .alike a 0) in
-    outcome (wordsOf i a) (range-only (itemsOf i a) (s ∙ measured-fine (refusalOf false i 0) _ h))
+    outcome (wordsOf i a) (range-only (itemsOf i a) (s ∙ encoded-fine (refusalOf false i 0) [] h))
 
 -- ---- where `encode` accepts, `size` is twice the count
 count-as : (v : Verdict) (ws : List ℕ) → v ≡ fine → encodedAs v ws .count ≡ length ws
