@@ -4,7 +4,6 @@ use mathlib.Core.Bool.{Bool, true, false, cond}
 use mathlib.Core.List.{List, [], _∷_}
 use mathlib.Core.Path.{_≡_, refl, sym}
 use lib.Dec.{eqb}
-use lib.IntN.{pos}
 use types.Run.{OneOf, miss}
 use denote.Enum.Declared.{tagOf}
 use Rattle.isa.proofs.Operand.{the-type}
@@ -14,11 +13,12 @@ use Rattle.isa.specs.declared.RegisterOperand.{RegisterOperand}
 use Rattle.isa.specs.declared.RegisterOperand.the-variants.{Address, Data}
 use Rattle.isa.specs.declared.Operand.{Operand}
 use Rattle.isa.specs.declared.Operand.the-variants.{Immediate, Register, Indirect, PostIndirect, PreIndirect, IndirectDisplacement, IndirectIndex, PcDisplacement, PcIndex, Extended, Absolute}
+use Rattle.isa_spec.specs.IndexBase.{isPc}
 use Rattle.encode_spec.specs.Ea.{modeOf, registerMode, absoluteMode}
 use Rattle.encode_spec.specs.Item.{noEncoding, register}
 use Rattle.encode_state.specs.declared.Encoder.{Encoder}
-use Rattle.encode_state.specs.Encoder.{refused, marked, run}
-use Rattle.encode_state.specs.Laws.{Refused, run-refused}
+use Rattle.encode_state.specs.Encoder.{marked, run}
+use Rattle.encode_state.specs.Laws.{refused-there, run-refused}
 
 -- the variants of Operand that a failed test for PostIndirect leaves
 abbrev pub others : List ℕ
@@ -46,16 +46,11 @@ other (IndirectDisplacement z b) k = refl
 other (IndirectIndex b z x) k = refl
 other (PcDisplacement t) k = refl
 other (PcIndex t x) k = refl
-other (Extended b w z o) k = not-extended (eqb b 8)
+other (Extended b w z o) k = not-extended (isPc b)
 other (Absolute a w) k = not-absolute w
 
 pub post : (o : Operand) (n : ℕ) → o ≡ PostIndirect n → eqb (modeOf o) 3 ≡ true
 post o n h = rw h
 
-refused-by : (t : Bool) (e : Encoder) → eqb (e .number) 0 ≡ t → Refused (refused e 3 41 (pos 0))
-unfolding refused
-refused-by true e h = rw h
-refused-by false e h = rw h h
-
 pub stays : (m n : ℕ) (e : Encoder) → marked (noEncoding 41) e ≡ run (register m ∷ register n ∷ []) (marked (noEncoding 41) e)
-stays m n e = sym (run-refused (register m ∷ register n ∷ []) (marked (noEncoding 41) e) (refused-by (eqb (e .number) 0) e refl))
+stays m n e = sym (run-refused (register m ∷ register n ∷ []) (marked (noEncoding 41) e) (refused-there 41 e))

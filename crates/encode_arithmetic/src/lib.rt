@@ -3,6 +3,7 @@ ghost use mathlib.Core.Path.{_≡_};
 ghost use Prim.Native.Nat.{_<_};
 ghost use Rattle.encode_spec.specs.Arithmetic.{immediateKind, immediateModes, immediateReason, immediateParts, quickBit, quickParts, intoDataParts, arithmeticParts, intoAddressParts, boundsParts, extendedParts, cmpmParts, signedBit, highNumber, highBits, mullParts, divlParts, tstParts, extOpmode, extParts, swapParts};
 ghost use Rattle.isa.specs.declared.Size.the-variants as width;
+ghost use Rattle.isa_spec.specs.Mode.{bits};
 ghost use Rattle.encode_state.specs.Encoder.{runParts};
 use encode_state::Encoder;
 use isa::Field;
@@ -30,7 +31,7 @@ pub fn immediate_kind(operation: ImmediateOperation) -> u16
 
 // The modes of its destination. CMPI only reads it, relative to the program counter too.
 pub fn immediate_modes(operation: ImmediateOperation) -> u16
-    ensures { λ r. ⌜ r ≡ immediateModes operation ⌝ }
+    ensures { λ r. ⌜ r ≡ bits (immediateModes operation) ⌝ }
 {
     match operation {
         ImmediateOperation::ADDI => isa_operands::DATA_ALTERABLE,
@@ -204,12 +205,11 @@ pub fn into_address(
 // CHK2 CMP2: the register's extension word, then the bounds.
 pub fn bounds(
     e: Encoder,
-    trap: u16,
+    trap: bool,
     bounds: Operand,
     register: RegisterOperand,
     size: Size,
 ) -> Encoder
-    requires { ⌜ trap < 2 ⌝ }
     ensures { λ r. ⌜ r ≡ runParts (boundsParts trap bounds register size) e ⌝ }
 {
     let e1 = encode_state::operation(
@@ -220,7 +220,8 @@ pub fn bounds(
         isa_operands::ea_field(bounds),
     );
     let e2 = encode_state::register(e1, encode_state::number_of_register(register));
-    let e3 = encode_state::word(e2, encode_state::general(register) * 4096 + trap * 2048);
+    let word = encode_state::general(register) * 4096 + encode_state::bit(trap) * 2048;
+    let e3 = encode_state::word(e2, word);
     encode_ea::effective(e3, bounds, size, isa_operands::CONTROL, 49)
 }
 

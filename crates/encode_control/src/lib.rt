@@ -16,16 +16,16 @@ use isa::Size;
 use isa::TrapOperand;
 
 // An operation word with a condition in bits 11 to 8.
-fn condition_operation(e: Encoder, line: u16, condition: u16, x: u16, ea: u16) -> Encoder
-    requires { ⌜ (line < 16) × (condition < 16) × (x < 4) × (ea < 64) ⌝ }
+fn condition_operation(e: Encoder, line: u16, condition: Condition, x: u16, ea: u16) -> Encoder
+    requires { ⌜ (line < 16) × (x < 4) × (ea < 64) ⌝ }
     ensures { λ r. ⌜ r ≡ step e (conditionOperation line condition x ea) ⌝ }
 {
-    encode_state::operation(e, line, condition / 2, 4 * (condition % 2) + x, ea)
+    let code = isa_values::condition::code(condition);
+    encode_state::operation(e, line, code / 2, 4 * (code % 2) + x, ea)
 }
 
 // The distance in the operation word's low byte.
-fn short_branch(e: Encoder, condition: u16, target: u32) -> Encoder
-    requires { ⌜ condition < 16 ⌝ }
+fn short_branch(e: Encoder, condition: Condition, target: u32) -> Encoder
     ensures { λ r. ⌜ r ≡ run (shortBranch condition target (nextAddress e)) e ⌝ }
 {
     let after = std::num::wrapping_add_u32(encode_state::next(e), 2);
@@ -36,8 +36,7 @@ fn short_branch(e: Encoder, condition: u16, target: u32) -> Encoder
 }
 
 // The byte $00, and the distance in a word.
-fn word_branch(e: Encoder, condition: u16, target: u32) -> Encoder
-    requires { ⌜ condition < 16 ⌝ }
+fn word_branch(e: Encoder, condition: Condition, target: u32) -> Encoder
     ensures { λ r. ⌜ r ≡ runParts (fixed (conditionOperation 6 condition 0 0 ∷ []) ∷ relativeWord field.WordBranch target ∷ []) e ⌝ }
 {
     let e1 = condition_operation(e, 6, condition, 0, 0);
@@ -45,17 +44,15 @@ fn word_branch(e: Encoder, condition: u16, target: u32) -> Encoder
 }
 
 // The byte $FF, and the distance in a long.
-fn long_branch(e: Encoder, condition: u16, target: u32) -> Encoder
-    requires { ⌜ condition < 16 ⌝ }
+fn long_branch(e: Encoder, condition: Condition, target: u32) -> Encoder
     ensures { λ r. ⌜ r ≡ runParts (fixed (conditionOperation 6 condition 3 63 ∷ []) ∷ relativeLong target ∷ []) e ⌝ }
 {
     let e1 = condition_operation(e, 6, condition, 3, 63);
     encode_state::long(e1, base_signed::minus(target, encode_state::next(e1)))
 }
 
-// BRA, BSR or a Bcc.
-pub fn branch(e: Encoder, condition: u16, target: u32, size: BranchSize) -> Encoder
-    requires { ⌜ condition < 16 ⌝ }
+// BRA on True, BSR on False, or a Bcc.
+pub fn branch(e: Encoder, condition: Condition, target: u32, size: BranchSize) -> Encoder
     ensures { λ r. ⌜ r ≡ runParts (branchParts condition target size) e ⌝ }
 {
     match size {
@@ -71,7 +68,7 @@ pub fn bcc(e: Encoder, target: u32, condition: Condition, size: BranchSize) -> E
 {
     let code = isa_values::condition::code(condition);
     let e1 = encode_state::allow(e, 2 <= code, 36);
-    branch(e1, code, target, size)
+    branch(e1, condition, target, size)
 }
 
 // DBcc.
@@ -81,7 +78,7 @@ pub fn dbcc(e: Encoder, register: RegisterOperand, target: u32, condition: Condi
     let e1 = condition_operation(
         e,
         5,
-        isa_values::condition::code(condition),
+        condition,
         3,
         8 + encode_state::register_bits(register),
     );
@@ -132,13 +129,7 @@ fn trap_words(e: Encoder, operand: TrapOperand) -> Encoder
 pub fn trapcc(e: Encoder, condition: Condition, operand: TrapOperand) -> Encoder
     ensures { λ r. ⌜ r ≡ runParts (trapccParts condition operand) e ⌝ }
 {
-    let e1 = condition_operation(
-        e,
-        5,
-        isa_values::condition::code(condition),
-        3,
-        56 + trap_opmode(operand),
-    );
+    let e1 = condition_operation(e, 5, condition, 3, 56 + trap_opmode(operand));
     trap_words(e1, operand)
 }
 

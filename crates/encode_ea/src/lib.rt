@@ -3,7 +3,7 @@ ghost use mathlib.Core.Path.{_≡_};
 ghost use Prim.Native.Nat.{_<_};
 ghost use Rattle.encode_spec.specs.Item.{check};
 ghost use Rattle.encode_spec.specs.Item as item;
-ghost use Rattle.isa_spec.specs.ExtensionWord.{isFull};
+ghost use Rattle.isa_facts.specs.Mode.{columnOf};
 ghost use Rattle.encode_spec.specs.Ea.{distance, wordItems, immediateWords, immediateItems, indexSizeVerdict, briefItems, displacementItems, baseDisplacement, fullItems, briefField, scaledItems, extendedItems, absoluteItems, eaItems};
 ghost use Rattle.encode_spec.specs.Ea as ea;
 ghost use Rattle.isa.specs.declared.Field.the-variants as field;
@@ -18,6 +18,7 @@ use isa::Operand;
 use isa::RegisterOperand;
 use isa::Size;
 use isa_values::extension_word::ExtensionWord;
+use isa_values::index_base::IndexBase;
 
 // The signed distance from the next word.
 pub fn distance(e: Encoder, target: u32) -> i64
@@ -130,7 +131,7 @@ pub fn full(e: Encoder, word: u16, z: i64, outer: i32) -> Encoder
 pub fn brief_field(base: u8) -> Field
     ensures { λ r. ⌜ r ≡ briefField base ⌝ }
 {
-    if base == 8 {
+    if IndexBase(base).is_pc() {
         Field::PcIndex
     } else {
         Field::IndexDisplacement
@@ -233,7 +234,7 @@ pub fn ea(e: Encoder, operand: Operand, size: Size) -> Encoder
 
 // An operand in one of the modes allowed.
 pub fn effective(e: Encoder, operand: Operand, size: Size, allowed: u16, reason: u8) -> Encoder
-    ensures { λ r. ⌜ r ≡ run (ea.effective operand size allowed reason (nextAddress e)) e ⌝ }
+    ensures { λ r. ⌜ r ≡ run (ea.effective operand size (columnOf allowed) reason (nextAddress e)) e ⌝ }
 {
     let e1 = encode_state::allow(e, isa_operands::permitted(allowed, operand), reason);
     ea(e1, operand, size)
@@ -258,7 +259,7 @@ pub fn single(
     reason: u8,
 ) -> Encoder
     requires { ⌜ (line < 16) × (x < 8) × (opmode < 8) ⌝ }
-    ensures { λ r. ⌜ r ≡ runParts (ea.single line x opmode operand size allowed reason) e ⌝ }
+    ensures { λ r. ⌜ r ≡ runParts (ea.single line x opmode operand size (columnOf allowed) reason) e ⌝ }
 {
     let e1 = encode_state::operation(e, line, x, opmode, isa_operands::ea_field(operand));
     effective(e1, operand, size, allowed, reason)
@@ -276,7 +277,7 @@ pub fn with_data(
     reason: u8,
 ) -> Encoder
     requires { ⌜ (line < 16) × (opmode < 8) ⌝ }
-    ensures { λ r. ⌜ r ≡ runParts (ea.withData line register opmode operand size allowed reason) e ⌝ }
+    ensures { λ r. ⌜ r ≡ runParts (ea.withData line register opmode operand size (columnOf allowed) reason) e ⌝ }
 {
     let e1 = encode_state::operation(
         e,
@@ -301,7 +302,7 @@ pub fn with_address(
     reason: u8,
 ) -> Encoder
     requires { ⌜ (line < 16) × (opmode < 8) ⌝ }
-    ensures { λ r. ⌜ r ≡ runParts (ea.withAddress line register opmode operand size allowed reason) e ⌝ }
+    ensures { λ r. ⌜ r ≡ runParts (ea.withAddress line register opmode operand size (columnOf allowed) reason) e ⌝ }
 {
     let e1 = encode_state::operation(
         e,
@@ -325,7 +326,7 @@ pub fn from_data(
     size: Size,
 ) -> Encoder
     requires { ⌜ line < 16 ⌝ }
-    ensures { λ r. ⌜ r ≡ runParts (ea.fromData line allowed reason source destination size) e ⌝ }
+    ensures { λ r. ⌜ r ≡ runParts (ea.fromData line (columnOf allowed) reason source destination size) e ⌝ }
 {
     let e1 = encode_state::allow(e, isa_operands::is_register(source), 3);
     with_data(

@@ -1,6 +1,6 @@
 -- Verdicts, items, and the addresses of words.
 use Prim.Native.Nat.{ℕ, _+_, _^_, _<_}
-use mathlib.Core.Path.{_≡_, refl, ap, sym, _∙_, subst}
+use mathlib.Core.Path.{_≡_, refl, ap, sym, _∙_}
 use mathlib.Core.Bool.{Bool, true, false}
 use mathlib.Core.List.{List, [], _∷_, _++_}
 use native.Mathlib.Omega.{arith}
@@ -9,24 +9,21 @@ use lib.IntN.{ℤ, pos}
 use lib.ListN.{length}
 use Rattle.isa.specs.declared.Field.{Field}
 use Rattle.isa_spec.specs.Field.{holds}
-use Rattle.encode_spec.specs.Item.{Item, Verdict, fine, malformed, outOfRange, noEncoding, word, check, range, unless, ranged, orElse, failure, verdict, numberVerdict, wordsIn, countOf, wordAddress}
-use Rattle.base_facts.specs.Tests.{ltb-is, ltb-true}
+use Rattle.encode_spec.specs.Item.{Item, Verdict, fine, malformed, outOfRange, noEncoding, isFine, word, check, range, unless, ranged, orElse, failure, verdict, numberVerdict, wordsIn, countOf, wordAddress}
+use Rattle.base_facts.specs.Tests.{ltb-is, ltb-true, true-not-false}
 use Rattle.isa.specs.declared.Field.the-variants as field
 
-abbrev pub isFine : Verdict → Type 0
-isFine fine = Unit {0}
-isFine malformed = ⊥
-isFine (outOfRange f z) = ⊥
-isFine (noEncoding r) = ⊥
+not-fine : {C : Type 0} (v : Verdict) → isFine v ≡ false → v ≡ fine → C
+not-fine v h e = true-not-false (ap isFine e) h
 
 pub malformed-not : {C : Type 0} → malformed ≡ fine → C
-malformed-not e = absurd (subst isFine (sym e) tt)
+malformed-not e = not-fine malformed refl e
 
 pub range-not : {C : Type 0} (f : Field) (z : ℤ) → outOfRange f z ≡ fine → C
-range-not f z e = absurd (subst isFine (sym e) tt)
+range-not f z e = not-fine (outOfRange f z) refl e
 
 pub reason-not : {C : Type 0} (r : ℕ) → noEncoding r ≡ fine → C
-reason-not r e = absurd (subst isFine (sym e) tt)
+reason-not r e = not-fine (noEncoding r) refl e
 
 pub fine-both : (u v : Verdict) → orElse u v ≡ fine → (u ≡ fine) × (v ≡ fine)
 fine-both fine v e = (refl, e)

@@ -1,8 +1,11 @@
 // Data movement.
 ghost use mathlib.Core.Path.{_≡_};
 ghost use Prim.Native.Nat.{_<_};
-ghost use Rattle.encode_spec.specs.Movement.{moveParts, moveaParts, movemReason, movemParts, movepItems, movepParts, moveqParts, isAddress, exgOpmode, exgParts, linkParts, linklParts, unlkParts};
-ghost use Rattle.encode_state.specs.Encoder.{run, runParts};
+ghost use Rattle.encode_spec.specs.Movement.{moveParts, moveaParts, movemReason, movemParts, movepParts, moveqParts, isAddress, exgOpmode, exgParts, linkParts, linklParts, unlkParts};
+ghost use Rattle.encode_spec.specs.Ea.{effective};
+ghost use Rattle.isa_spec.specs.Mode.{only};
+ghost use Rattle.isa.specs.declared.Size.the-variants.{Word};
+ghost use Rattle.encode_state.specs.Encoder.{run, runParts, nextAddress};
 use encode_state::Encoder;
 use isa::Field;
 use isa::Operand;
@@ -81,7 +84,7 @@ pub fn movem(
 
 // MOVEP reaches memory through d16(An) only.
 pub fn movep_operand(e: Encoder, target: Operand) -> Encoder
-    ensures { λ r. ⌜ r ≡ run (movepItems target) e ⌝ }
+    ensures { λ r. ⌜ r ≡ run (effective target Word (only 5) 5 (nextAddress e)) e ⌝ }
 {
     let Operand::IndirectDisplacement { offset, base } = target else {
         return encode_state::no_encoding(e, 5);

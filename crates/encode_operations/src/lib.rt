@@ -2,12 +2,14 @@
 ghost use mathlib.Core.Path.{_≡_};
 ghost use Prim.Native.Nat.{_<_};
 ghost use Rattle.encode_spec.specs.Instruction.{registerParts, transferParts, pairParts, wordParts, unsizedRegisterParts, unsizedOneParts, unsizedPairParts, oneParts, branchesParts, linksParts, packsParts, typedTwo};
-ghost use Rattle.encode_spec.specs.Ea.{single, control, dataModes, dataAlterable};
+ghost use Rattle.encode_spec.specs.Ea.{single, dataAlterable};
+ghost use Rattle.isa_spec.specs.Mode.{controlColumn, dataColumn};
 ghost use Rattle.isa.specs.declared.Size.the-variants.{Word, Long};
 ghost use Rattle.encode_state.specs.Encoder.{run, runParts, nextAddress};
 use encode_state::Encoder;
 use isa::BranchOperation;
 use isa::BranchSize;
+use isa::Condition;
 use isa::LinkOperation;
 use isa::OneOperation;
 use isa::Operand;
@@ -40,8 +42,8 @@ pub fn into_register(
         RegisterOperation::CMPA => encode_arithmetic::into_address(e, 11, 40, o, r, s),
         RegisterOperation::MOVEA => encode_movement::movea(e, o, r, s),
         RegisterOperation::CMP => encode_arithmetic::into_data(e, 11, 39, o, r, s),
-        RegisterOperation::CHK2 => encode_arithmetic::bounds(e, 1, o, r, s),
-        RegisterOperation::CMP2 => encode_arithmetic::bounds(e, 0, o, r, s),
+        RegisterOperation::CHK2 => encode_arithmetic::bounds(e, true, o, r, s),
+        RegisterOperation::CMP2 => encode_arithmetic::bounds(e, false, o, r, s),
     }
 }
 
@@ -180,7 +182,7 @@ pub fn unsized_into_register(
 // A control operand: PEA JSR JMP.
 fn control_operand(e: Encoder, x: u16, opmode: u16, o: Operand, reason: u8) -> Encoder
     requires { ⌜ (x < 8) × (opmode < 8) ⌝ }
-    ensures { λ r. ⌜ r ≡ runParts (single 4 x opmode o Long control reason) e ⌝ }
+    ensures { λ r. ⌜ r ≡ runParts (single 4 x opmode o Long controlColumn reason) e ⌝ }
 {
     encode_ea::single(
         e,
@@ -197,7 +199,7 @@ fn control_operand(e: Encoder, x: u16, opmode: u16, o: Operand, reason: u8) -> E
 // A word read from a data operand: MOVE to CCR and SR.
 fn word_read(e: Encoder, x: u16, o: Operand, reason: u8) -> Encoder
     requires { ⌜ x < 8 ⌝ }
-    ensures { λ r. ⌜ r ≡ runParts (single 4 x 3 o Word dataModes reason) e ⌝ }
+    ensures { λ r. ⌜ r ≡ runParts (single 4 x 3 o Word dataColumn reason) e ⌝ }
 {
     encode_ea::single(e, 4, x, 3, o, Size::Word, isa_operands::DATA, reason)
 }
@@ -260,8 +262,8 @@ pub fn branches(e: Encoder, op: BranchOperation, target: u32, s: BranchSize) -> 
     ensures { λ x. ⌜ x ≡ runParts (branchesParts op target s) e ⌝ }
 {
     match op {
-        BranchOperation::BRA => encode_control::branch(e, 0, target, s),
-        BranchOperation::BSR => encode_control::branch(e, 1, target, s),
+        BranchOperation::BRA => encode_control::branch(e, Condition::True, target, s),
+        BranchOperation::BSR => encode_control::branch(e, Condition::False, target, s),
     }
 }
 

@@ -1,4 +1,5 @@
--- Integer arithmetic (the manual, section 3.1.2; section 4 has each format).
+-- Integer arithmetic (the manual, section 3.1.2; section 4 has each format), and what has its forms: ANDI ORI EORI, ABCD SBCD, CHK2, TST
+-- and SWAP.
 use Prim.Native.Nat.{ℕ, _+_, _*_, _%_}
 use mathlib.Core.Bool.{Bool, not, cond}
 use mathlib.Core.List.{List, [], _∷_}
@@ -11,7 +12,8 @@ use Rattle.isa.specs.declared.Operand.{Operand}
 use Rattle.isa.specs.declared.Field.the-variants as field
 use Rattle.encode_spec.specs.Item.{Part, word, range, register, dataRegister, allow, operation, fixed}
 use Rattle.isa_spec.specs.Code.{sizeCode, isByte, longBit, bit, numberOfRegister, registerBits, general}
-use Rattle.encode_spec.specs.Ea.{everyMode, dataModes, alterable, dataAlterable, memoryAlterable, control, dataNotImmediate, byteOfAddress, eaField, registerField, immediateItems, effective, isRegister, registerIn, registerNumber, bothOf, paired, memoryBit, single, withData, withAddress, fromData}
+use Rattle.isa_spec.specs.Mode.{everyColumn, dataColumn, alterableColumn, controlColumn}
+use Rattle.encode_spec.specs.Ea.{dataAlterable, memoryAlterable, dataNotImmediate, byteOfAddress, eaField, registerField, immediateItems, effective, isRegister, registerIn, registerNumber, bothOf, paired, memoryBit, single, withData, withAddress, fromData}
 use Rattle.isa.specs.declared.ImmediateOperation.{ImmediateOperation}
 use Rattle.isa.specs.declared.ImmediateOperation.the-variants.{ADDI, SUBI, ANDI, ORI, EORI, CMPI}
 use Rattle.isa.specs.declared.QuickOperation.{QuickOperation}
@@ -30,7 +32,7 @@ immediateKind ORI = 0
 immediateKind EORI = 5
 immediateKind CMPI = 6
 
-abbrev pub immediateModes : ImmediateOperation → ℕ
+abbrev pub immediateModes : ImmediateOperation → List Bool
 immediateModes ADDI = dataAlterable
 immediateModes SUBI = dataAlterable
 immediateModes ANDI = dataAlterable
@@ -59,12 +61,12 @@ quickBit SUBQ = 1
 unfoldable pub quickParts : QuickOperation → ℕ → Operand → Size → List Part
 quickParts op count target s =
     fixed (range field.Count (pos count) ∷ allow (not (byteOfAddress s target)) 55 ∷ [])
-    ∷ single 5 (count % 8) (4 * quickBit op + sizeCode s) target s alterable 56
+    ∷ single 5 (count % 8) (4 * quickBit op + sizeCode s) target s alterableColumn 56
 
 -- <ea>,Dn of ADD, SUB and CMP: any operand, an address register not as a byte
 unfoldable pub intoDataParts : ℕ → ℕ → Operand → RegisterOperand → Size → List Part
 intoDataParts line reason source r s =
-    fixed (allow (not (byteOfAddress s source)) 7 ∷ []) ∷ withData line r (sizeCode s) source s everyMode reason
+    fixed (allow (not (byteOfAddress s source)) 7 ∷ []) ∷ withData line r (sizeCode s) source s everyColumn reason
 
 -- ADD SUB
 unfoldable pub arithmeticParts : ℕ → Operand → Operand → Size → List Part
@@ -75,13 +77,13 @@ arithmeticParts line source destination s =
 -- ADDA SUBA CMPA: bit 8 says a long
 unfoldable pub intoAddressParts : ℕ → ℕ → Operand → RegisterOperand → Size → List Part
 intoAddressParts line reason source r s =
-    fixed (allow (not (isByte s)) 61 ∷ []) ∷ withAddress line r (3 + 4 * longBit s) source s everyMode reason
+    fixed (allow (not (isByte s)) 61 ∷ []) ∷ withAddress line r (3 + 4 * longBit s) source s everyColumn reason
 
--- CHK2 CMP2: bit 11 of the extension word tells them apart
-unfoldable pub boundsParts : ℕ → Operand → RegisterOperand → Size → List Part
+-- CHK2 CMP2: bit 11 of the extension word says a trap
+unfoldable pub boundsParts : Bool → Operand → RegisterOperand → Size → List Part
 boundsParts trap bounds r s =
-    fixed (operation 0 (sizeCode s) 3 (eaField bounds) ∷ register (numberOfRegister r) ∷ word (general r * 4096 + trap * 2048) ∷ [])
-    ∷ effective bounds s control 49 ∷ []
+    fixed (operation 0 (sizeCode s) 3 (eaField bounds) ∷ register (numberOfRegister r) ∷ word (general r * 4096 + bit trap * 2048) ∷ [])
+    ∷ effective bounds s controlColumn 49 ∷ []
 
 -- ADDX SUBX ABCD SBCD: Dy,Dx or -(Ay),-(Ax), x in bits 11 to 9 and y in bits 2 to 0
 unfoldable pub extendedParts : ℕ → ℕ → Operand → Operand → List Part
@@ -118,7 +120,7 @@ mullParts source low high sign =
     fixed
     (operation 4 6 0 (eaField source) ∷ register (highNumber high) ∷ register low
     ∷ word (low % 8 * 4096 + signedBit sign * 2048 + highBits high) ∷ [])
-    ∷ effective source Long dataModes 28 ∷ []
+    ∷ effective source Long dataColumn 28 ∷ []
 
 -- DIVS.L DIVU.L: Dq in bits 14 to 12, Dr in bits 2 to 0, bit 10 a 64-bit dividend
 unfoldable pub divlParts : Operand → ℕ → ℕ → Bool → Sign → List Part
@@ -126,11 +128,11 @@ divlParts source quotient remainder wide sign =
     fixed
     (operation 4 6 1 (eaField source) ∷ register quotient ∷ register remainder
     ∷ word (quotient % 8 * 4096 + signedBit sign * 2048 + bit wide * 1024 + remainder % 8) ∷ [])
-    ∷ effective source Long dataModes 29 ∷ []
+    ∷ effective source Long dataColumn 29 ∷ []
 
 -- TST: any operand, an address register not as a byte
 unfoldable pub tstParts : Operand → Size → List Part
-tstParts target s = fixed (allow (not (byteOfAddress s target)) 7 ∷ []) ∷ single 4 5 (sizeCode s) target s everyMode 12
+tstParts target s = fixed (allow (not (byteOfAddress s target)) 7 ∷ []) ∷ single 4 5 (sizeCode s) target s everyColumn 12
 
 -- EXT.W EXT.L EXTB.L; 0 where there is none
 abbrev pub extOpmode : Size → Size → ℕ

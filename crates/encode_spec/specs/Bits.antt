@@ -7,10 +7,10 @@ use lib.IntN.{pos}
 use Rattle.isa.specs.declared.Size.the-variants.{Byte}
 use Rattle.isa.specs.declared.RegisterOperand.{RegisterOperand}
 use Rattle.isa.specs.declared.Operand.{Operand}
-use Rattle.isa.specs.declared.Operand.the-variants.{Immediate, Register}
 use Rattle.isa.specs.declared.Field.the-variants as field
 use Rattle.encode_spec.specs.Item.{Part, Verdict, outOfRange, noEncoding, word, check, range, unless, register, allow, operation, fixed}
-use Rattle.encode_spec.specs.Ea.{dataModes, dataAlterable, dataNotImmediate, bitFieldRead, bitFieldWritten, eaField, registerField, effective, isRegister, isImmediate, registerIn, immediateIn, registerNumber, paired, memoryBit, withData}
+use Rattle.isa_spec.specs.Mode.{dataColumn}
+use Rattle.encode_spec.specs.Ea.{dataAlterable, dataNotImmediate, bitFieldRead, bitFieldWritten, eaField, registerField, effective, isRegister, isImmediate, registerIn, immediateIn, registerNumber, paired, memoryBit, withData}
 use Rattle.isa.specs.declared.FieldValue.{FieldValue}
 use Rattle.isa.specs.declared.FieldValue.the-variants as value
 use Rattle.isa.specs.declared.BitField.{BitField}
@@ -18,13 +18,13 @@ use Rattle.isa.specs.declared.BitFieldOperation.{BitFieldOperation}
 use Rattle.isa.specs.declared.BitFieldOperation.the-variants.{Test, ExtractUnsigned, Change, ExtractSigned, Clear, FindFirstOne, Set, Insert}
 
 -- BTST 0, BCHG 1, BCLR 2, BSET 3; BTST only reads its operand
-abbrev pub dynamicModes : ℕ → ℕ
-dynamicModes kind = cond (eqb kind 0) dataModes dataAlterable
+abbrev pub dynamicModes : ℕ → List Bool
+dynamicModes kind = cond (eqb kind 0) dataColumn dataAlterable
 
 abbrev pub dynamicReason : ℕ → ℕ
 dynamicReason kind = cond (eqb kind 0) 50 51
 
-abbrev pub staticModes : ℕ → ℕ
+abbrev pub staticModes : ℕ → List Bool
 staticModes kind = cond (eqb kind 0) dataNotImmediate dataAlterable
 
 abbrev pub staticReason : ℕ → ℕ

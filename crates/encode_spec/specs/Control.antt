@@ -1,4 +1,4 @@
--- Program control (the manual, section 3.1.8; section 4 has each format).
+-- Program control (the manual, section 3.1.8; section 4 has each format), and TRAPcc.
 use Prim.Native.Nat.{ℕ, _+_, _*_, _/_, _%_}
 use mathlib.Core.List.{List, [], _∷_}
 use lib.Dec.{leb}
@@ -26,28 +26,28 @@ abbrev pub relativeLong : ℕ → Part
 relativeLong t at = longItems (difference t at)
 
 -- a condition in bits 11 to 8 beside two bits more
-abbrev pub conditionOperation : ℕ → ℕ → ℕ → ℕ → Item
-conditionOperation line condition x ea = operation line (condition / 2) (4 * (condition % 2) + x) ea
+abbrev pub conditionOperation : ℕ → Condition → ℕ → ℕ → Item
+conditionOperation line condition x ea = operation line (conditionCode condition / 2) (4 * (conditionCode condition % 2) + x) ea
 
 -- the distance in the operation word's low byte, from the word after it; -1 is written $FF (01, exception i)
-abbrev pub shortBranch : ℕ → ℕ → Part
+abbrev pub shortBranch : Condition → ℕ → Part
 shortBranch condition t at =
     range field.ShortBranch (distance t (wordAddress at 1))
     ∷ conditionOperation 6 condition (bitsOf (distance t (wordAddress at 1)) % 256 / 64) (bitsOf (distance t (wordAddress at 1)) % 64) ∷ []
 
--- Bcc BRA BSR: the byte is $00 before a word and $FF before a long
-unfoldable pub branchParts : ℕ → ℕ → BranchSize → List Part
+-- Bcc, BRA on True and BSR on False: the byte is $00 before a word and $FF before a long
+unfoldable pub branchParts : Condition → ℕ → BranchSize → List Part
 branchParts condition t branch.Short = shortBranch condition t ∷ []
 branchParts condition t branch.Word = fixed (conditionOperation 6 condition 0 0 ∷ []) ∷ relativeWord field.WordBranch t ∷ []
 branchParts condition t branch.Long = fixed (conditionOperation 6 condition 3 63 ∷ []) ∷ relativeLong t ∷ []
 
 -- the conditions T and F of a branch are BRA and BSR
 unfoldable pub bccParts : ℕ → Condition → BranchSize → List Part
-bccParts t condition s = fixed (allow (leb 2 (conditionCode condition)) 36 ∷ []) ∷ branchParts (conditionCode condition) t s
+bccParts t condition s = fixed (allow (leb 2 (conditionCode condition)) 36 ∷ []) ∷ branchParts condition t s
 
 unfoldable pub dbccParts : RegisterOperand → ℕ → Condition → List Part
 dbccParts r t condition =
-    fixed (conditionOperation 5 (conditionCode condition) 3 (8 + registerBits r) ∷ dataRegister r ∷ [])
+    fixed (conditionOperation 5 condition 3 (8 + registerBits r) ∷ dataRegister r ∷ [])
     ∷ relativeWord field.WordBranch t ∷ []
 
 unfoldable pub sccParts : Operand → Condition → List Part
@@ -66,7 +66,7 @@ trapItems (trap.Word v) = word v ∷ []
 trapItems (trap.Long v) = longItems v
 
 unfoldable pub trapccParts : Condition → TrapOperand → List Part
-trapccParts condition x = fixed (conditionOperation 5 (conditionCode condition) 3 (56 + trapOpmode x) ∷ trapItems x) ∷ []
+trapccParts condition x = fixed (conditionOperation 5 condition 3 (56 + trapOpmode x) ∷ trapItems x) ∷ []
 
 unfoldable pub rtdParts : ℕ → List Part
 rtdParts d = fixed (operation 4 7 1 52 ∷ wordItems field.RtdDisplacement (signed32 d)) ∷ []

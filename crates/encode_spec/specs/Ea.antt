@@ -1,9 +1,10 @@
 -- Effective addresses (the manual, section 2.2, "Effective Addressing Modes").
-use Prim.Native.Nat.{ℕ, zero, suc, _+_, _*_, _/_, _%_, _^_}
+use Prim.Native.Nat.{ℕ, _+_, _*_, _/_, _%_}
 use mathlib.Core.Bool.{Bool, true, false, not, _&&_, _||_, cond}
 use mathlib.Core.List.{List, [], _∷_, _++_}
-use lib.Dec.{ltb, leb, eqb}
+use lib.Dec.{ltb, eqb}
 use lib.IntN.{ℤ, pos}
+use lib.ListN.{getD}
 use Rattle.isa.specs.declared.Size.{Size}
 use Rattle.isa.specs.declared.Size.the-variants.{Byte, Word, Long}
 use Rattle.isa.specs.declared.AddressWidth.{AddressWidth}
@@ -21,8 +22,10 @@ use Rattle.base_spec.specs.Signed.{signed32, signed64, bitsOf, difference}
 use Rattle.encode_spec.specs.Item.{Item, Part, Verdict, fine, malformed, noEncoding, word, check, range, unless, register, dataRegister, addressRegister, allow, operation, fixed}
 use Rattle.isa_spec.specs.Code.{sizeCode, numberOfRegister, registerBits, general, longBit, isByte, bit}
 use Rattle.isa_spec.specs.ExtensionWord.{isFull, baseSuppressed, baseSize, outerSize, isCanonical}
+use Rattle.isa_spec.specs.IndexBase.{isBase, isPc, isAddressBase}
+use Rattle.isa_spec.specs.Mode.{dataColumn, memoryColumn, controlColumn, alterableColumn, both, setTo}
 
--- The modes, 0 to 11 as the Rust orders them: Dn An (An) (An)+ -(An) d16(An) d8(An,Xn) (xxx).W (xxx).L d16(PC) d8(PC,Xn) #.
+-- the mode of an operand, 0 to 11
 abbrev pub registerMode : RegisterOperand → ℕ
 registerMode (Address n) = 1
 registerMode (Data n) = 0
@@ -32,7 +35,7 @@ absoluteMode width.Word = 7
 absoluteMode width.Long = 8
 
 abbrev pub extendedMode : ℕ → ℕ
-extendedMode base = cond (eqb base 8) 10 6
+extendedMode base = cond (isPc base) 10 6
 
 abbrev pub modeOf : Operand → ℕ
 modeOf (Immediate v) = 11
@@ -47,83 +50,33 @@ modeOf (PcIndex t x) = 10
 modeOf (Extended base w z outer) = extendedMode base
 modeOf (Absolute a width) = absoluteMode width
 
--- the columns of table 2-4, "Effective Addressing Modes and Categories", one entry a mode
-abbrev X : Bool
-X = true
+-- sets of modes, from the columns of table 2-4
+abbrev pub dataAlterable : List Bool
+dataAlterable = both dataColumn alterableColumn
 
-abbrev o : Bool
-o = false
+abbrev pub memoryAlterable : List Bool
+memoryAlterable = both memoryColumn alterableColumn
 
-abbrev pub everyColumn : List Bool
-everyColumn = X ∷ X ∷ X ∷ X ∷ X ∷ X ∷ X ∷ X ∷ X ∷ X ∷ X ∷ X ∷ []
-
-abbrev pub dataColumn : List Bool
-dataColumn = X ∷ o ∷ X ∷ X ∷ X ∷ X ∷ X ∷ X ∷ X ∷ X ∷ X ∷ X ∷ []
-
-abbrev pub memoryColumn : List Bool
-memoryColumn = o ∷ o ∷ X ∷ X ∷ X ∷ X ∷ X ∷ X ∷ X ∷ X ∷ X ∷ X ∷ []
-
-abbrev pub controlColumn : List Bool
-controlColumn = o ∷ o ∷ X ∷ o ∷ o ∷ X ∷ X ∷ X ∷ X ∷ X ∷ X ∷ o ∷ []
-
-abbrev pub alterableColumn : List Bool
-alterableColumn = X ∷ X ∷ X ∷ X ∷ X ∷ X ∷ X ∷ X ∷ X ∷ o ∷ o ∷ o ∷ []
-
-abbrev pub both : List Bool → List Bool → List Bool
-both [] ys = []
-both (x ∷ xs) [] = []
-both (x ∷ xs) (y ∷ ys) = (x && y) ∷ both xs ys
-
--- a column with the mode n in it, or out of it
-abbrev pub setTo : Bool → ℕ → List Bool → List Bool
-setTo v n [] = []
-setTo v zero (b ∷ bs) = v ∷ bs
-setTo v (suc n) (b ∷ bs) = b ∷ setTo v n bs
-
--- a set of modes as a number, mode n its bit n
-abbrev pub bits : List Bool → ℕ
-bits [] = 0
-bits (true ∷ bs) = 1 + 2 * bits bs
-bits (false ∷ bs) = 2 * bits bs
-
-abbrev pub everyMode : ℕ
-everyMode = bits everyColumn
-
-abbrev pub dataModes : ℕ
-dataModes = bits dataColumn
-
-abbrev pub alterable : ℕ
-alterable = bits alterableColumn
-
-abbrev pub dataAlterable : ℕ
-dataAlterable = bits (both dataColumn alterableColumn)
-
-abbrev pub memoryAlterable : ℕ
-memoryAlterable = bits (both memoryColumn alterableColumn)
-
-abbrev pub control : ℕ
-control = bits controlColumn
-
-abbrev pub dataNotImmediate : ℕ
-dataNotImmediate = bits (setTo false 11 dataColumn)
+abbrev pub dataNotImmediate : List Bool
+dataNotImmediate = setTo false 11 dataColumn
 
 -- MOVEM: control alterable or -(An), and control or (An)+
-abbrev pub movemToMemory : ℕ
-movemToMemory = bits (setTo true 4 (both controlColumn alterableColumn))
+abbrev pub movemToMemory : List Bool
+movemToMemory = setTo true 4 (both controlColumn alterableColumn)
 
-abbrev pub movemFromMemory : ℕ
-movemFromMemory = bits (setTo true 3 controlColumn)
+abbrev pub movemFromMemory : List Bool
+movemFromMemory = setTo true 3 controlColumn
 
 -- a bit field: Dn or control, and alterable where it is written
-abbrev pub bitFieldRead : ℕ
-bitFieldRead = bits (setTo true 0 controlColumn)
+abbrev pub bitFieldRead : List Bool
+bitFieldRead = setTo true 0 controlColumn
 
-abbrev pub bitFieldWritten : ℕ
-bitFieldWritten = bits (setTo true 0 (both controlColumn alterableColumn))
+abbrev pub bitFieldWritten : List Bool
+bitFieldWritten = setTo true 0 (both controlColumn alterableColumn)
 
 -- whether a set has the operand's mode
-unfoldable pub permits : ℕ → Operand → Bool
-permits allowed x = eqb (allowed / 2 ^ modeOf x % 2) 1
+unfoldable pub permits : List Bool → Operand → Bool
+permits column x = getD column (modeOf x) false
 
 -- a byte of an address register, which no instruction reads or writes
 unfoldable pub byteOfAddress : Size → Operand → Bool
@@ -131,7 +84,7 @@ byteOfAddress s x = isByte s && eqb (modeOf x) 1
 
 -- the mode field and the register field, three bits each (table 2-4)
 abbrev pub extendedModeField : ℕ → ℕ
-extendedModeField base = cond (ltb base 8) 6 7
+extendedModeField base = cond (isAddressBase base) 6 7
 
 abbrev pub modeField : Operand → ℕ
 modeField (Immediate v) = 7
@@ -147,7 +100,7 @@ modeField (Extended base w z outer) = extendedModeField base
 modeField (Absolute a width) = 7
 
 abbrev pub extendedRegisterField : ℕ → ℕ
-extendedRegisterField base = cond (ltb base 8) (base % 8) 3
+extendedRegisterField base = cond (isAddressBase base) (base % 8) 3
 
 abbrev pub absoluteRegisterField : AddressWidth → ℕ
 absoluteRegisterField width.Word = 0
@@ -210,7 +163,7 @@ displacementItems displacement.Long z f = longItems (bitsOf z % 4294967296)
 
 -- the base displacement of an extension word at `at`: from the program counter, not suppressed, it is measured from the word
 abbrev pub fromPc : ℕ → ℕ → Bool
-fromPc base w = eqb base 8 && not (baseSuppressed w)
+fromPc base w = isPc base && not (baseSuppressed w)
 
 abbrev pub baseDisplacement : ℕ → ℕ → ℤ → ℕ → ℤ
 baseDisplacement base w z at = cond (fromPc base w) (distance (bitsOf z % 4294967296) at) z
@@ -220,7 +173,7 @@ fullItems w z outer =
     word w ∷ (displacementItems (baseSize w) z field.BaseDisplacement ++ displacementItems (outerSize w) outer field.OuterDisplacement)
 
 abbrev pub briefField : ℕ → Field
-briefField base = cond (eqb base 8) field.PcIndex field.IndexDisplacement
+briefField base = cond (isPc base) field.PcIndex field.IndexDisplacement
 
 abbrev pub scaledItems : ℕ → ℕ → ℤ → List Item
 scaledItems base w z = range (briefField base) z ∷ word (w / 256 * 256 + bitsOf z % 256) ∷ []
@@ -249,7 +202,7 @@ eaItems (Extended base w z outer) s at = extendedItems base w z outer at
 eaItems (Absolute a width) s at = absoluteItems a width
 
 -- an operand in one of the modes allowed, else a reason
-abbrev pub effective : Operand → Size → ℕ → ℕ → Part
+abbrev pub effective : Operand → Size → List Bool → ℕ → Part
 effective x s allowed reason at = allow (permits allowed x) reason ∷ eaItems x s at
 
 -- refusal 1: an IndexBase above 8, or a full word that is not canonical
@@ -263,38 +216,18 @@ isTyped (IndirectDisplacement z base) = true
 isTyped (IndirectIndex base z x) = true
 isTyped (PcDisplacement t) = true
 isTyped (PcIndex t x) = true
-isTyped (Extended base w z outer) = leb base 8 && isCanonical w
+isTyped (Extended base w z outer) = isBase base && isCanonical w
 isTyped (Absolute a width) = true
 
 abbrev pub typed : Operand → Item
 typed x = check (unless (isTyped x) malformed)
 
--- what an operand is
+-- Dn or An, and #<data>
 abbrev pub isRegister : Operand → Bool
-isRegister (Immediate v) = false
-isRegister (Register r) = true
-isRegister (Indirect n) = false
-isRegister (PostIndirect n) = false
-isRegister (PreIndirect n) = false
-isRegister (IndirectDisplacement z base) = false
-isRegister (IndirectIndex base z x) = false
-isRegister (PcDisplacement t) = false
-isRegister (PcIndex t x) = false
-isRegister (Extended base w z outer) = false
-isRegister (Absolute a width) = false
+isRegister x = ltb (modeOf x) 2
 
 abbrev pub isImmediate : Operand → Bool
-isImmediate (Immediate v) = true
-isImmediate (Register r) = false
-isImmediate (Indirect n) = false
-isImmediate (PostIndirect n) = false
-isImmediate (PreIndirect n) = false
-isImmediate (IndirectDisplacement z base) = false
-isImmediate (IndirectIndex base z x) = false
-isImmediate (PcDisplacement t) = false
-isImmediate (PcIndex t x) = false
-isImmediate (Extended base w z outer) = false
-isImmediate (Absolute a width) = false
+isImmediate x = eqb (modeOf x) 11
 
 -- the register of a Register operand
 abbrev pub registerIn : Operand → RegisterOperand
@@ -351,18 +284,18 @@ memoryBit x = bit (eqb (modeOf x) 4)
 
 -- the forms that most instructions have: an operation word and an effective address, alone, with a data register or with an
 -- address register in bits 11 to 9
-unfoldable pub single : ℕ → ℕ → ℕ → Operand → Size → ℕ → ℕ → List Part
+unfoldable pub single : ℕ → ℕ → ℕ → Operand → Size → List Bool → ℕ → List Part
 single line x opmode ea s allowed reason = fixed (operation line x opmode (eaField ea) ∷ []) ∷ effective ea s allowed reason ∷ []
 
-unfoldable pub withData : ℕ → RegisterOperand → ℕ → Operand → Size → ℕ → ℕ → List Part
+unfoldable pub withData : ℕ → RegisterOperand → ℕ → Operand → Size → List Bool → ℕ → List Part
 withData line r opmode ea s allowed reason =
     fixed (operation line (registerBits r) opmode (eaField ea) ∷ dataRegister r ∷ []) ∷ effective ea s allowed reason ∷ []
 
-unfoldable pub withAddress : ℕ → RegisterOperand → ℕ → Operand → Size → ℕ → ℕ → List Part
+unfoldable pub withAddress : ℕ → RegisterOperand → ℕ → Operand → Size → List Bool → ℕ → List Part
 withAddress line r opmode ea s allowed reason =
     fixed (operation line (registerBits r) opmode (eaField ea) ∷ addressRegister r ∷ []) ∷ effective ea s allowed reason ∷ []
 
 -- Dn,<ea> of ADD, SUB, AND, OR and EOR
-unfoldable pub fromData : ℕ → ℕ → ℕ → Operand → Operand → Size → List Part
+unfoldable pub fromData : ℕ → List Bool → ℕ → Operand → Operand → Size → List Part
 fromData line allowed reason source destination s =
     fixed (allow (isRegister source) 3 ∷ []) ∷ withData line (registerIn source) (4 + sizeCode s) destination s allowed reason

@@ -1,11 +1,13 @@
--- Each instruction as its parts, in the order of encoded.rs's shapes. Refusal 1 stands before everything else.
+-- Each instruction as its parts. Refusal 1 stands before everything else.
 use Prim.Native.Nat.{ℕ, _+_, _*_}
+use mathlib.Core.Bool.{true, false}
 use mathlib.Core.List.{List, [], _∷_}
 use Rattle.isa.specs.declared.Size.{Size}
 use Rattle.isa.specs.declared.Size.the-variants.{Byte, Word, Long}
 use Rattle.isa.specs.declared.Sign.{Sign}
 use Rattle.isa.specs.declared.TargetDirection.{TargetDirection}
 use Rattle.isa.specs.declared.BranchSize.{BranchSize}
+use Rattle.isa.specs.declared.Condition.the-variants.{True, False}
 use Rattle.isa.specs.declared.RegisterOperand.{RegisterOperand}
 use Rattle.isa.specs.declared.Operand.{Operand}
 use Rattle.isa.specs.declared.RegisterOperation.{RegisterOperation}
@@ -34,7 +36,8 @@ use Rattle.isa.specs.declared.Instruction.{Instruction}
 use Rattle.isa.specs.declared.Instruction.the-variants.{IntoRegister, MOVEM, Transfer, Pair, Quick, MOVEQ, ImmediateInto, WordIntoData, SWAP, EXG, UnsizedIntoRegister, UnsizedOne, UnsizedPair, EXT, OneOperand, Bcc, Scc, DBcc, Branch, Link, UNLK, Shift, Vector, Status, ConditionCode, MOVEUSP, Raw, NoOperand, RTD, MOVEC, TRAPcc, MULL, Pack, CAS, CAS2, BF, DIVL}
 use Rattle.encode_spec.specs.Item.{Part, fixed}
 use Rattle.isa_spec.specs.Code.{sizeCode}
-use Rattle.encode_spec.specs.Ea.{dataModes, dataAlterable, control, typed, single, withData, withAddress, fromData}
+use Rattle.isa_spec.specs.Mode.{dataColumn, controlColumn}
+use Rattle.encode_spec.specs.Ea.{dataAlterable, typed, single, withData, withAddress, fromData}
 use Rattle.encode_spec.specs.Movement.{moveParts, moveaParts, movemParts, movepParts, moveqParts, exgParts, linkParts, linklParts, unlkParts}
 use Rattle.encode_spec.specs.Arithmetic.{immediateParts, quickParts, intoDataParts, arithmeticParts, intoAddressParts, boundsParts, extendedParts, cmpmParts, signedBit, mullParts, divlParts, tstParts, extParts, swapParts}
 use Rattle.encode_spec.specs.Logic.{logicalParts, shiftParts}
@@ -48,8 +51,8 @@ registerParts SUBA o r s = intoAddressParts 9 37 o r s
 registerParts CMPA o r s = intoAddressParts 11 40 o r s
 registerParts MOVEA o r s = moveaParts o r s
 registerParts CMP o r s = intoDataParts 11 39 o r s
-registerParts CHK2 o r s = boundsParts 1 o r s
-registerParts CMP2 o r s = boundsParts 0 o r s
+registerParts CHK2 o r s = boundsParts true o r s
+registerParts CMP2 o r s = boundsParts false o r s
 
 unfoldable pub transferParts : TransferOperation → TargetDirection → Size → RegisterOperand → Operand → List Part
 transferParts MOVEP direction s r o = movepParts direction s r o
@@ -67,23 +70,23 @@ pairParts AND o d s = logicalParts 12 o d s
 pairParts EOR o d s = fromData 11 dataAlterable 42 o d s
 
 unfoldable pub wordParts : WordOperation → Operand → RegisterOperand → Sign → List Part
-wordParts DIVx o r sign = withData 8 r (3 + 4 * signedBit sign) o Word dataModes 29
-wordParts MULx o r sign = withData 12 r (3 + 4 * signedBit sign) o Word dataModes 28
+wordParts DIVx o r sign = withData 8 r (3 + 4 * signedBit sign) o Word dataColumn 29
+wordParts MULx o r sign = withData 12 r (3 + 4 * signedBit sign) o Word dataColumn 28
 
 unfoldable pub unsizedRegisterParts : UnsizedRegisterOperation → Operand → RegisterOperand → List Part
-unsizedRegisterParts LEA o r = withAddress 4 r 7 o Long control 34
-unsizedRegisterParts CHK o r = withData 4 r 6 o Word dataModes 27
-unsizedRegisterParts CHKL o r = withData 4 r 4 o Long dataModes 27
+unsizedRegisterParts LEA o r = withAddress 4 r 7 o Long controlColumn 34
+unsizedRegisterParts CHK o r = withData 4 r 6 o Word dataColumn 27
+unsizedRegisterParts CHKL o r = withData 4 r 4 o Long dataColumn 27
 
 unfoldable pub unsizedOneParts : UnsizedOneOperation → Operand → List Part
-unsizedOneParts PEA o = single 4 4 1 o Long control 18
+unsizedOneParts PEA o = single 4 4 1 o Long controlColumn 18
 unsizedOneParts NBCD o = single 4 4 0 o Byte dataAlterable 17
-unsizedOneParts JSR o = single 4 7 2 o Long control 25
-unsizedOneParts JMP o = single 4 7 3 o Long control 26
+unsizedOneParts JSR o = single 4 7 2 o Long controlColumn 25
+unsizedOneParts JMP o = single 4 7 3 o Long controlColumn 26
 unsizedOneParts TAS o = single 4 5 3 o Byte dataAlterable 23
-unsizedOneParts MOVEtoCCR o = single 4 2 3 o Word dataModes 15
+unsizedOneParts MOVEtoCCR o = single 4 2 3 o Word dataColumn 15
 unsizedOneParts MOVEfromCCR o = single 4 1 3 o Word dataAlterable 14
-unsizedOneParts MOVEtoSR o = single 4 3 3 o Word dataModes 16
+unsizedOneParts MOVEtoSR o = single 4 3 3 o Word dataColumn 16
 unsizedOneParts MOVEfromSR o = single 4 0 3 o Word dataAlterable 13
 
 unfoldable pub unsizedPairParts : UnsizedPairOperation → Operand → Operand → List Part
@@ -102,8 +105,8 @@ oneParts NOT o s = single 4 3 (sizeCode s) o s dataAlterable 54
 oneParts TST o s = tstParts o s
 
 unfoldable pub branchesParts : BranchOperation → ℕ → BranchSize → List Part
-branchesParts BRA t s = branchParts 0 t s
-branchesParts BSR t s = branchParts 1 t s
+branchesParts BRA t s = branchParts True t s
+branchesParts BSR t s = branchParts False t s
 
 unfoldable pub linksParts : LinkOperation → RegisterOperand → ℕ → List Part
 linksParts LINK r d = linkParts r d

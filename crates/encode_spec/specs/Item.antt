@@ -1,8 +1,8 @@
 -- What the encoding of an instruction consists of, in order: words, and the checks between them.
 use Prim.Native.Nat.{ℕ, _+_, _*_, _%_, _^_}
-use mathlib.Core.Bool.{Bool, true, false}
+use mathlib.Core.Bool.{Bool, true, false, cond}
 use mathlib.Core.List.{List, [], _∷_, _++_}
-use lib.Dec.{ltb}
+use lib.Dec.{ltb, eqb}
 use lib.IntN.{ℤ, pos}
 use Rattle.isa.specs.declared.RegisterOperand.{RegisterOperand}
 use Rattle.isa.specs.declared.RegisterOperand.the-variants.{Address, Data}
@@ -17,24 +17,20 @@ pub data Verdict : Type 0 where
   outOfRange : Field → ℤ → Verdict
   noEncoding : ℕ → Verdict
 
--- 01's number, detail and value
-abbrev pub refusalNumber : Verdict → ℕ
-refusalNumber fine = 0
-refusalNumber malformed = 1
-refusalNumber (outOfRange f z) = 2
-refusalNumber (noEncoding r) = 3
+-- 01's number, detail and value, all 0 where it passes
+pub record Refusal : Type 0 where
+  pub number : ℕ
+  pub detail : ℕ
+  pub value : ℤ
 
-abbrev pub refusalDetail : Verdict → ℕ
-refusalDetail fine = 0
-refusalDetail malformed = 0
-refusalDetail (outOfRange f z) = fieldNumber f
-refusalDetail (noEncoding r) = r
+abbrev pub refusal : Verdict → Refusal
+refusal fine = record { number = 0; detail = 0; value = pos 0 }
+refusal malformed = record { number = 1; detail = 0; value = pos 0 }
+refusal (outOfRange f z) = record { number = 2; detail = fieldNumber f; value = z }
+refusal (noEncoding r) = record { number = 3; detail = r; value = pos 0 }
 
-abbrev pub refusalValue : Verdict → ℤ
-refusalValue fine = pos 0
-refusalValue malformed = pos 0
-refusalValue (outOfRange f z) = z
-refusalValue (noEncoding r) = pos 0
+abbrev pub isFine : Verdict → Bool
+isFine v = eqb (refusal v .number) 0
 
 -- a verdict where a test fails
 abbrev pub unless : Bool → Verdict → Verdict
@@ -114,10 +110,7 @@ laid (p ∷ ps) a = p a ++ laid ps (wordAddress a (countOf (p a)))
 
 -- the first check that fails; `size` skips the ranges
 abbrev pub orElse : Verdict → Verdict → Verdict
-orElse fine v = v
-orElse malformed v = malformed
-orElse (outOfRange f z) v = outOfRange f z
-orElse (noEncoding r) v = noEncoding r
+orElse u v = cond (isFine u) v u
 
 abbrev pub ranged : Bool → Field → ℤ → Verdict
 ranged true f z = unless (holds f z) (outOfRange f z)

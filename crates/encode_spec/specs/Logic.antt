@@ -11,7 +11,8 @@ use Rattle.isa.specs.declared.Operand.{Operand}
 use Rattle.isa.specs.declared.Field.the-variants as field
 use Rattle.encode_spec.specs.Item.{Item, Part, noEncoding, check, range, dataRegister, allow, operation, fixed}
 use Rattle.isa_spec.specs.Code.{sizeCode, isWord, bit, registerBits}
-use Rattle.encode_spec.specs.Ea.{dataModes, memoryAlterable, isRegister, isImmediate, registerIn, immediateIn, single, withData, fromData}
+use Rattle.isa_spec.specs.Mode.{dataColumn}
+use Rattle.encode_spec.specs.Ea.{memoryAlterable, isRegister, isImmediate, registerIn, immediateIn, single, withData, fromData}
 use Rattle.isa.specs.declared.ShiftOperation.{ShiftOperation}
 use Rattle.isa.specs.declared.ShiftOperation.the-variants.{ASd, ROd, LSd, ROXd}
 use Rattle.isa.specs.declared.ShiftDirection.{ShiftDirection}
@@ -20,7 +21,7 @@ use Rattle.isa.specs.declared.ShiftDirection.the-variants.{Right, Left}
 -- AND OR
 unfoldable pub logicalParts : ℕ → Operand → Operand → Size → List Part
 logicalParts line source destination s =
-    cond (isRegister destination) (withData line (registerIn destination) (sizeCode s) source s dataModes 57)
+    cond (isRegister destination) (withData line (registerIn destination) (sizeCode s) source s dataColumn 57)
     (fromData line memoryAlterable 58 source destination s)
 
 -- the kind of a shift or rotate, and its direction dr

@@ -3,15 +3,16 @@ use Prim.Native.Nat.{ℕ, _+_, _*_, _/_, _%_}
 use mathlib.Core.Bool.{Bool, true, false, not, _&&_, _||_}
 use mathlib.Core.List.{List, [], _∷_}
 use Rattle.isa.specs.declared.Size.{Size}
+use Rattle.isa.specs.declared.Size.the-variants.{Word}
 use Rattle.isa.specs.declared.RegisterOperand.{RegisterOperand}
 use Rattle.isa.specs.declared.RegisterOperand.the-variants.{Address, Data}
 use Rattle.isa.specs.declared.Operand.{Operand}
-use Rattle.isa.specs.declared.Operand.the-variants.{Immediate, Register, Indirect, PostIndirect, PreIndirect, IndirectDisplacement, IndirectIndex, PcDisplacement, PcIndex, Extended, Absolute}
 use Rattle.isa.specs.declared.Field.the-variants as field
 use Rattle.base_spec.specs.Signed.{signed32}
-use Rattle.encode_spec.specs.Item.{Item, Part, noEncoding, word, check, register, dataRegister, addressRegister, allow, operation, fixed}
+use Rattle.encode_spec.specs.Item.{Part, word, register, dataRegister, addressRegister, allow, operation, fixed}
 use Rattle.isa_spec.specs.Code.{moveCode, isByte, longBit, bit, numberOfRegister, registerBits, general, toMemory, fromMemory}
-use Rattle.encode_spec.specs.Ea.{everyMode, dataAlterable, movemToMemory, movemFromMemory, byteOfAddress, eaField, modeField, registerField, longItems, wordItems, effective, withAddress}
+use Rattle.isa_spec.specs.Mode.{everyColumn, only}
+use Rattle.encode_spec.specs.Ea.{dataAlterable, movemToMemory, movemFromMemory, byteOfAddress, eaField, modeField, registerField, longItems, wordItems, effective, withAddress}
 use Rattle.isa.specs.declared.TargetDirection.{TargetDirection}
 use Rattle.isa.specs.declared.TargetDirection.the-variants.{ToMemory, FromMemory}
 
@@ -19,13 +20,13 @@ use Rattle.isa.specs.declared.TargetDirection.the-variants.{ToMemory, FromMemor
 unfoldable pub moveParts : Operand → Operand → Size → List Part
 moveParts source destination s =
     fixed (operation (moveCode s) (registerField destination) (modeField destination) (eaField source) ∷ allow (not (byteOfAddress s source)) 7 ∷ [])
-    ∷ effective source s everyMode 8 ∷ effective destination s dataAlterable 9 ∷ []
+    ∷ effective source s everyColumn 8 ∷ effective destination s dataAlterable 9 ∷ []
 
 unfoldable pub moveaParts : Operand → RegisterOperand → Size → List Part
-moveaParts source r s = fixed (allow (not (isByte s)) 10 ∷ []) ∷ withAddress (moveCode s) r 1 source s everyMode 11
+moveaParts source r s = fixed (allow (not (isByte s)) 10 ∷ []) ∷ withAddress (moveCode s) r 1 source s everyColumn 11
 
 -- MOVEM: the direction dr, and the mask before the operand's words
-abbrev pub movemModes : TargetDirection → ℕ
+abbrev pub movemModes : TargetDirection → List Bool
 movemModes ToMemory = movemToMemory
 movemModes FromMemory = movemFromMemory
 
@@ -39,23 +40,10 @@ movemParts direction s mask target =
     ∷ effective target s (movemModes direction) (movemReason direction) ∷ []
 
 -- MOVEP reaches memory through d16(An) only
-abbrev pub movepItems : Operand → List Item
-movepItems (Immediate v) = check (noEncoding 5) ∷ []
-movepItems (Register r) = check (noEncoding 5) ∷ []
-movepItems (Indirect n) = check (noEncoding 5) ∷ []
-movepItems (PostIndirect n) = check (noEncoding 5) ∷ []
-movepItems (PreIndirect n) = check (noEncoding 5) ∷ []
-movepItems (IndirectDisplacement z base) = addressRegister base ∷ wordItems field.Displacement z
-movepItems (IndirectIndex base z x) = check (noEncoding 5) ∷ []
-movepItems (PcDisplacement t) = check (noEncoding 5) ∷ []
-movepItems (PcIndex t x) = check (noEncoding 5) ∷ []
-movepItems (Extended base w z outer) = check (noEncoding 5) ∷ []
-movepItems (Absolute a width) = check (noEncoding 5) ∷ []
-
 unfoldable pub movepParts : TargetDirection → Size → RegisterOperand → Operand → List Part
 movepParts direction s r target =
     fixed (operation 0 (registerBits r) (4 + 2 * toMemory direction + longBit s) (8 + registerField target) ∷ dataRegister r ∷ [])
-    ∷ fixed (movepItems target) ∷ fixed (allow (not (isByte s)) 6 ∷ []) ∷ []
+    ∷ effective target Word (only 5) 5 ∷ fixed (allow (not (isByte s)) 6 ∷ []) ∷ []
 
 -- MOVEQ: the data in bits 7 to 0
 unfoldable pub moveqParts : ℕ → RegisterOperand → List Part

@@ -1,4 +1,5 @@
--- System control and multiprocessor instructions (the manual, sections 3.1.9 to 3.1.11; section 6).
+-- System control and multiprocessor instructions (the manual, sections 3.1.9 and 3.1.11; sections 4 and 6 have each format), raw words,
+-- and all that has no operand.
 use Prim.Native.Nat.{ℕ, _+_, _*_, _/_, _%_}
 use mathlib.Core.Bool.{Bool, not, cond}
 use mathlib.Core.List.{List, [], _∷_}

@@ -1,13 +1,12 @@
 -- The encoder's state, and what each item does to it. Once refused, nothing changes it.
 use Prim.Native.Nat.{ℕ, _+_, _*_, _%_, _^_}
-use mathlib.Core.Bool.{Bool, cond}
+use mathlib.Core.Bool.{Bool, true, false, cond}
 use mathlib.Core.List.{List, [], _∷_}
 use lib.Dec.{ltb, eqb}
 use lib.ListN.{set, length}
 use lib.IntN.{ℤ, pos}
 use Rattle.encode_state.specs.declared.Encoder.{Encoder}
-use Rattle.isa_spec.specs.Field.{fieldNumber}
-use Rattle.encode_spec.specs.Item.{Item, Part, Verdict, fine, malformed, outOfRange, noEncoding, word, check, range, ranged}
+use Rattle.encode_spec.specs.Item.{Item, Part, Verdict, Refusal, refusal, isFine, word, check, range, ranged}
 use Rattle.encode_spec.specs.Encode.{padded}
 
 -- e with one word more, where it is not refused and has room
@@ -26,11 +25,12 @@ refused e number detail value =
     (record { address = e .address; check = e .check; words = e .words; count = e .count; number = number; detail = detail; value = value })
     e
 
+abbrev pub refusedUnless : Bool → Refusal → Encoder → Encoder
+refusedUnless true r e = e
+refusedUnless false r e = refused e (r .number) (r .detail) (r .value)
+
 abbrev pub marked : Verdict → Encoder → Encoder
-marked fine e = e
-marked malformed e = refused e 1 0 (pos 0)
-marked (outOfRange f z) e = refused e 2 (fieldNumber f) z
-marked (noEncoding r) e = refused e 3 r (pos 0)
+marked v e = refusedUnless (isFine v) (refusal v) e
 
 abbrev pub step : Encoder → Item → Encoder
 step e (word w) = pushed e w

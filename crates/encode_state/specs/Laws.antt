@@ -10,10 +10,9 @@ use native.Mathlib.Omega.{arith}
 use borrow.Author.Tests.{lt-ltb}
 use Rattle.encode_state.specs.declared.Encoder.{Encoder}
 use Rattle.isa.specs.declared.Encoded.{Encoded}
-use Rattle.isa_spec.specs.Field.{fieldNumber}
-use Rattle.encode_spec.specs.Item.{Item, Part, Verdict, fine, malformed, outOfRange, noEncoding, word, check, range, ranged, wordsIn, countOf, wordAddress, laid, orElse, failure}
+use Rattle.encode_spec.specs.Item.{Item, Part, Verdict, fine, malformed, outOfRange, noEncoding, refusal, isFine, word, check, range, ranged, wordsIn, countOf, wordAddress, laid, orElse, failure}
 use Rattle.encode_spec.specs.Encode.{padded, encodedAs}
-use Rattle.encode_state.specs.Encoder.{pushed, refused, marked, step, run, nextAddress, runParts, holding}
+use Rattle.encode_state.specs.Encoder.{pushed, refused, refusedUnless, marked, step, run, nextAddress, runParts, holding}
 use Rattle.encode_facts.specs.Items.{words-count, count-append, address-address}
 
 -- ---- a refused state stays as it is
@@ -28,16 +27,30 @@ pub refuse-refused : (e : Encoder) (n d : ℕ) (z : ℤ) → Refused e → refus
 unfolding refused
 refuse-refused e n d z h = rw h
 
+-- a check does nothing, or refuses
+by-fine : (Q : Encoder → Type 0) (v : Verdict) (e : Encoder) → Q e → ((n d : ℕ) (z : ℤ) → Q (refused e n d z)) → Q (marked v e)
+by-fine Q v e p q = go (isFine v)
+  where
+    go : (t : Bool) → Q (refusedUnless t (refusal v) e)
+    go true = p
+    go false = q _ _ _
+
 pub marked-refused : (v : Verdict) (e : Encoder) → Refused e → marked v e ≡ e
-marked-refused fine e h = refl
-marked-refused malformed e h = refuse-refused e 1 0 (pos 0) h
-marked-refused (outOfRange f z) e h = refuse-refused e 2 (fieldNumber f) z h
-marked-refused (noEncoding r) e h = refuse-refused e 3 r (pos 0) h
+marked-refused v e h = by-fine (λ x. x ≡ e) v e refl (λ n d z. refuse-refused e n d z h)
 
 step-refused : (x : Item) (e : Encoder) → Refused e → step e x ≡ e
 step-refused (word w) e h = push-refused e w h
 step-refused (check v) e h = marked-refused v e h
 step-refused (range f z) e h = marked-refused (ranged (e .check) f z) e h
+
+-- as any state is behind a check that finds no encoding
+pub refused-there : (r : ℕ) (e : Encoder) → Refused (marked (noEncoding r) e)
+unfolding refused
+refused-there r e = go (eqb (e .number) 0) refl
+  where
+    go : (t : Bool) → eqb (e .number) 0 ≡ t → Refused (refused e 3 r (pos 0))
+    go true h = rw h
+    go false h = rw h h
 
 pub run-refused : (xs : List Item) (e : Encoder) → Refused e → run xs e ≡ e
 run-refused [] e h = refl
@@ -62,10 +75,7 @@ unfolding refused nextAddress
 refuse-next e n d z = next-cond (eqb (e .number) 0) _ e refl
 
 pub marked-next : (v : Verdict) (e : Encoder) → nextAddress (marked v e) ≡ nextAddress e
-marked-next fine e = refl
-marked-next malformed e = refuse-next e 1 0 (pos 0)
-marked-next (outOfRange f z) e = refuse-next e 2 (fieldNumber f) z
-marked-next (noEncoding r) e = refuse-next e 3 r (pos 0)
+marked-next v e = by-fine (λ x. nextAddress x ≡ nextAddress e) v e refl (λ n d z. refuse-next e n d z)
 
 -- ---- words laid down
 set-end : (ws xs : List ℕ) (x w : ℕ) → set (ws ++ (x ∷ xs)) (length ws) w ≡ ws ++ (w ∷ xs)

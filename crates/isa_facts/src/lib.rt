@@ -1,1 +1,1 @@
-// Facts about codes and conditions, for code and for laws.
+// Facts about codes, conditions and sets of modes, for code and for laws.

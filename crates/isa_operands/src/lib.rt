@@ -4,15 +4,19 @@ ghost use Prim.Native.Nat.{_<_};
 ghost use Rattle.encode_spec.specs.Ea.{registerMode, absoluteMode, extendedMode, modeOf, permits, byteOfAddress, extendedModeField, modeField, extendedRegisterField, absoluteRegisterField, registerField, eaField, fromPc, isTyped, isRegister, isImmediate, registerIn, immediateIn, registerNumber, bothOf, paired, memoryBit};
 ghost use Rattle.encode_spec.specs.Movement.{movemModes};
 ghost use mathlib.Core.Bool.{_&&_};
-ghost use lib.Dec.{leb};
+ghost use Rattle.isa_facts.specs.Mode.{columnOf};
 ghost use Rattle.isa_spec.specs.ExtensionWord.{isCanonical};
+ghost use Rattle.isa_spec.specs.IndexBase.{isBase};
+ghost use Rattle.isa_spec.specs.Mode.{bits};
 use isa::AddressWidth;
 use isa::Operand;
+use isa::RegisterChoice;
 use isa::RegisterOperand;
 use isa::Size;
 use isa::TargetDirection;
 use isa_values::code;
 use isa_values::extension_word::ExtensionWord;
+use isa_values::index_base::IndexBase;
 
 // The sets of modes that operands are taken from, bit n for mode n (the manual, table 2-4).
 pub const ALL: u16 = 0b1111_1111_1111;
@@ -39,7 +43,7 @@ pub const BIT_FIELD_WRITTEN: u16 = 0b0001_1110_0101;
 
 // The modes of MOVEM's operand.
 pub fn movem_modes(direction: TargetDirection) -> u16
-    ensures { λ r. ⌜ r ≡ movemModes direction ⌝ }
+    ensures { λ r. ⌜ r ≡ bits (movemModes direction) ⌝ }
 {
     match direction {
         TargetDirection::ToMemory => MOVEM_TO_MEMORY,
@@ -71,7 +75,7 @@ pub fn absolute_mode(width: AddressWidth) -> u16
 pub fn extended_mode(base: u8) -> u16
     ensures { λ x. ⌜ (x ≡ extendedMode base) × (x < 12) ⌝ }
 {
-    if base == 8 { 10 } else { 6 }
+    if IndexBase(base).is_pc() { 10 } else { 6 }
 }
 
 // The mode, 0 to 11.
@@ -107,7 +111,7 @@ pub fn mode_of(operand: Operand) -> u16
 
 // Whether a set of modes has the operand's.
 pub fn permitted(allowed: u16, operand: Operand) -> bool
-    ensures { λ r. ⌜ r ≡ permits allowed operand ⌝ }
+    ensures { λ r. ⌜ r ≡ permits (columnOf allowed) operand ⌝ }
 {
     (allowed >> mode_of(operand)) % 2 == 1
 }
@@ -123,14 +127,17 @@ pub fn byte_of_address(size: Size, operand: Operand) -> bool
 pub fn from_pc(base: u8, word: u16) -> bool
     ensures { λ r. ⌜ r ≡ fromPc base word ⌝ }
 {
-    (base == 8) & !ExtensionWord(word).base_suppressed()
+    IndexBase(base).is_pc() & !ExtensionWord(word).base_suppressed()
 }
 
 // The mode field of an Extended operand.
 pub fn extended_mode_field(base: u8) -> u16
     ensures { λ x. ⌜ (x ≡ extendedModeField base) × (x < 8) ⌝ }
 {
-    if base < 8 { 6 } else { 7 }
+    match IndexBase(base).address_register() {
+        RegisterChoice::Some(_) => 6,
+        RegisterChoice::None => 7,
+    }
 }
 
 // The mode field, three bits.
@@ -171,7 +178,10 @@ pub fn mode_field(operand: Operand) -> u16
 pub fn extended_register_field(base: u8) -> u16
     ensures { λ x. ⌜ (x ≡ extendedRegisterField base) × (x < 8) ⌝ }
 {
-    if base < 8 { (base % 8) as u16 } else { 3 }
+    match IndexBase(base).address_register() {
+        RegisterChoice::Some(n) => (n % 8) as u16,
+        RegisterChoice::None => 3,
+    }
 }
 
 // The register field of an absolute address.
@@ -224,9 +234,9 @@ pub fn ea_field(operand: Operand) -> u16
 
 // An IndexBase up to 8, and a canonical word.
 pub fn is_extended_typed(base: u8, word: u16) -> bool
-    ensures { λ r. ⌜ r ≡ (leb base 8 && isCanonical word) ⌝ }
+    ensures { λ r. ⌜ r ≡ (isBase base && isCanonical word) ⌝ }
 {
-    (base <= 8) & isa_values::extension_word::ExtensionWord(word).is_canonical()
+    IndexBase(base).is_base() & ExtensionWord(word).is_canonical()
 }
 
 // Whether the operand is one of the type's (refusal 1).
@@ -267,68 +277,14 @@ pub fn is_typed(operand: Operand) -> bool
 pub fn is_register(operand: Operand) -> bool
     ensures { λ x. ⌜ x ≡ isRegister operand ⌝ }
 {
-    match operand {
-        Operand::Immediate(_) => false,
-        Operand::Register(_) => true,
-        Operand::Indirect(_) => false,
-        Operand::PostIndirect(_) => false,
-        Operand::PreIndirect(_) => false,
-        Operand::IndirectDisplacement { offset: _, base: _ } => false,
-        Operand::IndirectIndex {
-            base: _,
-            offset: _,
-            index: _,
-        } => false,
-        Operand::PcDisplacement { target: _ } => false,
-        Operand::PcIndex {
-            target: _,
-            index: _,
-        } => false,
-        Operand::Extended {
-            base: _,
-            word: _,
-            displacement: _,
-            outer: _,
-        } => false,
-        Operand::Absolute {
-            address: _,
-            width: _,
-        } => false,
-    }
+    mode_of(operand) < 2
 }
 
 // Whether the operand is an immediate.
 pub fn is_immediate(operand: Operand) -> bool
     ensures { λ x. ⌜ x ≡ isImmediate operand ⌝ }
 {
-    match operand {
-        Operand::Immediate(_) => true,
-        Operand::Register(_) => false,
-        Operand::Indirect(_) => false,
-        Operand::PostIndirect(_) => false,
-        Operand::PreIndirect(_) => false,
-        Operand::IndirectDisplacement { offset: _, base: _ } => false,
-        Operand::IndirectIndex {
-            base: _,
-            offset: _,
-            index: _,
-        } => false,
-        Operand::PcDisplacement { target: _ } => false,
-        Operand::PcIndex {
-            target: _,
-            index: _,
-        } => false,
-        Operand::Extended {
-            base: _,
-            word: _,
-            displacement: _,
-            outer: _,
-        } => false,
-        Operand::Absolute {
-            address: _,
-            width: _,
-        } => false,
-    }
+    mode_of(operand) == 11
 }
 
 // The register that an operand is, D0 where it is none.

@@ -64,7 +64,7 @@ abbrev pub fromMemory : TargetDirection → ℕ
 fromMemory ToMemory = 0
 fromMemory FromMemory = 1
 
--- table 3-19, "Conditional Tests"
+-- the manual, table 3-19, "Conditional Tests"
 abbrev pub conditionCode : Condition → ℕ
 conditionCode condition.True = 0
 conditionCode condition.False = 1

@@ -40,11 +40,14 @@ outerSizeAs indirect.Postindexed w = sizeOfCode w
 abbrev pub outerSize : ℕ → DisplacementSize
 outerSize w = outerSizeAs (indirectionOf w) w
 
--- A full word without a reserved combination: BD SIZE not 00, bit 3 clear, I/IS not 100, and where the index is
--- suppressed I/IS below 100 and the index bits clear. Any brief word is canonical.
-abbrev pub reserved : ℕ → Bool
-reserved w =
-    eqb (w / 16 % 4) 0 || eqb (w / 8 % 2) 1 || cond (indexSuppressed w) (leb 4 (w % 8) || not (eqb (w / 512) 0)) (eqb (w % 8) 4)
+-- reserved for the index: I/IS 100, and where it is suppressed all of 1xx, and index bits that are not clear
+abbrev pub indexReserved : ℕ → Bool
+indexReserved w = cond (indexSuppressed w) (leb 4 (w % 8) || not (eqb (w / 512) 0)) (eqb (w % 8) 4)
 
+-- reserved in a full word: BD SIZE 00, bit 3 set, or what is reserved for the index
+abbrev pub reserved : ℕ → Bool
+reserved w = eqb (w / 16 % 4) 0 || eqb (w / 8 % 2) 1 || indexReserved w
+
+-- any brief word is canonical, and a full one without a reserved combination
 abbrev pub isCanonical : ℕ → Bool
 isCanonical w = not (isFull w) || not (reserved w)

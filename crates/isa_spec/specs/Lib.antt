@@ -2,3 +2,5 @@ pub mod Field
 pub mod ExtensionWord
 pub mod Code
 pub mod Condition
+pub mod IndexBase
+pub mod Mode

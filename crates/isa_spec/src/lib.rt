@@ -1,1 +1,1 @@
-// Definitions alone: fields and their ranges, codes, extension words, conditions.
+// Definitions alone: fields and their ranges, codes, extension words and their bases, conditions, modes and their categories.

@@ -1,4 +1,4 @@
--- Base and outer displacements (the manual, figure 2-2 and table 2-2): their bytes, and the two bits of BD SIZE and of I/IS.
+-- Base and outer displacements (the manual, figure 2-2 and tables 2-1 and 2-2): their bytes, and the two bits of BD SIZE and of I/IS.
 use Prim.Native.Nat.{ℕ}
 use mathlib.Core.Path.{_≡_, refl}
 use Rattle.isa.specs.declared.DisplacementSize.{DisplacementSize}

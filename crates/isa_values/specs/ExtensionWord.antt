@@ -1,7 +1,7 @@
--- Extension words made and read (the manual, section 2.2, figure 2-2 "Brief and Full Extension Word Formats", table 2-2).
+-- Extension words made and read (the manual, section 2.1, figure 2-2 and tables 2-1 and 2-2).
 use Prim.Native.Nat.{ℕ, _+_, _*_, _/_, _%_}
-use mathlib.Core.Bool.{Bool, not, _||_, cond}
-use lib.Dec.{leb, eqb}
+use mathlib.Core.Bool.{Bool, cond}
+use lib.Dec.{eqb}
 use Rattle.isa.specs.declared.Size.{Size}
 use Rattle.isa.specs.declared.Size.the-variants as size
 use Rattle.isa.specs.declared.RegisterOperand.{RegisterOperand}
@@ -37,10 +37,6 @@ index w = cond (indexSuppressed w) choice.None (choice.Some (indexRegister w))
 -- the word and the displacements that follow it
 abbrev pub extensionBytes : ℕ → ℕ
 extensionBytes w = cond (isFull w) (2 + displacementBytes (baseSize w) + displacementBytes (outerSize w)) 2
-
--- I/IS 100 is reserved; where the index is suppressed all of 1xx is, and the index bits are clear
-abbrev pub indexReserved : ℕ → Bool
-indexReserved w = cond (indexSuppressed w) (leb 4 (w % 8) || not (eqb (w / 512) 0)) (eqb (w % 8) 4)
 
 -- a scale other than 2, 4 and 8 counts as 1
 abbrev pub scaleCode : ℕ → ℕ

@@ -1,12 +1,9 @@
--- The base of an Extended operand: A0 to A7 as 0 to 7, the program counter as 8.
+-- The register of an index base.
 use Prim.Native.Nat.{ℕ}
-use mathlib.Core.Bool.{Bool, cond}
-use lib.Dec.{ltb, eqb}
+use mathlib.Core.Bool.{cond}
 use Rattle.isa.specs.declared.RegisterChoice.{RegisterChoice}
 use Rattle.isa.specs.declared.RegisterChoice.the-variants.{None, Some}
-
-abbrev pub isPc : ℕ → Bool
-isPc n = eqb n 8
+use Rattle.isa_spec.specs.IndexBase.{isAddressBase}
 
 abbrev pub addressRegister : ℕ → RegisterChoice
-addressRegister n = cond (ltb n 8) (Some n) None
+addressRegister n = cond (isAddressBase n) (Some n) None

@@ -1,4 +1,4 @@
--- The widths of the sizes (the manual, section 1.3, "Integer Data Formats").
+-- The widths of the sizes (the manual, "Integer Data Formats").
 use Prim.Native.Nat.{ℕ, _*_}
 use mathlib.Core.Path.{_≡_, refl}
 use Rattle.isa.specs.declared.Size.{Size}

@@ -1,8 +1,8 @@
 // Extension words, and what they say.
 ghost use mathlib.Core.Path.{_≡_};
 ghost use Prim.Native.Nat.{_^_, _<_};
-ghost use Rattle.isa_spec.specs.ExtensionWord.{isFull, baseSuppressed, indexSuppressed, baseSize, indirectionOf, outerSize, isCanonical};
-ghost use Rattle.isa_values.specs.ExtensionWord.{indexOperand, indexSize, indexRegister, scaleShift, index, extensionBytes, scaleCode, indexBits, indirectionCode, fullWord, indexReserved};
+ghost use Rattle.isa_spec.specs.ExtensionWord.{isFull, baseSuppressed, indexSuppressed, baseSize, indirectionOf, outerSize, indexReserved, isCanonical};
+ghost use Rattle.isa_values.specs.ExtensionWord.{indexOperand, indexSize, indexRegister, scaleShift, index, extensionBytes, scaleCode, indexBits, indirectionCode, fullWord};
 use crate::code::bit;
 use crate::code::general;
 use crate::code::long_bit;

@@ -1,7 +1,8 @@
 // The base register of an Extended operand.
 ghost use mathlib.Core.Path.{_≡_};
 ghost use Prim.Native.Nat.{_%_};
-ghost use Rattle.isa_values.specs.IndexBase.{isPc, addressRegister};
+ghost use Rattle.isa_spec.specs.IndexBase.{isBase, isPc};
+ghost use Rattle.isa_values.specs.IndexBase.{addressRegister};
 use isa::RegisterChoice;
 
 // A0 to A7 as 0 to 7, the program counter as 8.
@@ -16,6 +17,13 @@ impl IndexBase {
         ensures { λ r. ⌜ r .0 ≡ number % 8 ⌝ }
     {
         IndexBase(number % 8)
+    }
+
+    // Whether it is one: the Rust's type holds no number above 8.
+    pub fn is_base(self) -> bool
+        ensures { λ r. ⌜ r ≡ isBase (self .0) ⌝ }
+    {
+        self.0 <= 8
     }
 
     // Whether it is the program counter.

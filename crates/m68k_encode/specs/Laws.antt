@@ -7,7 +7,7 @@ use lib.IntN.{ℤ}
 use lib.ListN.{length, take, drop, getD, replicate, length-append, length-replicate}
 use native.Mathlib.Omega.{arith}
 use lib.Seq.{take-at}
-use borrow.Author.Tests.{le-leb, lt-leb}
+use borrow.Author.Tests.{lt-ltb, le-ltb, le-leb, lt-leb}
 use Rattle.isa.specs.declared.Field.{Field}
 use Rattle.isa.specs.declared.Instruction.{Instruction}
 use Rattle.isa.specs.declared.Encoded.{Encoded}
@@ -48,12 +48,6 @@ encoded-fine malformed ws h = absurd (omega arith)
 encoded-fine (outOfRange f z) ws h = absurd (omega arith)
 encoded-fine (noEncoding r) ws h = absurd (omega arith)
 
-measured-fine : (v : Verdict) (n : ℕ) → measuredAs v n .number ≡ 0 → v ≡ fine
-measured-fine fine n h = refl
-measured-fine malformed n h = absurd (omega arith)
-measured-fine (outOfRange f z) n h = absurd (omega arith)
-measured-fine (noEncoding r) n h = absurd (omega arith)
-
 pub accepted-fine : (i : Instruction) (a : ℕ) → encodeOf i a .number ≡ 0 → refusalOf true i a ≡ fine
 unfolding encodeOf
 accepted-fine i a h = encoded-fine (refusalOf true i a) (wordsOf i a) h
@@ -68,7 +62,7 @@ pub range-law : (i : Instruction) (a : ℕ) → sizeOf i .number ≡ 0 → OnlyO
 unfolding sizeOf encodeOf
 range-law i a h =
     let s = alike-failure (itemsOf i a) (itemsOf i 0) (instruction-lays i .alike a 0) in
-    outcome (wordsOf i a) (range-only (itemsOf i a) (s ∙ measured-fine (refusalOf false i 0) _ h))
+    outcome (wordsOf i a) (range-only (itemsOf i a) (s ∙ encoded-fine (refusalOf false i 0) [] h))
 
 -- ---- where `encode` accepts, `size` is twice the count
 count-as : (v : Verdict) (ws : List ℕ) → v ≡ fine → encodedAs v ws .count ≡ length ws
@@ -174,7 +168,7 @@ refused-as (outOfRange f z) ws l h = record { answer = refl; lent = refl }
 refused-as (noEncoding r) ws l h = record { answer = refl; lent = refl }
 
 short-as : (v : Verdict) (ws l : List ℕ) → encodedAs v ws .number ≡ 0 → length l < 2 * (encodedAs v ws .count) → Bytes v ws l short l
-short-as fine ws l h m = record { answer = rw (lt-leb (2 * length ws) (length l) m); lent = rw (bytes-length ws, lt-leb (2 * length ws) (length l) m) }
+short-as fine ws l h m = record { answer = rw (lt-ltb (length l) (2 * length ws) m); lent = rw (bytes-length ws, lt-leb (2 * length ws) (length l) m) }
 short-as malformed ws l h m = absurd (omega arith)
 short-as (outOfRange f z) ws l h m = absurd (omega arith)
 short-as (noEncoding r) ws l h m = absurd (omega arith)
@@ -182,7 +176,7 @@ short-as (noEncoding r) ws l h m = absurd (omega arith)
 done-as : (v : Verdict) (ws l : List ℕ) → encodedAs v ws .number ≡ 0 → 2 * (encodedAs v ws .count) ≤ length l
     → Bytes v ws l (measured (encodedAs v ws)) (bytesIn (take (encodedAs v ws .count) (encodedAs v ws .words)) ++ drop (2 * (encodedAs v ws .count)) l)
 done-as fine ws l h m =
-    record { answer = rw (le-leb (2 * length ws) (length l) m); lent = rw (taken ws, bytes-length ws, le-leb (2 * length ws) (length l) m) }
+    record { answer = rw (le-ltb (length l) (2 * length ws) m); lent = rw (taken ws, bytes-length ws, le-leb (2 * length ws) (length l) m) }
 done-as malformed ws l h m = absurd (omega arith)
 done-as (outOfRange f z) ws l h m = absurd (omega arith)
 done-as (noEncoding r) ws l h m = absurd (omega arith)

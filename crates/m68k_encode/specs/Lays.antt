@@ -58,11 +58,12 @@ use Rattle.isa.specs.declared.ConditionCodeOperation.the-variants.{ANDItoCCR, O
 use Rattle.isa.specs.declared.TrapOperand.{TrapOperand}
 use Rattle.isa.specs.declared.TrapOperand.the-variants as trap
 use Rattle.isa.specs.declared.Condition.{Condition}
+use Rattle.isa.specs.declared.Condition.the-variants.{True, False}
 use Rattle.isa.specs.declared.QuickOperation.{QuickOperation}
 use Rattle.isa.specs.declared.Instruction.{Instruction}
 use Rattle.isa.specs.declared.Instruction.the-variants.{IntoRegister, MOVEM, Transfer, Pair, Quick, MOVEQ, ImmediateInto, WordIntoData, SWAP, EXG, UnsizedIntoRegister, UnsizedOne, UnsizedPair, EXT, OneOperand, Bcc, Scc, DBcc, Branch, Link, UNLK, Shift, Vector, Status, ConditionCode, MOVEUSP, Raw, NoOperand, RTD, MOVEC, TRAPcc, MULL, Pack, CAS, CAS2, BF, DIVL}
 use Rattle.isa_spec.specs.Code.{sizeCode}
-use Rattle.encode_spec.specs.Movement.{moveParts, moveaParts, movemParts, movepParts, movepItems, moveqParts, exgParts, linkParts, linklParts, unlkParts}
+use Rattle.encode_spec.specs.Movement.{moveParts, moveaParts, movemParts, movepParts, moveqParts, exgParts, linkParts, linklParts, unlkParts}
 use Rattle.encode_spec.specs.Arithmetic.{immediateParts, quickParts, intoDataParts, arithmeticParts, intoAddressParts, boundsParts, extendedParts, cmpmParts, mullParts, divlParts, tstParts, extParts, swapParts}
 use Rattle.encode_spec.specs.Logic.{logicalParts, shiftParts, shiftRegisterParts, shiftMemoryParts, countItems}
 use Rattle.encode_spec.specs.Bits.{bitParts, dynamicParts, staticParts, bitFieldParts, packParts}
@@ -71,7 +72,8 @@ use Rattle.encode_spec.specs.System.{statusParts, conditionCodeParts, vectorPar
 use Rattle.encode_spec.specs.Instruction.{partsOf, registerParts, transferParts, pairParts, wordParts, unsizedRegisterParts, unsizedOneParts, unsizedPairParts, oneParts, branchesParts, linksParts, packsParts}
 use Rattle.isa_spec.specs.ExtensionWord.{isFull, baseSize, outerSize}
 use Rattle.encode_spec.specs.Item.{Item, Part, Verdict, noEncoding, dataVerdict, operation, word, check, range, fixed, countOf, laid, wordAddress, failure}
-use Rattle.encode_spec.specs.Ea.{immediateWords, displacementItems, fullItems, scaledItems, baseDisplacement, eaItems, effective, single, withData, withAddress, fromData, eaField, isRegister, isImmediate, registerIn, immediateIn, memoryAlterable, dataModes}
+use Rattle.encode_spec.specs.Ea.{immediateWords, displacementItems, fullItems, scaledItems, baseDisplacement, eaItems, effective, single, withData, withAddress, fromData, eaField, isRegister, isImmediate, registerIn, immediateIn, memoryAlterable}
+use Rattle.isa_spec.specs.Mode.{dataColumn}
 use Rattle.encode_facts.specs.Items.{count-append}
 
 -- the same words and checks in the same order, whatever the words hold and the ranges ask
@@ -239,25 +241,25 @@ ea-alike (Extended base w z outer) s a b =
     tt
 ea-alike (Absolute v width) s a b = alike-refl (eaItems (Absolute v width) s a)
 
-pub effective-then : (m n : ℕ) (o : Operand) (s : Size) (allowed reason : ℕ) (ps : List Part) → Lays m n ps → Lays m (5 + n) (effective o s allowed reason ∷ ps)
+pub effective-then : (m n : ℕ) (o : Operand) (s : Size) (allowed : List Bool) (reason : ℕ) (ps : List Part) → Lays m n ps → Lays m (5 + n) (effective o s allowed reason ∷ ps)
 effective-then m n o s allowed reason ps h =
     wider m (5 + n) (0 + m) (5 + n) (effective o s allowed reason ∷ ps) (omega arith) (omega arith)
     (then 0 5 m n (effective o s allowed reason) ps (λ a. omega arith) (λ a. ea-most o s a) (λ a b. (refl, ea-alike o s a b)) h)
 
 -- ---- the forms
-single-lays : (line x opmode : ℕ) (o : Operand) (s : Size) (allowed reason : ℕ) → Lays 1 6 (single line x opmode o s allowed reason)
+single-lays : (line x opmode : ℕ) (o : Operand) (s : Size) (allowed : List Bool) (reason : ℕ) → Lays 1 6 (single line x opmode o s allowed reason)
 unfolding single
 single-lays line x opmode o s allowed reason = fixed-then 0 5 _ _ (effective-then 0 0 o s allowed reason [] none)
 
-data-lays : (line : ℕ) (r : RegisterOperand) (opmode : ℕ) (o : Operand) (s : Size) (allowed reason : ℕ) → Lays 1 6 (withData line r opmode o s allowed reason)
+data-lays : (line : ℕ) (r : RegisterOperand) (opmode : ℕ) (o : Operand) (s : Size) (allowed : List Bool) (reason : ℕ) → Lays 1 6 (withData line r opmode o s allowed reason)
 unfolding withData
 data-lays line r opmode o s allowed reason = fixed-then 0 5 _ _ (effective-then 0 0 o s allowed reason [] none)
 
-address-lays : (line : ℕ) (r : RegisterOperand) (opmode : ℕ) (o : Operand) (s : Size) (allowed reason : ℕ) → Lays 1 6 (withAddress line r opmode o s allowed reason)
+address-lays : (line : ℕ) (r : RegisterOperand) (opmode : ℕ) (o : Operand) (s : Size) (allowed : List Bool) (reason : ℕ) → Lays 1 6 (withAddress line r opmode o s allowed reason)
 unfolding withAddress
 address-lays line r opmode o s allowed reason = fixed-then 0 5 _ _ (effective-then 0 0 o s allowed reason [] none)
 
-from-lays : (line allowed reason : ℕ) (o d : Operand) (s : Size) → Lays 1 6 (fromData line allowed reason o d s)
+from-lays : (line : ℕ) (allowed : List Bool) (reason : ℕ) (o d : Operand) (s : Size) → Lays 1 6 (fromData line allowed reason o d s)
 unfolding fromData
 from-lays line allowed reason o d s = fixed-then 1 6 _ _ (data-lays line _ _ d s allowed reason)
 
@@ -282,24 +284,9 @@ movem-lays : (d : TargetDirection) (s : Size) (mask : ℕ) (o : Operand) → Lay
 unfolding movemParts
 movem-lays d s mask o = upTo 2 7 tt tt (fixed-then 0 5 _ _ (effective-then 0 0 o s _ _ _ none))
 
-movep-most : (o : Operand) → countOf (movepItems o) ≤ 1
-movep-most (Immediate v) = lit≤ tt
-movep-most (Register r) = lit≤ tt
-movep-most (Indirect n) = lit≤ tt
-movep-most (PostIndirect n) = lit≤ tt
-movep-most (PreIndirect n) = lit≤ tt
-movep-most (IndirectDisplacement z base) = lit≤ tt
-movep-most (IndirectIndex base z x) = lit≤ tt
-movep-most (PcDisplacement t) = lit≤ tt
-movep-most (PcIndex t x) = lit≤ tt
-movep-most (Extended base w z outer) = lit≤ tt
-movep-most (Absolute v width) = lit≤ tt
-
 movep-lays : (d : TargetDirection) (s : Size) (r : RegisterOperand) (o : Operand) → Lays 1 11 (movepParts d s r o)
 unfolding movepParts
-movep-lays d s r o =
-    upTo 1 2 tt tt
-    (fixed-then 0 1 _ _ (then 0 1 0 0 (fixed (movepItems o)) _ (λ a. omega arith) (λ a. movep-most o) (λ a b. alike-refl (movepItems o)) (fixed-then 0 0 _ _ none)))
+movep-lays d s r o = upTo 1 6 tt tt (fixed-then 0 5 _ _ (effective-then 0 0 o _ _ _ _ (fixed-then 0 0 _ _ none)))
 
 moveq-lays : (v : ℕ) (r : RegisterOperand) → Lays 1 11 (moveqParts v r)
 unfolding moveqParts
@@ -343,7 +330,7 @@ into-address-lays : (line reason : ℕ) (o : Operand) (r : RegisterOperand) (s :
 unfolding intoAddressParts
 into-address-lays line reason o r s = checked _ refl (upTo 1 6 tt tt (address-lays line r _ o s _ reason))
 
-bounds-lays : (trap : ℕ) (o : Operand) (r : RegisterOperand) (s : Size) → Lays 1 11 (boundsParts trap o r s)
+bounds-lays : (trap : Bool) (o : Operand) (r : RegisterOperand) (s : Size) → Lays 1 11 (boundsParts trap o r s)
 unfolding boundsParts
 bounds-lays trap o r s = upTo 2 7 tt tt (fixed-then 0 5 _ _ (effective-then 0 0 o s _ _ _ none))
 
@@ -354,8 +341,8 @@ register-lays SUBA o r s = into-address-lays 9 37 o r s
 register-lays CMPA o r s = into-address-lays 11 40 o r s
 register-lays MOVEA o r s = movea-lays o r s
 register-lays CMP o r s = into-lays 11 39 o r s
-register-lays CHK2 o r s = bounds-lays 1 o r s
-register-lays CMP2 o r s = bounds-lays 0 o r s
+register-lays CHK2 o r s = bounds-lays true o r s
+register-lays CMP2 o r s = bounds-lays false o r s
 
 extended-lays : (line opmode : ℕ) (o d : Operand) → Lays 1 11 (extendedParts line opmode o d)
 unfolding extendedParts
@@ -382,8 +369,8 @@ one-lays TST o s = checked _ refl (upTo 1 6 tt tt (single-lays _ _ _ o s _ _))
 logical-lays : (line : ℕ) (o d : Operand) (s : Size) → Lays 1 11 (logicalParts line o d s)
 unfolding logicalParts
 logical-lays line o d s =
-    either 1 11 (isRegister d) (withData line (registerIn d) (sizeCode s) o s dataModes 57) (fromData line memoryAlterable 58 o d s)
-    (upTo 1 6 tt tt (data-lays line (registerIn d) (sizeCode s) o s dataModes 57)) (upTo 1 6 tt tt (from-lays line memoryAlterable 58 o d s))
+    either 1 11 (isRegister d) (withData line (registerIn d) (sizeCode s) o s dataColumn 57) (fromData line memoryAlterable 58 o d s)
+    (upTo 1 6 tt tt (data-lays line (registerIn d) (sizeCode s) o s dataColumn 57)) (upTo 1 6 tt tt (from-lays line memoryAlterable 58 o d s))
 
 counter-cond : (b c : Bool) (u v : Verdict) (f : Field) (z : ℤ) → countOf (cond b (check u ∷ []) (cond c (range f z ∷ []) (check v ∷ []))) ≡ 0
 counter-cond true c u v f z = refl
@@ -430,7 +417,7 @@ packs-lays PACK o d n = upTo 2 2 tt tt (fixed-then 0 0 _ _ none)
 packs-lays UNPK o d n = upTo 2 2 tt tt (fixed-then 0 0 _ _ none)
 
 -- ---- program control
-branch-lays : (condition t : ℕ) (s : BranchSize) → Lays 1 11 (branchParts condition t s)
+branch-lays : (condition : Condition) (t : ℕ) (s : BranchSize) → Lays 1 11 (branchParts condition t s)
 unfolding branchParts
 branch-lays condition t branch.Short = upTo 1 1 tt tt (then 1 1 0 0 (shortBranch condition t) _ (λ a. lit≤ tt) (λ a. lit≤ tt) (λ a b. tt) none)
 branch-lays condition t branch.Word = upTo 2 2 tt tt (fixed-then 1 1 _ _ (then 1 1 0 0 (relativeWord _ t) _ (λ a. lit≤ tt) (λ a. lit≤ tt) (λ a b. tt) none))
@@ -442,8 +429,8 @@ bcc-lays t condition s = checked _ refl (branch-lays _ t s)
 
 branches-lays : (op : BranchOperation) (t : ℕ) (s : BranchSize) → Lays 1 11 (branchesParts op t s)
 unfolding branchesParts
-branches-lays BRA t s = branch-lays 0 t s
-branches-lays BSR t s = branch-lays 1 t s
+branches-lays BRA t s = branch-lays True t s
+branches-lays BSR t s = branch-lays False t s
 
 dbcc-lays : (r : RegisterOperand) (t : ℕ) (condition : Condition) → Lays 1 11 (dbccParts r t condition)
 unfolding dbccParts

@@ -27,7 +27,8 @@ use native.Mathlib.Omega.{arith}
 use Rattle.encode_spec.specs.Item.{Item, Part, Verdict, failure, wordsIn, laid, check, fine, malformed, outOfRange, noEncoding, operation, allow}
 use Rattle.isa_spec.specs.Code.{moveCode}
 use Rattle.encode_spec.specs.Encode.{itemsOf, wordsOf, refusalOf, measuredAs, sizeOf}
-use Rattle.encode_spec.specs.Ea.{everyMode, permits, byteOfAddress, eaField, effective, isRegister, isImmediate, typed, single, withData, withAddress, fromData}
+use Rattle.isa_spec.specs.Mode.{everyColumn}
+use Rattle.encode_spec.specs.Ea.{permits, byteOfAddress, eaField, effective, isRegister, isImmediate, typed, single, withData, withAddress, fromData}
 use Rattle.encode_spec.specs.Movement.{moveParts, moveaParts, movemParts, movepParts}
 use Rattle.encode_spec.specs.Arithmetic.{immediateParts, quickParts, intoDataParts, arithmeticParts, intoAddressParts, boundsParts, extendedParts, cmpmParts, mullParts, divlParts, tstParts}
 use Rattle.encode_spec.specs.Logic.{logicalParts, shiftParts, shiftRegisterParts, shiftMemoryParts}
@@ -143,7 +144,7 @@ steady (source {op} {d}) t x =
     let r = isRegister d in
     elim op [ MOVE ↦ refl | ADD ↦ either r F refl refl | SUB ↦ either r F refl refl | ADDX ↦ refl | SUBX ↦ refl | CMPM ↦ refl | OR ↦ either r F refl refl | AND ↦ either r F refl refl | EOR ↦ refl ]
 steady (destination {op} {o} {s}) t x =
-    let xs : ℕ → List Item = λ field. typed o ∷ check fine ∷ operation (moveCode s) field 7 (eaField o) ∷ allow (not (byteOfAddress s o)) 7 ∷ effective o s everyMode 8 2 in
+    let xs : ℕ → List Item = λ field. typed o ∷ check fine ∷ operation (moveCode s) field 7 (eaField o) ∷ allow (not (byteOfAddress s o)) 7 ∷ effective o s everyColumn 8 2 in
     elim op [ MOVE ↦ ap₂ (λ p q. (p, q)) (behind (xs 2) _ _ refl refl) (behind (xs 3) _ _ refl refl) | ADD ↦ refl | SUB ↦ refl | ADDX ↦ refl | SUBX ↦ refl | CMPM ↦ refl | OR ↦ refl | AND ↦ refl | EOR ↦ refl ]
 steady quick t x = refl
 steady (immediate-into {op} {v} {s}) t x = elim s [ size.Byte ↦ refl | size.Word ↦ refl | size.Long ↦ refl ]

@@ -10,7 +10,7 @@ use Rattle.base_spec.specs.Written.{placed, hex4Of, hex8Of, signedOf}
 use Rattle.base_spec.specs.Refused.{tab, fieldText}
 use Rattle.sheet_spec.specs.Names.{bytes}
 use Rattle.isa.specs.declared.Encoded.{Encoded}
-use Rattle.sheet_spec.specs.Sheet.{Sheet, sheetIn, addresses, encoded, wordsIn}
+use Rattle.sheet_spec.specs.Sheet.{Sheet, sheetIn, addresses, encoded, encodedWords}
 use Rattle.sheet_spec.specs.Translate.{Outcome, inOrder, refused, outcomeOf, imageOf, scratchOf}
 use Rattle.print_spec.specs.declared.Output.{Output}
 
@@ -27,7 +27,7 @@ lineText k address words = fieldText k ++ hex8Of address ++ listedWords words ++
 abbrev pub listingFrom : ℕ → List ℕ → List Encoded → List ℕ
 listingFrom k [] es = []
 listingFrom k (a ∷ later) [] = []
-listingFrom k (a ∷ later) (e ∷ es) = lineText k a (wordsIn e) ++ listingFrom (suc k) later es
+listingFrom k (a ∷ later) (e ∷ es) = lineText k a (encodedWords e) ++ listingFrom (suc k) later es
 
 unfoldable pub listingOf : Sheet → List ℕ
 listingOf s = listingFrom 1 (addresses s) (encoded s)

@@ -20,7 +20,10 @@ use Rattle.isa.specs.declared.Instruction.the-variants.{ImmediateInto, Conditio
 use Rattle.isa_spec.specs.Field.{topOf, holds}
 use Rattle.encode_spec.specs.Item.{fine, failure, operation, wordsIn, countOf, wordAddress, Item, Part, malformed, unless, word, range, dataRegister, dataVerdict, laid, noEncoding}
 use Rattle.isa_spec.specs.Code.{sizeCode, registerBits, isByte, longBit, toMemory}
-use Rattle.encode_spec.specs.Ea.{dataAlterable, dataNotImmediate, eaField, typed, immediateWords, immediateItems, dataModes, isTyped, withData, eaItems}
+use Rattle.isa_spec.specs.Mode.{dataColumn, bits}
+use Rattle.isa_facts.specs.Mode.{column-cond}
+use Rattle.encode_facts.specs.Columns.{immediate-column}
+use Rattle.encode_spec.specs.Ea.{permits, dataAlterable, dataNotImmediate, eaField, typed, immediateWords, immediateItems, isTyped, withData, eaItems}
 use Rattle.encode_spec.specs.Arithmetic.{immediateKind, immediateModes, immediateReason, immediateParts}
 use Rattle.encode_spec.specs.System.{conditionCodeOperation, conditionCodeParts, statusOperation, statusParts}
 use Rattle.encode_spec.specs.Encode.{itemsOf}
@@ -40,7 +43,7 @@ use Rattle.base_facts.specs.Tests.{ltb-is, ltb-true, eqb-is, eqb-eq, and-true, 
 use Rattle.isa.specs.declared.RegisterOperand.{RegisterOperand}
 use Rattle.isa.specs.declared.RegisterOperand.the-variants.{Address, Data}
 use Rattle.isa.specs.declared.Operand.the-variants.{Immediate, Register, PostIndirect, IndirectDisplacement}
-use Rattle.encode_spec.specs.Bits.{dynamicModes, dynamicReason, dynamicParts, staticModes, staticReason, staticParts, bitParts}
+use Rattle.encode_spec.specs.Bits.{dynamicReason, dynamicParts, staticReason, staticParts, bitParts}
 use Rattle.encode_spec.specs.Instruction.{unsizedPairParts, typedTwo, transferParts}
 use Rattle.isa.specs.declared.TargetDirection.{TargetDirection}
 use Rattle.isa.specs.declared.TargetDirection.the-variants.{ToMemory, FromMemory}
@@ -56,7 +59,7 @@ use Rattle.read_laws.specs.Tests.{Known, equal, yes, no, known, says, im
 use Rattle.read_laws.specs.MapLaws.{At, at-code, at-below, at-sizes, at-line, in-group, each-size, size-code}
 use Rattle.read_laws.specs.DecodedLaws.{Kind, displaced, post, other, kind?}
 use Rattle.read_laws.specs.LayingLaws.{Passing, passing, passed, checked, tailOf, behind, one-there, Laying, form-is, form-as, laying-reads, laying-encodes, decoded-as, word-as, alone-reads, alone-encodes, either-encodes, one-words}
-use Rattle.read_laws.specs.Operands.{by-kind, data-bits, address-is}
+use Rattle.read_laws.specs.Operands.{is-register, by-kind, data-bits, address-is}
 
 -- ---- an immediate before the destination
 immediate-lt : (v : ℕ) (s : Size) → Passing (immediateItems v s) → v < suc (topOf s)
@@ -86,17 +89,17 @@ stands-immediate v Word h = h .0
 stands-immediate v Long h = h .0
 
 immediate-laying : (a : ℕ) (op : ImmediateOperation) (v : ℕ) (o : Operand) (s : Size)
-    → Laying a (ImmediateInto op v o s) 0 (immediateKind op) (sizeCode s) (immediateSpecifier s) s (immediateModes op) v o (v < suc (topOf s))
+    → Laying a (ImmediateInto op v o s) 0 (immediateKind op) (sizeCode s) (immediateSpecifier s) s (bits (immediateModes op)) v o (v < suc (topOf s))
 unfolding immediateParts
 immediate-laying a op v o s =
     form-as
-    (form-is [] [] (immediateItems v s) (immediateReason op) (wordAddress (wordAddress a 0) (countOf (immediateItems v s) + 1)) refl (immediate-at a v s) refl
+    (form-is [] [] (immediateItems v s) (immediateReason op) (wordAddress (wordAddress a 0) (countOf (immediateItems v s) + 1)) (rw (immediate-column op)) (immediate-at a v s) refl
     (λ c. immediate-words v s (immediate-lt v s c)))
     (immediate-lt v s) (lt-immediate v s)
 
 abbrev ImmediateCode : ImmediateOperation → Type 0
 ImmediateCode op =
-    (immediateAt (immediateKind op) ≡ op) × (cond (eqb (immediateKind op) 6) dataNotImmediate dataAlterable ≡ immediateModes op)
+    (immediateAt (immediateKind op) ≡ op) × (cond (eqb (immediateKind op) 6) (bits dataNotImmediate) (bits dataAlterable) ≡ bits (immediateModes op))
     × ((s : Size) → At group.ImmediateInto 0 (immediateKind op) (sizeCode s))
 
 immediate-code : (op : ImmediateOperation) → ImmediateCode op
@@ -109,9 +112,9 @@ immediate-code EORI = (refl, refl, at-sizes group.ImmediateInto 0 5 refl)
 immediate-code CMPI = (refl, refl, at-sizes group.ImmediateInto 0 6 refl)
 
 -- the forms to CCR and SR stand where these have no mode
-not-sixty : (b : Bool) (ea : ℕ) → permitted (cond b dataNotImmediate dataAlterable) ea ≡ true → eqb ea 60 ≡ false
-not-sixty true ea m = modes-say dataNotImmediate (λ ea. no (eqb ea 60) ∷ []) refl ea m .0
-not-sixty false ea m = modes-say dataAlterable (λ ea. no (eqb ea 60) ∷ []) refl ea m .0
+not-sixty : (b : Bool) (ea : ℕ) → permitted (cond b (bits dataNotImmediate) (bits dataAlterable)) ea ≡ true → eqb ea 60 ≡ false
+not-sixty true ea m = modes-say (bits dataNotImmediate) (λ ea. no (eqb ea 60) ∷ []) refl ea m .0
+not-sixty false ea m = modes-say (bits dataAlterable) (λ ea. no (eqb ea 60) ∷ []) refl ea m .0
 
 pub immediate-into-reads : (a : ℕ) (op : ImmediateOperation) (v : ℕ) (o : Operand) (s : Size) → Accepted a (ImmediateInto op v o s)
     → Reads a (ImmediateInto op v o s)
@@ -204,13 +207,13 @@ pub immediate-into-sound : Sound group.ImmediateInto
 unfolding map
 immediate-into-sound a line x opmode ea hl hx ho he e f h p i r =
     let (w, (m, (u, z))) = in-group group.ImmediateInto (λ l x o. equal (wordOf 0 (immediateKind (immediateAt x)) (sizeCode (sizeAt o)) 0) (wordOf l x o 0)
-    ∷ equal (cond (eqb x 6) dataNotImmediate dataAlterable) (immediateModes (immediateAt x)) ∷ equal l 0 ∷ []) refl line x opmode e in
+    ∷ equal (cond (eqb x 6) (bits dataNotImmediate) (bits dataAlterable)) (bits (immediateModes (immediateAt x))) ∷ equal l 0 ∷ []) refl line x opmode e in
     let s = sizeAt opmode in
     let v = f .value in
     let j = statusDecoded x opmode v in
     let k = ImmediateInto (immediateAt x) v (f .source) s in
     either-encodes a i j k (wordOf line x opmode ea) (toStatus x opmode ea) (alone (immediateSpecifier s))
-    (one (immediateSpecifier s) s ea (cond (eqb x 6) dataNotImmediate dataAlterable)) f h r
+    (one (immediateSpecifier s) s ea (cond (eqb x 6) (bits dataNotImmediate) (bits dataAlterable))) f h r
     (λ q g.
     let (y, o, t) = status-fields x opmode ea q in
     word-as a j _ _ _ (omega arith) (alone-encodes a j _ (immediateSpecifier s) f g (to-status-encodes a x opmode v hx o t (g .1))))
@@ -233,12 +236,12 @@ abbrev staticItems : ℕ → List Item
 staticItems v = range field.BitNumber (pos v) ∷ word (v % 256) ∷ []
 
 static-laying : (a k : ℕ) → k < 4 → (v : ℕ) (d : Operand)
-    → Laying a (UnsizedPair (bitAt k) (Immediate v) d) 0 4 k specifier.Byte Byte (staticModes k) v d (v < 256)
+    → Laying a (UnsizedPair (bitAt k) (Immediate v) d) 0 4 k specifier.Byte Byte (cond (eqb k 0) (bits dataNotImmediate) (bits dataAlterable)) v d (v < 256)
 unfolding bitParts staticParts
 static-laying a k h v d =
     let back : Passing (typed (Immediate v) ∷ staticItems v) → v < 256 = λ c. ltb-is v 256 (sym (bit-number-holds v) ∙ c .1 .0) in
     form-as
-    (form-is (typed (Immediate v) ∷ []) [] (staticItems v) (staticReason k) (wordAddress (wordAddress a 0) 2) (items-are a k h (Immediate v) d) (omega arith) refl
+    (form-is (typed (Immediate v) ∷ []) [] (staticItems v) (staticReason k) (wordAddress (wordAddress a 0) 2) (rw (column-cond (eqb k 0) dataNotImmediate dataAlterable refl refl) (items-are a k h (Immediate v) d)) (omega arith) refl
     (λ c. let l = back c in let z : v % 256 ≡ v = omega arith in rw z))
     back (λ l. (refl, (bit-number-holds v ∙ ltb-true v 256 l, tt)))
 
@@ -249,17 +252,17 @@ static-reads a k h v d (n, e, l) =
 
 -- the bit number in a data register
 dynamic-laying : (a k : ℕ) → k < 4 → (r : RegisterOperand) (d : Operand) (v : ℕ)
-    → Laying a (UnsizedPair (bitAt k) (Register r) d) 0 (registerBits r) (4 + k) specifier.Nothing Byte (dynamicModes k) v d
+    → Laying a (UnsizedPair (bitAt k) (Register r) d) 0 (registerBits r) (4 + k) specifier.Nothing Byte (cond (eqb k 0) (bits dataColumn) (bits dataAlterable)) v d
     (Passing (typed (Register r) ∷ dataRegister r ∷ []))
 unfolding bitParts dynamicParts withData
 dynamic-laying a k h r d v =
-    form-is (typed (Register r) ∷ []) [] (dataRegister r ∷ []) (dynamicReason k) (wordAddress (wordAddress a 0) 1) (items-are a k h (Register r) d) (omega arith)
+    form-is (typed (Register r) ∷ []) [] (dataRegister r ∷ []) (dynamicReason k) (wordAddress (wordAddress a 0) 1) (rw (column-cond (eqb k 0) dataColumn dataAlterable refl refl) (rw (is-register r) at (items-are a k h (Register r) d))) (omega arith)
     refl (λ c. refl)
 
 -- MOVEP stands where these have no mode
-not-address : (b : Bool) (ea : ℕ) → permitted (cond b dataModes dataAlterable) ea ≡ true → eqb (ea / 8) 1 ≡ false
-not-address true ea m = modes-say dataModes (λ ea. no (eqb (ea / 8) 1) ∷ []) refl ea m .0
-not-address false ea m = modes-say dataAlterable (λ ea. no (eqb (ea / 8) 1) ∷ []) refl ea m .0
+not-address : (b : Bool) (ea : ℕ) → permitted (cond b (bits dataColumn) (bits dataAlterable)) ea ≡ true → eqb (ea / 8) 1 ≡ false
+not-address true ea m = modes-say (bits dataColumn) (λ ea. no (eqb (ea / 8) 1) ∷ []) refl ea m .0
+not-address false ea m = modes-say (bits dataAlterable) (λ ea. no (eqb (ea / 8) 1) ∷ []) refl ea m .0
 
 dynamic-at : (x opmode : ℕ) → x < 8 → 4 ≤ opmode → opmode < 8 → At group.DynamicBitMovep 0 x opmode
 unfolding groupAt map
@@ -310,12 +313,12 @@ movepOf direction s r z n = Transfer MOVEP direction s r (IndirectDisplacement z
 movep-encodes : (a : ℕ) (direction : TargetDirection) (s : Size) (r : RegisterOperand) (z : ℤ) (n : ℕ)
     → dataVerdict r ≡ fine → n < 8 → holds field.Displacement z ≡ true → not (isByte s) ≡ true
     → Encodes a (movepOf direction s r z n) (wordOf 0 (registerBits r) (movepMode direction s) (8 + n) ∷ bitsOf z % 65536 ∷ [])
-unfolding transferParts movepParts
+unfolding transferParts movepParts permits
 movep-encodes a direction s r z n d h e b =
     let m : n % 8 ≡ n = omega arith in (
       (
         tt,
-        passed (itemsOf (movepOf direction s r z n) a) (refl, (d, (lt-number n h, (e, (true-unless (not (isByte s)) (noEncoding 6) b, tt))))),
+        passed (itemsOf (movepOf direction s r z n) a) (refl, (d, (refl, (lt-number n h, (e, (true-unless (not (isByte s)) (noEncoding 6) b, tt)))))),
         refl,
       ),
       refl,
@@ -340,12 +343,12 @@ movep-at a direction s r z n d h e b =
 
 pub movep-reads : (a : ℕ) (direction : TargetDirection) (s : Size) (r : RegisterOperand) (o : Operand) → Accepted a (Transfer MOVEP direction s r o)
     → Reads a (Transfer MOVEP direction s r o)
-unfolding transferParts movepParts
+unfolding transferParts movepParts permits
 movep-reads a direction s r o acc = go (kind? o)
   where
     go : Kind o → Reads a (Transfer MOVEP direction s r o)
     go (displaced z base q) =
-        let (t, (d, (b, (e, (y, u))))) = checked a (Transfer MOVEP direction s r (IndirectDisplacement z base)) (rw q at acc) in
+        let (t, (d, (m, (b, (e, (y, u)))))) = checked a (Transfer MOVEP direction s r (IndirectDisplacement z base)) (rw q at acc) in
         let (n, h, k) = address-is base b in
         rw (q, k) (movep-at a direction s r z n d h e (unless-reason (not (isByte s)) 6 y))
     go (post n q) = reason-not 5 (checked a (Transfer MOVEP direction s r (PostIndirect n)) (rw q at acc) .1 .1 .0)

@@ -6,12 +6,14 @@ use native.Mathlib.Omega.{arith}
 use lib.IntN.{ℤ, pos, negsuc}
 use Rattle.base_spec.specs.Signed.{signed32, bitsOf, difference}
 use Rattle.encode_spec.specs.Item.{wordAddress, noEncoding, wordsIn, laid, range, allow}
-use Rattle.encode_spec.specs.Ea.{distance, alterable, dataAlterable, byteOfAddress, eaField, single}
+use Rattle.isa_spec.specs.Mode.{alterableColumn, bits}
+use Rattle.encode_spec.specs.Ea.{distance, dataAlterable, byteOfAddress, eaField, single}
 use Rattle.read_spec.specs.Number.{signed16, reach, signed8}
 use Rattle.read_spec.specs.Decoded.{extended, quickDecoded, wordOf, branchTo, branchDecoded}
 use Rattle.read_operand_laws.specs.Facts.{fits, fits-wider, as-fits32, signed16-low, signed32-low, low-signed32, signed16-fits, distance-reach, reach-distance, count-holds, reach-lt, low-signed16, word-branch-holds, low, low8, short-branch-holds, signed8-fits, low-signed8, signed8-low}
 use Rattle.encode_facts.specs.Items.{address-address, address-lt, unless-reason, true-unless, lt-number}
 use Rattle.isa.specs.declared.Condition.{Condition}
+use Rattle.isa.specs.declared.Condition.the-variants.{True, False}
 use Rattle.isa_facts.specs.Condition.{of-code, code-of, condition-lt}
 use Rattle.isa_spec.specs.Condition.{conditionOf}
 use Rattle.isa_spec.specs.Code.{conditionCode, sizeCode, isByte}
@@ -63,11 +65,11 @@ abbrev quickOpmode : QuickOperation → Size → ℕ
 quickOpmode op s = 4 * quickBit op + sizeCode s
 
 quick-laying : (a : ℕ) (op : QuickOperation) (n : ℕ) (o : Operand) (s : Size) (v : ℕ)
-    → Laying a (Quick op n o s) 5 (n % 8) (quickOpmode op s) specifier.Nothing s (cond (isByte s) dataAlterable alterable) v o
+    → Laying a (Quick op n o s) 5 (n % 8) (quickOpmode op s) specifier.Nothing s (cond (isByte s) (bits dataAlterable) (bits alterableColumn)) v o
     (Passing (range field.Count (pos n) ∷ []))
 unfolding quickParts single
 quick-laying a op n o s v =
-    form-byte alterable dataAlterable 55 refl
+    form-byte (bits alterableColumn) (bits dataAlterable) 55 refl
     (form-as
     (form-behind [] (range field.Count (pos n) ∷ allow (not (byteOfAddress s o)) 55 ∷ []) [] 56 refl refl refl)
     (λ c. (c .1 .0, (c .0, tt))) (λ d. (d .1 .0, (d .0, tt))))
@@ -155,7 +157,7 @@ condition-back c =
     let k : high c * 2 + opmodeOf c / 4 ≡ conditionCode c = omega arith in
     ap conditionOf k ∙ of-code c
 
-scc-laying : (a : ℕ) (o : Operand) (c : Condition) (v : ℕ) → Laying a (Scc o c) 5 (high c) (opmodeOf c) specifier.Nothing Byte dataAlterable v o (Unit {0})
+scc-laying : (a : ℕ) (o : Operand) (c : Condition) (v : ℕ) → Laying a (Scc o c) 5 (high c) (opmodeOf c) specifier.Nothing Byte (bits dataAlterable) v o (Unit {0})
 unfolding sccParts single
 scc-laying a o c v = form-bare [] 35 refl refl
 
@@ -163,7 +165,7 @@ scc-laying a o c v = form-bare [] 35 refl refl
 pub scc-reads : (a : ℕ) (o : Operand) (c : Condition) → Accepted a (Scc o c) → Reads a (Scc o c)
 scc-reads a o c (n, e, l) =
     laying-reads (scc-laying a o c 0) (condition-at c) e n (λ d m.
-    let (t, (u, z)) = modes-say dataAlterable (λ ea. no (eqb (ea / 8) 1) ∷ no (leb 58 ea && leb ea 60) ∷ []) refl (eaField o) m in
+    let (t, (u, z)) = modes-say (bits dataAlterable) (λ ea. no (eqb (ea / 8) 1) ∷ no (leb 58 ea && leb ea 60) ∷ []) refl (eaField o) m in
     (rw (t, u), refl, rw (t, u, condition-back c)))
 
 dbcc-encodes : (a n v : ℕ) (c : Condition) → n < 8 → v < 65536
@@ -245,10 +247,10 @@ conditional-sound a line x opmode ea hl hx ho he e f h p i r =
     let s = Scc (f .source) c in
     let b = leb 58 ea && leb ea 60 in
     either-encodes a i j (cond b t s) (wordOf line x opmode ea) (eqb (ea / 8) 1) (alone specifier.Word)
-    (cond b (alone (trapSpecifier ea)) (one specifier.Nothing Byte ea dataAlterable)) f h r
+    (cond b (alone (trapSpecifier ea)) (one specifier.Nothing Byte ea (bits dataAlterable))) f h r
     (λ q g. word-as a j _ _ _ (omega (arith, w, eqb-eq (ea / 8) 1 q)) (alone-encodes a j _ specifier.Word f g
     (dbcc-encodes a (ea % 8) v c (omega arith) (g .1 .0))))
-    (λ q g. either-encodes a (cond b t s) t s (wordOf line x opmode ea) b (alone (trapSpecifier ea)) (one specifier.Nothing Byte ea dataAlterable) f g refl
+    (λ q g. either-encodes a (cond b t s) t s (wordOf line x opmode ea) b (alone (trapSpecifier ea)) (one specifier.Nothing Byte ea (bits dataAlterable)) f g refl
     (λ q g. word-as a t _ _ _ (omega (arith, w)) (alone-encodes a t _ (trapSpecifier ea) f g (trap-encodes a v c ea he q (g .1))))
     (λ q g. word-as a s _ _ _ (omega (arith, w)) (laying-encodes ea f (scc-laying a (f .source) c v) tt g p (λ n. n) refl (λ e. rw e))))
 
@@ -274,9 +276,13 @@ byte-lt t p branch.Short = omega arith
 byte-lt t p branch.Word = omega arith
 byte-lt t p branch.Long = omega arith
 
-words-as : (a c t : ℕ) (s : BranchSize)
+-- its operation word
+abbrev branchWord : ℕ → ℕ → BranchSize → ℕ → ℕ
+branchWord k t s a = wordOf 6 (k / 2) (4 * (k % 2) + byteOf t (wordAddress a 1) s / 64) (byteOf t (wordAddress a 1) s % 64)
+
+words-as : (a : ℕ) (c : Condition) (t : ℕ) (s : BranchSize)
     → wordsIn (laid (branchParts c t s) a)
-    ≡ wordOf 6 (c / 2) (4 * (c % 2) + byteOf t (wordAddress a 1) s / 64) (byteOf t (wordAddress a 1) s % 64) ∷ specifierWords (kindOf s) (valueOf t (wordAddress a 1) s)
+    ≡ branchWord (conditionCode c) t s a ∷ specifierWords (kindOf s) (valueOf t (wordAddress a 1) s)
 unfolding branchParts
 words-as a c t branch.Short = ap (λ (w : ℕ). w ∷ []) (omega arith)
 words-as a c t branch.Word = refl
@@ -300,13 +306,13 @@ Held branch.Short z = holds field.ShortBranch z ≡ true
 Held branch.Word z = fits (2 ^ 15) z ≡ true
 Held branch.Long z = Unit {0}
 
-held-back : (a c t : ℕ) (s : BranchSize) → Passing (laid (branchParts c t s) a) → Held s (distance t (wordAddress a 1))
+held-back : (a : ℕ) (c : Condition) (t : ℕ) (s : BranchSize) → Passing (laid (branchParts c t s) a) → Held s (distance t (wordAddress a 1))
 unfolding branchParts
 held-back a c t branch.Short p = p .0
 held-back a c t branch.Word p = sym (word-branch-holds (distance t (wordAddress a 1))) ∙ p .0
 held-back a c t branch.Long p = tt
 
-held-there : (a c t : ℕ) (s : BranchSize) → Held s (distance t (wordAddress a 1)) → Passing (laid (branchParts c t s) a)
+held-there : (a : ℕ) (c : Condition) (t : ℕ) (s : BranchSize) → Held s (distance t (wordAddress a 1)) → Passing (laid (branchParts c t s) a)
 unfolding branchParts
 held-there a c t branch.Short h = (h, tt)
 held-there a c t branch.Word h = (word-branch-holds (distance t (wordAddress a 1)) ∙ h, tt)
@@ -324,7 +330,7 @@ layout-as a t branch.Word l h m = (refl, (omega arith, refl), λ k. rw (reach-wo
 layout-as a t branch.Long l h m = (refl, (omega arith, refl, refl), λ k. rw (reach-distance t (wordAddress a 1) l (address-lt a 1)))
 
 -- a part before a branch that lays down no words does not move it
-from-there : (a c t : ℕ) (s : BranchSize) → laid (branchParts c t s) (wordAddress a 0) ≡ laid (branchParts c t s) a
+from-there : (a : ℕ) (c : Condition) (t : ℕ) (s : BranchSize) → laid (branchParts c t s) (wordAddress a 0) ≡ laid (branchParts c t s) a
 unfolding branchParts
 from-there a c t branch.Short = rw (address-address a 0 1)
 from-there a c t branch.Word = rw (address-address a 0 1)
@@ -333,34 +339,36 @@ from-there a c t branch.Long = rw (address-address a 0 1)
 bcc-to : (k t : ℕ) (s : BranchSize) → 2 ≤ k → branchTo k t s ≡ Bcc t (conditionOf k) s
 bcc-to k t s h = rw (eqb-not k 0 (omega arith), eqb-not k 1 (omega arith))
 
-abbrev branchWords : ℕ → ℕ → BranchSize → ℕ → List ℕ
-branchWords k t s a = wordsIn (laid (branchParts k t s) a)
+abbrev branchWords : Condition → ℕ → BranchSize → ℕ → List ℕ
+branchWords c t s a = wordsIn (laid (branchParts c t s) a)
 
 bcc-encodes : (a t : ℕ) (c : Condition) (s : BranchSize) → 2 ≤ conditionCode c → t < 2 ^ 32 → Held s (distance t (wordAddress a 1)) → branchLeftOut t s a ≡ false
-    → Encodes a (Bcc t c s) (branchWords (conditionCode c) t s a)
+    → Encodes a (Bcc t c s) (branchWords c t s a)
 unfolding bccParts
 bcc-encodes a t c s g l h m =
     let k = conditionCode c in
-    let e = passed (itemsOf (Bcc t c s) a) (true-unless (leb 2 k) (noEncoding 36) (leb-true 2 k g), rw (from-there a k t s) (held-there a k t s h)) in
-    ((l, e, m), refl, ap wordsIn (from-there a k t s))
+    let e = passed (itemsOf (Bcc t c s) a) (true-unless (leb 2 k) (noEncoding 36) (leb-true 2 k g), rw (from-there a c t s) (held-there a c t s h)) in
+    ((l, e, m), refl, ap wordsIn (from-there a c t s))
 
 branch-encodes : (a k t : ℕ) (s : BranchSize) → k < 16 → t < 2 ^ 32 → Held s (distance t (wordAddress a 1)) → branchLeftOut t s a ≡ false
-    → Encodes a (branchTo k t s) (wordOf 6 (k / 2) (4 * (k % 2) + byteOf t (wordAddress a 1) s / 64) (byteOf t (wordAddress a 1) s % 64) ∷ specifierWords (kindOf s)
-    (valueOf t (wordAddress a 1) s))
+    → Encodes a (branchTo k t s) (branchWord k t s a ∷ specifierWords (kindOf s) (valueOf t (wordAddress a 1) s))
 unfolding branchesParts
-branch-encodes a k t s hk l h m = rw (← words-as a k t s) (go (eq? k 0) (eq? k 1))
+branch-encodes a k t s hk l h m =
+    subst (Encodes a (branchTo k t s)) (words-as a (conditionOf k) t s ∙ ap (λ (n : ℕ). branchWord n t s a ∷ specifierWords (kindOf s) (valueOf t (wordAddress a 1) s)) c)
+    (go (eq? k 0) (eq? k 1))
   where
-    go : Eq k 0 → Eq k 1 → Encodes a (branchTo k t s) (branchWords k t s a)
+    c : conditionCode (conditionOf k) ≡ k
+    c = code-of k ∙ omega arith
+
+    go : Eq k 0 → Eq k 1 → Encodes a (branchTo k t s) (branchWords (conditionOf k) t s a)
     go (Eq.same z g) y =
-        subst (λ (k : ℕ). Encodes a (branchTo k t s) (branchWords k t s a)) (sym z)
-        ((l, passed (itemsOf (Branch BRA t s) a) (held-there a 0 t s h), m), refl, refl)
+        subst (λ (k : ℕ). Encodes a (branchTo k t s) (branchWords (conditionOf k) t s a)) (sym z)
+        ((l, passed (itemsOf (Branch BRA t s) a) (held-there a True t s h), m), refl, refl)
     go (Eq.other n g) (Eq.same z f) =
-        subst (λ (k : ℕ). Encodes a (branchTo k t s) (branchWords k t s a)) (sym z)
-        ((l, passed (itemsOf (Branch BSR t s) a) (held-there a 1 t s h), m), refl, refl)
+        subst (λ (k : ℕ). Encodes a (branchTo k t s) (branchWords (conditionOf k) t s a)) (sym z)
+        ((l, passed (itemsOf (Branch BSR t s) a) (held-there a False t s h), m), refl, refl)
     go (Eq.other n g) (Eq.other x f) =
-        let c : conditionCode (conditionOf k) ≡ k = code-of k ∙ omega arith in
-        let w = ap (λ (n : ℕ). branchWords n t s a) c in
-        rw (bcc-to k t s (omega (arith, n, x)), ← w) (bcc-encodes a t (conditionOf k) s (rw c (omega (arith, n, x))) l h m)
+        rw (bcc-to k t s (omega (arith, n, x))) (bcc-encodes a t (conditionOf k) s (rw c (omega (arith, n, x))) l h m)
 
 branch-at : (x opmode : ℕ) → x < 8 → opmode < 8 → At group.Branch 6 x opmode
 unfolding groupAt map
@@ -381,8 +389,8 @@ reads-as a c t s hc l h m =
 
 pub branch-reads : (a : ℕ) (op : BranchOperation) (t : ℕ) (s : BranchSize) → Accepted a (Branch op t s) → Reads a (Branch op t s)
 unfolding branchesParts
-branch-reads a BRA t s h = reads-as a 0 t s (omega arith) (h .0) (held-back a 0 t s (checked a (Branch BRA t s) h)) (h .2)
-branch-reads a BSR t s h = reads-as a 1 t s (omega arith) (h .0) (held-back a 1 t s (checked a (Branch BSR t s) h)) (h .2)
+branch-reads a BRA t s h = reads-as a 0 t s (omega arith) (h .0) (held-back a True t s (checked a (Branch BRA t s) h)) (h .2)
+branch-reads a BSR t s h = reads-as a 1 t s (omega arith) (h .0) (held-back a False t s (checked a (Branch BSR t s) h)) (h .2)
 
 pub bcc-reads : (a t : ℕ) (c : Condition) (s : BranchSize) → Accepted a (Bcc t c s) → Reads a (Bcc t c s)
 unfolding bccParts
@@ -390,7 +398,7 @@ bcc-reads a t c s h =
     let k = conditionCode c in
     let (p, q) = checked a (Bcc t c s) h in
     let e = bcc-to k t s (leb-is 2 k (unless-reason (leb 2 k) 36 p)) ∙ ap (λ (c : Condition). Bcc t c s) (of-code c) in
-    subst (Reads a) e (reads-as a k t s (condition-lt c) (h .0) (held-back a k t s (rw (from-there a k t s) at q)) (h .2))
+    subst (Reads a) e (reads-as a k t s (condition-lt c) (h .0) (held-back a c t s (rw (from-there a c t s) at q)) (h .2))
 
 -- what a byte and a value name
 abbrev Jump : ℕ → ℕ → ℕ → ℕ → BranchSize → Type 0

@@ -5,13 +5,14 @@ use mathlib.Core.Bool.{Bool, true, false, false≢true, cond}
 use mathlib.Core.List.{List, [], _∷_}
 use native.Mathlib.Omega.{arith}
 use lib.Dec.{eqb}
+use lib.ListN.{getD}
 use Rattle.isa.specs.declared.AddressWidth.the-variants as width
 use Rattle.isa.specs.declared.RegisterOperand.the-variants.{Address, Data}
 use Rattle.isa.specs.declared.Size.{Size}
 use Rattle.isa.specs.declared.Operand.{Operand}
 use Rattle.isa.specs.declared.Operand.the-variants.{Immediate, Register, Indirect, PostIndirect, PreIndirect, IndirectDisplacement, IndirectIndex, PcDisplacement, PcIndex, Extended, Absolute}
 use Rattle.isa.specs.declared.Instruction.{Instruction}
-use Rattle.encode_spec.specs.Ea.{modeOf}
+use Rattle.encode_spec.specs.Ea.{modeOf, permits}
 use Rattle.read_spec.specs.declared.Group.{Group}
 use Rattle.read_spec.specs.declared.Group.the-variants as group
 use Rattle.read_spec.specs.declared.Tail.{Tail}
@@ -24,8 +25,8 @@ use Rattle.read_operand_laws.specs.TailStands.{TailStands}
 use lib.IntN.{ℤ}
 use Rattle.isa.specs.declared.RegisterOperand.{RegisterOperand}
 use Rattle.isa.specs.declared.Size.the-variants.{Byte, Word}
-use Rattle.encode_spec.specs.Item.{check, noEncoding}
-use Rattle.encode_spec.specs.Movement.{movepItems}
+use Rattle.isa_spec.specs.IndexBase.{isPc}
+use Rattle.isa_spec.specs.Mode.{only}
 use Rattle.read_spec.specs.Operand.{modeAt}
 use Rattle.read_spec.specs.Operation.{sizeAt}
 use Rattle.read_operand_laws.specs.Stands.{Stands}
@@ -69,11 +70,12 @@ live-flat (more k) l = l
 pub data Kind (o : Operand) : Type 0 where
   displaced : (z : ℤ) (base : RegisterOperand) → o ≡ IndirectDisplacement z base → Kind o
   post : (n : ℕ) → o ≡ PostIndirect n → Kind o
-  other : (modeOf o ≡ 5 → ⊥) → (movepItems o ≡ check (noEncoding 5) ∷ [])
+  other : (modeOf o ≡ 5 → ⊥) → (permits (only 5) o ≡ false)
       × ((x opmode : ℕ) → movepDecoded x opmode o ≡ fail) × ((s : Size) (d : Operand) → cmpmDecoded s o d ≡ fail) × ((s : Size) (y : ℕ) → cmpmTo s y o ≡ fail)
       → Kind o
 
 pub kind? : (o : Operand) → Kind o
+unfolding permits
 kind? (Immediate v) = other (λ e. omega (arith, e)) (refl, λ x p. refl, λ s d. refl, λ s y. refl)
 kind? (Register (Address n)) = other (λ e. omega (arith, e)) (refl, λ x p. refl, λ s d. refl, λ s y. refl)
 kind? (Register (Data n)) = other (λ e. omega (arith, e)) (refl, λ x p. refl, λ s d. refl, λ s y. refl)
@@ -84,8 +86,12 @@ kind? (IndirectDisplacement z base) = displaced z base refl
 kind? (IndirectIndex base z i) = other (λ e. omega (arith, e)) (refl, λ x p. refl, λ s d. refl, λ s y. refl)
 kind? (PcDisplacement t) = other (λ e. omega (arith, e)) (refl, λ x p. refl, λ s d. refl, λ s y. refl)
 kind? (PcIndex t i) = other (λ e. omega (arith, e)) (refl, λ x p. refl, λ s d. refl, λ s y. refl)
-kind? (Extended base w z outer) = other (go (eqb base 8)) (refl, λ x p. refl, λ s d. refl, λ s y. refl)
+kind? (Extended base w z outer) = other (go (isPc base)) (not-five (isPc base), λ x p. refl, λ s d. refl, λ s y. refl)
   where
+    not-five : (b : Bool) → getD (only 5) (cond b 10 6) false ≡ false
+    not-five true = refl
+    not-five false = refl
+
     go : (b : Bool) → _≡_ {A = ℕ} (cond b 10 6) 5 → ⊥
     go true e = omega (arith, e)
     go false e = omega (arith, e)

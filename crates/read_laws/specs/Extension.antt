@@ -13,7 +13,8 @@ use Rattle.isa.specs.declared.Operand.{Operand}
 use Rattle.isa.specs.declared.Instruction.the-variants.{IntoRegister, Transfer, MULL, DIVL, CAS, CAS2}
 use Rattle.encode_spec.specs.Item.{numberVerdict, fine, word, register, noEncoding, allow}
 use Rattle.isa_spec.specs.Code.{sizeCode, numberOfRegister, toMemory, bit, longBit, isByte, general}
-use Rattle.encode_spec.specs.Ea.{control, memoryAlterable, dataModes, eaField}
+use Rattle.isa_spec.specs.Mode.{controlColumn, dataColumn, bits}
+use Rattle.encode_spec.specs.Ea.{memoryAlterable, eaField}
 use Rattle.encode_spec.specs.Arithmetic.{boundsParts, signedBit, highNumber, highBits, mullParts, divlParts}
 use Rattle.encode_spec.specs.Instruction.{registerParts, transferParts}
 use Rattle.encode_spec.specs.Encode.{itemsOf}
@@ -50,11 +51,11 @@ abbrev boundsAt : ℕ → RegisterOperation
 boundsAt trap = cond (eqb trap 1) CHK2 CMP2
 
 bounds-laying : (a trap : ℕ) → trap < 2 → (o : Operand) (r : RegisterOperand) (s : Size) (v : ℕ) → generalWord r trap ≡ v
-    → Laying a (IntoRegister (boundsAt trap) o r s) 0 (sizeCode s) 3 specifier.General s control v o (Passing (register (numberOfRegister r) ∷ []))
+    → Laying a (IntoRegister (boundsAt trap) o r s) 0 (sizeCode s) 3 specifier.General s (bits controlColumn) v o (Passing (register (numberOfRegister r) ∷ []))
 unfolding registerParts boundsParts
 bounds-laying a trap h o r s v e = go (eq? trap 1)
   where
-    go : Eq trap 1 → Laying a (IntoRegister (boundsAt trap) o r s) 0 (sizeCode s) 3 specifier.General s control v o (Passing (register (numberOfRegister r) ∷ []))
+    go : Eq trap 1 → Laying a (IntoRegister (boundsAt trap) o r s) 0 (sizeCode s) 3 specifier.General s (bits controlColumn) v o (Passing (register (numberOfRegister r) ∷ []))
     go (Eq.same p g) =
         rw g (form-word (register (numberOfRegister r) ∷ word (generalWord r 1) ∷ []) 49 refl refl (ap (λ (w : ℕ). w ∷ []) (rw p at e)))
     go (Eq.other p g) =
@@ -91,7 +92,7 @@ bounds-sound a line x opmode ea hl hx ho he e f h p i r =
 
 -- ---- MOVES
 moves-laying : (a : ℕ) (direction : TargetDirection) (s : Size) (r : RegisterOperand) (o : Operand) (v : ℕ) → generalWord r (toMemory direction) ≡ v
-    → Laying a (Transfer MOVES direction s r o) 0 7 (sizeCode s) specifier.General s memoryAlterable v o (Passing (register (numberOfRegister r) ∷ []))
+    → Laying a (Transfer MOVES direction s r o) 0 7 (sizeCode s) specifier.General s (bits memoryAlterable) v o (Passing (register (numberOfRegister r) ∷ []))
 unfolding transferParts movesParts
 moves-laying a direction s r o v e =
     form-word (register (numberOfRegister r) ∷ word (generalWord r (toMemory direction)) ∷ []) 24 refl refl (ap (λ (w : ℕ). w ∷ []) e)
@@ -171,7 +172,7 @@ abbrev divlWord : ℕ → ℕ → Bool → Sign → ℕ
 divlWord q r wide sign = longWord (q % 8) (signedBit sign) (bit wide) (r % 8)
 
 divl-laying : (a : ℕ) (o : Operand) (q r : ℕ) (wide : Bool) (sign : Sign) (v : ℕ) → divlWord q r wide sign ≡ v
-    → Laying a (DIVL o q r wide sign) 4 6 1 specifier.Divide Long dataModes v o (Passing (register q ∷ register r ∷ []))
+    → Laying a (DIVL o q r wide sign) 4 6 1 specifier.Divide Long (bits dataColumn) v o (Passing (register q ∷ register r ∷ []))
 unfolding divlParts
 divl-laying a o q r wide sign v e =
     form-word (register q ∷ register r ∷ word (divlWord q r wide sign) ∷ []) 29 refl refl (ap (λ (w : ℕ). w ∷ []) e)
@@ -228,7 +229,7 @@ is-high v e = go (eq? (v / 1024 % 2) 1)
     go (Eq.other p g) = let z = eqb-eq (v % 8) 0 (rw g at e) in rw g (omega (arith, p), sym z, omega arith)
 
 mull-laying : (a : ℕ) (o : Operand) (low : ℕ) (high : RegisterChoice) (sign : Sign) (v : ℕ) → mullWord low high sign ≡ v
-    → Laying a (MULL o low high sign) 4 6 0 specifier.Multiply Long dataModes v o (Passing (register (highNumber high) ∷ register low ∷ []))
+    → Laying a (MULL o low high sign) 4 6 0 specifier.Multiply Long (bits dataColumn) v o (Passing (register (highNumber high) ∷ register low ∷ []))
 unfolding mullParts
 mull-laying a o low high sign v e =
     form-word (register (highNumber high) ∷ register low ∷ word (mullWord low high sign) ∷ []) 28 refl refl (ap (λ (w : ℕ). w ∷ []) e)
@@ -265,7 +266,7 @@ abbrev casWord : ℕ → ℕ → ℕ
 casWord compare update = update % 8 * 64 + compare % 8
 
 cas-laying : (a compare update : ℕ) (o : Operand) (s : Size) (v : ℕ) → casWord compare update ≡ v
-    → Laying a (CAS compare update o s) 0 (5 + sizeCode s) 3 specifier.Compare s memoryAlterable v o (Passing (register update ∷ register compare ∷ []))
+    → Laying a (CAS compare update o s) 0 (5 + sizeCode s) 3 specifier.Compare s (bits memoryAlterable) v o (Passing (register update ∷ register compare ∷ []))
 unfolding casParts
 cas-laying a compare update o s v e =
     form-word (register update ∷ register compare ∷ word (casWord compare update) ∷ []) 30 refl refl (ap (λ (w : ℕ). w ∷ []) e)
@@ -336,7 +337,7 @@ cas-reads a compare update o s (n, e, l) =
     let k : 5 + sizeCode s - 5 ≡ sizeCode s = omega arith in
     laying-reads (cas-laying a compare update o s (casWord compare update) refl) (cas-at s) e n (λ c m.
     let f = cas-fields compare update (number-lt compare (c .1 .0)) (number-lt update (c .0)) in
-    let t = modes-say memoryAlterable (λ ea. no (eqb ea 60) ∷ []) refl (eaField o) m .0 in
+    let t = modes-say (bits memoryAlterable) (λ ea. no (eqb ea 60) ∷ []) refl (eaField o) m .0 in
     (rw (t, k, size-code s), f .2, rw (t, k, size-code s, f .0, f .1)))
 
 -- the code of a word or a long
@@ -405,7 +406,7 @@ cas-sound a line x opmode ea hl hx ho he e f h p i r =
     let low = v % 65536 in
     let j = cas2Decoded x high low in
     let k = CAS (v % 8) (v / 64 % 8) (f .source) s in
-    either-encodes a i j k (wordOf line x opmode ea) (eqb ea 60 && leb 6 x) (alone specifier.CompareTwo) (one specifier.Compare s ea memoryAlterable) f h r
+    either-encodes a i j k (wordOf line x opmode ea) (eqb ea 60 && leb 6 x) (alone specifier.CompareTwo) (one specifier.Compare s ea (bits memoryAlterable)) f h r
     (λ q g.
     let (y, z) = and-true (eqb ea 60) _ q in
     let (n, (b, (o, c))) = says (equal (6 + longBit s) x ∷ yes (not (isByte s)) ∷ equal (wordOf line x opmode 0) (wordOf 0 x 3 0) ∷ []) (rw z at t) in

@@ -15,6 +15,7 @@ use Rattle.isa.specs.declared.Instruction.{Instruction}
 use Rattle.isa.specs.declared.Instruction.the-variants.{Pair, UnsizedPair, Pack, EXG}
 use Rattle.encode_spec.specs.Item.{fine, numberVerdict, Item, allow, register, dataRegister, failure, noEncoding}
 use Rattle.isa_spec.specs.Code.{sizeCode, registerBits, numberOfRegister, general}
+use Rattle.isa_spec.specs.Mode.{bits}
 use Rattle.encode_spec.specs.Ea.{memoryAlterable, permits, isRegister, registerIn, eaField, fromData, registerField, registerNumber, bothOf, paired, memoryBit, dataAlterable, modeOf, typed, withData}
 use Rattle.encode_spec.specs.Arithmetic.{arithmeticParts, extendedParts, cmpmParts}
 use Rattle.encode_spec.specs.Logic.{logicalParts}
@@ -76,12 +77,12 @@ abbrev memoryLines : List ℕ
 memoryLines = 8 ∷ 9 ∷ 12 ∷ 13 ∷ []
 
 pair-laying : (a v : ℕ) (o d : Operand) (s : Size) → isRegister d ≡ false → (line : ℕ) → among memoryLines line ≡ true
-    → FromLaying a v memoryAlterable o d s (pairAt line) line
+    → FromLaying a v (bits memoryAlterable) o d s (pairAt line) line
 unfolding pairParts arithmeticParts logicalParts fromData withData
 pair-laying a v o d s e =
     let pre = allow (isRegister o) 3 ∷ [] in
     let xs = dataRegister (registerIn o) ∷ [] in
-    each (λ line. FromLaying a v memoryAlterable o d s (pairAt line) line) memoryLines (
+    each (λ line. FromLaying a v (bits memoryAlterable) o d s (pairAt line) line) memoryLines (
       form-behind (typed o ∷ []) pre xs 58 (rw e) refl refl,
       (
         form-behind (typed o ∷ []) pre xs 60 (rw e) refl refl,
@@ -98,8 +99,8 @@ memory-not = by-register (λ d. permits memoryAlterable d ≡ true → isRegiste
     register-not (Data n) h = sym h
 
 -- below 16 are the registers
-memory-ea : (ea : ℕ) → permitted memoryAlterable ea ≡ true → ltb ea 16 ≡ false
-memory-ea ea m = modes-say memoryAlterable (λ ea. no (ltb ea 16) ∷ []) refl ea m .0
+memory-ea : (ea : ℕ) → permitted (bits memoryAlterable) ea ≡ true → ltb ea 16 ≡ false
+memory-ea ea m = modes-say (bits memoryAlterable) (λ ea. no (ltb ea 16) ∷ []) refl ea m .0
 
 -- where a group has the form
 abbrev Slot : Group → PairOperation → ℕ → ℕ → Size → Type 0
@@ -129,16 +130,16 @@ from-encodes a x ea op line modes s f hx form h p =
 -- beside another form, which a test says
 beside-encodes : (a line x ea : ℕ) (s : Size) (k : Specifier) (f : Tail) (i j : Instruction) (b : Bool) → among memoryLines line ≡ true → x < 8
     → (b ≡ true → SpecifierStands k (f .value) → Encodes a j (wordOf line x (4 + sizeCode s) ea ∷ specifierWords k (f .value)))
-    → TailStands a (cond b (alone k) (one specifier.Nothing s ea memoryAlterable)) f → plainTail f ≡ f
+    → TailStands a (cond b (alone k) (one specifier.Nothing s ea (bits memoryAlterable))) f → plainTail f ≡ f
     → _≡_ {A = Tree Instruction} (ret (cond b j (Pair (pairAt line) (dataOperand x) (f .source) s))) (ret i)
-    → Encodes a i (wordOf line x (4 + sizeCode s) ea ∷ tailWords a (cond b (alone k) (one specifier.Nothing s ea memoryAlterable)) f)
+    → Encodes a i (wordOf line x (4 + sizeCode s) ea ∷ tailWords a (cond b (alone k) (one specifier.Nothing s ea (bits memoryAlterable))) f)
 beside-encodes a line x ea s k f i j b t hx g h p r =
     either-encodes a i j (Pair (pairAt line) (dataOperand x) (f .source) s) (wordOf line x (4 + sizeCode s) ea) b (alone k)
-    (one specifier.Nothing s ea memoryAlterable) f h r
+    (one specifier.Nothing s ea (bits memoryAlterable)) f h r
     (λ q h. alone-encodes a j _ k f h (g q (h .1)))
     (λ q h.
-    let e = memory-not (f .source) (one-back a specifier.Nothing s ea memoryAlterable f h .0 .0) in
-    from-encodes a x ea (pairAt line) line memoryAlterable s f hx (pair-laying a (f .value) (dataOperand x) (f .source) s e line t) h p)
+    let e = memory-not (f .source) (one-back a specifier.Nothing s ea (bits memoryAlterable) f h .0 .0) in
+    from-encodes a x ea (pairAt line) line (bits memoryAlterable) s f hx (pair-laying a (f .value) (dataOperand x) (f .source) s e line t) h p)
 
 -- ---- the forms Dy,Dx and -(Ay),-(Ax): x in bits 11 to 9, y in bits 2 to 0, and bit 3 says which; what the encoder checks of them
 abbrev pairingChecks : ℕ → Operand → Operand → List Item
@@ -223,7 +224,7 @@ arithmetic-at line t s x =
     at-among group.ArithmeticExtended arithmeticLines (4 ∷ 5 ∷ 6 ∷ []) refl line (4 + sizeCode s) x t
     (each-size (λ s. among (4 ∷ 5 ∷ 6 ∷ []) (4 + sizeCode s) ≡ true) refl refl refl s)
 
-arithmetic-slot : (line : ℕ) → among arithmeticLines line ≡ true → (s : Size) → Slot group.ArithmeticExtended (pairAt line) line memoryAlterable s
+arithmetic-slot : (line : ℕ) → among arithmeticLines line ≡ true → (s : Size) → Slot group.ArithmeticExtended (pairAt line) line (bits memoryAlterable) s
 arithmetic-slot line t s =
     (arithmetic-at line t s, (λ x ea m. rw (upper-size s, memory-ea ea m)), (λ a x ea v o d m. rw (upper-size s, memory-ea ea m)))
 
@@ -264,7 +265,7 @@ decimal-at : (line : ℕ) → among decimalLines line ≡ true → (x : ℕ) →
 unfolding groupAt map
 decimal-at line t x = at-among group.LogicDecimal decimalLines (4 ∷ []) refl line 4 x t refl
 
-decimal-slot : (line : ℕ) → among decimalLines line ≡ true → Slot group.LogicDecimal (pairAt line) line memoryAlterable Byte
+decimal-slot : (line : ℕ) → among decimalLines line ≡ true → Slot group.LogicDecimal (pairAt line) line (bits memoryAlterable) Byte
 decimal-slot line t = (decimal-at line t, (λ x ea m. rw (memory-ea ea m)), (λ a x ea v o d m. rw (memory-ea ea m)))
 
 decimal-joins : (a : ℕ) (line : ℕ) → among decimalLines line ≡ true → Joins a (UnsizedPair (decimalAt line)) 62 line 4 []
@@ -301,7 +302,7 @@ pack-at : (opmode : ℕ) → among opmodes opmode ≡ true → (x : ℕ) → x <
 unfolding groupAt map
 pack-at opmode t x = at-among group.LogicPack (8 ∷ []) opmodes refl 8 opmode x refl t
 
-pack-slot : (s : Size) → among opmodes (4 + sizeCode s) ≡ true → Slot group.LogicPack OR 8 memoryAlterable s
+pack-slot : (s : Size) → among opmodes (4 + sizeCode s) ≡ true → Slot group.LogicPack OR 8 (bits memoryAlterable) s
 pack-slot s t = (pack-at (4 + sizeCode s) t, (λ x ea m. rw (upper-size s, memory-ea ea m)), (λ a x ea v o d m. rw (upper-size s, memory-ea ea m)))
 
 pack-joins : (a adjustment : ℕ) → adjustment < 65536 → (opmode : ℕ) → among opmodes opmode ≡ true
@@ -342,7 +343,7 @@ exchange-at : (opmode : ℕ) → among opmodes opmode ≡ true → (x : ℕ) →
 unfolding groupAt map
 exchange-at opmode t x = at-among group.LogicExchange (12 ∷ []) opmodes refl 12 opmode x refl t
 
-exchange-slot : (s : Size) → among opmodes (4 + sizeCode s) ≡ true → Slot group.LogicExchange AND 12 memoryAlterable s
+exchange-slot : (s : Size) → among opmodes (4 + sizeCode s) ≡ true → Slot group.LogicExchange AND 12 (bits memoryAlterable) s
 exchange-slot s t = (exchange-at (4 + sizeCode s) t, (λ x ea m. rw (upper-size s, memory-ea ea m)), (λ a x ea v o d m. rw (upper-size s, memory-ea ea m)))
 
 abbrev Exchanging : RegisterOperand → RegisterOperand → Type 0
@@ -416,7 +417,7 @@ logic-exchange-sound a line x opmode ea hl hx ho he e f h p i r =
 
 -- ---- OR SUB AND ADD: a group for each size
 abbrev Slots : ℕ → Size → Type 0
-Slots line s = (sh : Group) × Slot sh (pairAt line) line memoryAlterable s
+Slots line s = (sh : Group) × Slot sh (pairAt line) line (bits memoryAlterable) s
 
 pair-as : (line : ℕ) → among memoryLines line ≡ true → ((s : Size) → Slots line s)
     → ((a : ℕ) (o : Operand) (r : RegisterOperand) (s : Size) → Accepted a (Pair (pairAt line) o (Register r) s) → Reads a
@@ -424,7 +425,7 @@ pair-as : (line : ℕ) → among memoryLines line ≡ true → ((s : Size) → S
     → (a : ℕ) (o d : Operand) (s : Size) → Accepted a (Pair (pairAt line) o d s) → Reads a (Pair (pairAt line) o d s)
 pair-as line t slots into a o d s =
     by-register (λ d. Accepted a (Pair (pairAt line) o d s) → Reads a (Pair (pairAt line) o d s)) (λ r. into a o r s)
-    (λ d e. from-reads a (slots s .0) (pairAt line) line memoryAlterable o d s (slots s .1) (pair-laying a 0 o d s e line t)) d
+    (λ d e. from-reads a (slots s .0) (pairAt line) line (bits memoryAlterable) o d s (slots s .1) (pair-laying a 0 o d s e line t)) d
 
 pub add-reads : (a : ℕ) (o d : Operand) (s : Size) → Accepted a (Pair ADD o d s) → Reads a (Pair ADD o d s)
 add-reads = pair-as 13 refl (λ s. (group.ArithmeticExtended, arithmetic-slot 13 refl s)) (into-reads 13 refl)
@@ -451,19 +452,19 @@ compare-at x s =
     at-among group.LogicCompare (11 ∷ []) (4 ∷ 5 ∷ 6 ∷ []) refl 11 (4 + sizeCode s) x refl
     (each-size (λ s. among (4 ∷ 5 ∷ 6 ∷ []) (4 + sizeCode s) ≡ true) refl refl refl s)
 
-not-address : (ea : ℕ) → permitted dataAlterable ea ≡ true → eqb (ea / 8) 1 ≡ false
-not-address ea m = modes-say dataAlterable (λ ea. no (eqb (ea / 8) 1) ∷ []) refl ea m .0
+not-address : (ea : ℕ) → permitted (bits dataAlterable) ea ≡ true → eqb (ea / 8) 1 ≡ false
+not-address ea m = modes-say (bits dataAlterable) (λ ea. no (eqb (ea / 8) 1) ∷ []) refl ea m .0
 
-eor-slot : (s : Size) → Slot group.LogicCompare EOR 11 dataAlterable s
+eor-slot : (s : Size) → Slot group.LogicCompare EOR 11 (bits dataAlterable) s
 eor-slot s = ((λ x. compare-at x s), (λ x ea m. rw (upper-size s, not-address ea m)), (λ a x ea v o d m. rw (upper-size s, not-address ea m)))
 
-eor-laying : (a v : ℕ) (o d : Operand) (s : Size) → FromLaying a v dataAlterable o d s EOR 11
+eor-laying : (a v : ℕ) (o d : Operand) (s : Size) → FromLaying a v (bits dataAlterable) o d s EOR 11
 unfolding pairParts fromData withData
 eor-laying a v o d s =
     form-behind (typed o ∷ []) (allow (isRegister o) 3 ∷ []) (dataRegister (registerIn o) ∷ []) 42 refl refl refl
 
 pub eor-reads : (a : ℕ) (o d : Operand) (s : Size) → Accepted a (Pair EOR o d s) → Reads a (Pair EOR o d s)
-eor-reads a o d s = from-reads a group.LogicCompare EOR 11 dataAlterable o d s (eor-slot s) (eor-laying a 0 o d s)
+eor-reads a o d s = from-reads a group.LogicCompare EOR 11 (bits dataAlterable) o d s (eor-slot s) (eor-laying a 0 o d s)
 
 abbrev cmpmOf : Size → ℕ → ℕ → Instruction
 cmpmOf s x y = Pair CMPM (PostIndirect y) (PostIndirect x) s
@@ -522,14 +523,14 @@ logic-compare-sound a line x opmode ea hl hx ho he e f h p i r =
     both : Layout
     both = two specifier.Nothing Byte (24 + ea % 8) 8 (24 + x) 8
 
-    go : (b : Bool) → eqb (ea / 8) 1 ≡ b → TailStands a (cond b both (one specifier.Nothing s ea dataAlterable)) f
+    go : (b : Bool) → eqb (ea / 8) 1 ≡ b → TailStands a (cond b both (one specifier.Nothing s ea (bits dataAlterable))) f
         → cond b (cmpmDecoded s (f .source) (f .destination)) (ret (Pair EOR (dataOperand x) (f .source) s)) ≡ ret i
-        → Encodes a i (wordOf 11 x (4 + sizeCode s) ea ∷ tailWords a (cond b both (one specifier.Nothing s ea dataAlterable)) f)
+        → Encodes a i (wordOf 11 x (4 + sizeCode s) ea ∷ tailWords a (cond b both (one specifier.Nothing s ea (bits dataAlterable))) f)
     go true g h r =
         let y = post-is Byte _ (ea % 8) (f .source) (omega arith) (h .2) in
         let d = post-is Byte _ x (f .destination) hx (h .3) in
         rw (y, d) (decoded-as a i (cmpmOf s x (ea % 8)) _ _ _ (rw (y, d) at r) (omega (arith, eqb-eq (ea / 8) 1 g))
         (cmpm-encodes a x (ea % 8) s hx (omega arith)))
     go false g h r =
-        decoded-as a i (Pair EOR (dataOperand x) (f .source) s) _ _ _ r refl (from-encodes a x ea EOR 11 dataAlterable s f hx
+        decoded-as a i (Pair EOR (dataOperand x) (f .source) s) _ _ _ r refl (from-encodes a x ea EOR 11 (bits dataAlterable) s f hx
         (eor-laying a (f .value) (dataOperand x) (f .source) s) h p)

@@ -14,7 +14,8 @@ use Rattle.isa.specs.declared.RegisterOperation.the-variants.{ADDA, SUBA, CMPA,
 use Rattle.isa.specs.declared.Instruction.the-variants.{IntoRegister, WordIntoData, Pair}
 use Rattle.encode_spec.specs.Item.{fine, noEncoding, wordAddress, dataVerdict, allow, addressRegister, dataRegister}
 use Rattle.isa_spec.specs.Code.{isByte, longBit, registerBits, sizeCode}
-use Rattle.encode_spec.specs.Ea.{everyMode, dataModes, withData, byteOfAddress, typed, withAddress}
+use Rattle.isa_spec.specs.Mode.{everyColumn, dataColumn, bits}
+use Rattle.encode_spec.specs.Ea.{withData, byteOfAddress, typed, withAddress}
 use Rattle.encode_spec.specs.Arithmetic.{intoAddressParts, signedBit, intoDataParts, arithmeticParts}
 use Rattle.encode_spec.specs.Instruction.{registerParts, wordParts, pairParts}
 use Rattle.read_spec.specs.declared.Group.the-variants as group
@@ -39,7 +40,7 @@ use Rattle.read_laws.specs.Tests.{equal, yes, among, each}
 use Rattle.read_laws.specs.MapLaws.{At, at-registers, at-among, in-group, each-size, size-code}
 use Rattle.encode_spec.specs.Encode.{itemsOf}
 use Rattle.read_laws.specs.LayingLaws.{formItems, Passing, Laying, form-is, form-as, form-byte, laying-reads, laying-encodes, decoded-as, form-behind, form-bare}
-use Rattle.read_laws.specs.Operands.{data-bits, address-bits}
+use Rattle.read_laws.specs.Operands.{is-register, data-bits, address-bits}
 
 -- ---- ADDA SUBA CMPA, by their line; there is no byte
 abbrev addressLines : List ℕ
@@ -50,7 +51,7 @@ addressOpmode s = 3 + 4 * longBit s
 
 abbrev AddressLaying : ℕ → Operand → RegisterOperand → Size → ℕ → ℕ → Type 0
 AddressLaying a o r s v line =
-    Laying a (IntoRegister (addressAt line) o r s) line (registerBits r) (addressOpmode s) specifier.Nothing s everyMode v o
+    Laying a (IntoRegister (addressAt line) o r s) line (registerBits r) (addressOpmode s) specifier.Nothing s (bits everyColumn) v o
     (Passing (allow (not (isByte s)) 61 ∷ addressRegister r ∷ []))
 
 address-laying : (a : ℕ) (o : Operand) (r : RegisterOperand) (s : Size) (v line : ℕ) → among addressLines line ≡ true → AddressLaying a o r s v line
@@ -104,7 +105,7 @@ abbrev signOpmode : Sign → ℕ
 signOpmode sign = 3 + 4 * signedBit sign
 
 word-laying : (a : ℕ) (op : WordOperation) (o : Operand) (r : RegisterOperand) (sign : Sign) (v : ℕ)
-    → Laying a (WordIntoData op o r sign) (lineOf op) (registerBits r) (signOpmode sign) specifier.Nothing Word dataModes v o (Passing (dataRegister r ∷ []))
+    → Laying a (WordIntoData op o r sign) (lineOf op) (registerBits r) (signOpmode sign) specifier.Nothing Word (bits dataColumn) v o (Passing (dataRegister r ∷ []))
 unfolding wordParts withData
 word-laying a DIVx o r sign v = form-bare (dataRegister r ∷ []) 29 refl refl
 word-laying a MULx o r sign v = form-bare (dataRegister r ∷ []) 28 refl refl
@@ -143,7 +144,7 @@ abbrev intoOf : ℕ → Operand → RegisterOperand → Size → Instruction
 intoOf line o r s = cond (eqb line 11) (IntoRegister CMP o r s) (Pair (pairAt line) o (Register r) s)
 
 abbrev intoModes : ℕ → Size → ℕ
-intoModes line s = cond (eqb line 8 || eqb line 12) dataModes (readableModes s)
+intoModes line s = cond (eqb line 8 || eqb line 12) (bits dataColumn) (readableModes s)
 
 abbrev IntoLaying : ℕ → Operand → RegisterOperand → Size → ℕ → ℕ → ℕ → Type 0
 IntoLaying a o r s v modes line = Laying a (intoOf line o r s) line (registerBits r) (sizeCode s) specifier.Nothing s modes v o (dataVerdict r ≡ fine)
@@ -167,22 +168,22 @@ module _ (a : ℕ) (o : Operand) (r : RegisterOperand) (s : Size) (v : ℕ) wher
       let xs = dataRegister r ∷ [] in
       let near = wordAddress (wordAddress a 0) 1 in
       let far = wordAddress (wordAddress (wordAddress a 0) 0) 1 in
-      let logical : (line : ℕ) → itemsOf (intoOf line o r s) a ≡ formItems [] (second ∷ []) line (registerBits r) (sizeCode s) xs o s dataModes 57 near
-      → IntoLaying a o r s v dataModes line = λ line q.
+      let logical : (line : ℕ) → itemsOf (intoOf line o r s) a ≡ formItems [] (second ∷ []) line (registerBits r) (sizeCode s) xs o s (bits dataColumn) 57 near
+      → IntoLaying a o r s v (bits dataColumn) line = λ line q.
       form-as (form-is [] (second ∷ []) xs 57 near q (omega arith) refl (λ c. refl)) (λ c. c .1 .0) (λ d. (refl, (d, tt))) in
-      let arithmetic : (line : ℕ) → itemsOf (intoOf line o r s) a ≡ formItems [] (second ∷ byte ∷ []) line (registerBits r) (sizeCode s) xs o s everyMode 59 far
+      let arithmetic : (line : ℕ) → itemsOf (intoOf line o r s) a ≡ formItems [] (second ∷ byte ∷ []) line (registerBits r) (sizeCode s) xs o s (bits everyColumn) 59 far
       → IntoLaying a o r s v (readableModes s) line = λ line q.
-      form-byte everyMode dataModes 7 refl
+      form-byte (bits everyColumn) (bits dataColumn) 7 refl
       (form-as (form-behind [] (second ∷ byte ∷ []) xs 59 q refl refl) (λ c. (c .1 .0, c .1 .1 .0)) (λ d. (refl, (d .0, (d .1, tt))))) in
-      let compare : IntoLaying a o r s v (readableModes s) 11 = form-byte everyMode dataModes 7 refl
+      let compare : IntoLaying a o r s v (readableModes s) 11 = form-byte (bits everyColumn) (bits dataColumn) 7 refl
       (form-as (form-behind [] (byte ∷ []) xs 39 refl refl refl) (λ c. (c .0, c .1 .0)) (λ d. (d .0, (d .1, tt)))) in
       each (Into a o r s v) lines (
-        (logical 8 refl, (λ n. n .0), (λ n. (n, tt)), refl, refl),
+        (logical 8 (rw (is-register r)), (λ n. n .0), (λ n. (n, tt)), refl, refl),
         (
-          (arithmetic 9 refl, (λ n. n .0), (λ n. (n, tt)), refl, refl),
+          (arithmetic 9 (rw (is-register r)), (λ n. n .0), (λ n. (n, tt)), refl, refl),
           (
             (compare, (λ n. n), (λ n. n), refl, refl),
-            ((logical 12 refl, (λ n. n .0), (λ n. (n, tt)), refl, refl), ((arithmetic 13 refl, (λ n. n .0), (λ n. (n, tt)), refl, refl), tt)),
+            ((logical 12 (rw (is-register r)), (λ n. n .0), (λ n. (n, tt)), refl, refl), ((arithmetic 13 (rw (is-register r)), (λ n. n .0), (λ n. (n, tt)), refl, refl), tt)),
           ),
         ),
       )

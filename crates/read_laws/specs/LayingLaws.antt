@@ -1,6 +1,6 @@
 -- The forms that instructions have: an operand behind an operation word, with a specifier or without, or a specifier alone. What
 -- each lays down, that it reads (T1), and that what reads so encodes (T2).
-use Prim.Native.Nat.{ℕ, _+_, _*_, _/_, _%_, _^_, _<_}
+use Prim.Native.Nat.{ℕ, _+_, _*_, _%_, _<_}
 use mathlib.Core.Path.{_≡_, refl, ap, sym, _∙_}
 use mathlib.Core.Bool.{Bool, true, false, not, _&&_, cond}
 use mathlib.Core.List.{List, [], _∷_, _++_, append-nil, append-assoc}
@@ -17,6 +17,7 @@ use Rattle.isa.specs.declared.Instruction.{Instruction}
 use Rattle.isa_spec.specs.Field.{holds}
 use Rattle.encode_spec.specs.Item.{Item, word, check, range, fine, malformed, noEncoding, unless, ranged, operation, failure, wordsIn, wordAddress}
 use Rattle.isa_spec.specs.Code.{isByte}
+use Rattle.isa_facts.specs.Mode.{bitAt, columnOf, column-bit}
 use Rattle.encode_spec.specs.Ea.{isTyped, typed, permits, byteOfAddress, modeOf, eaField, eaItems, effective}
 use Rattle.encode_spec.specs.Encode.{itemsOf, wordsOf, refusalOf}
 use Rattle.read_spec.specs.declared.Group.{Group}
@@ -76,14 +77,14 @@ checked a i h = passing (itemsOf i a) (h .1)
 
 -- ---- an operand that encodes at an address, in one of the modes
 abbrev pub Fitting : Size → ℕ → ℕ → Operand → Type 0
-Fitting s at modes o = (permits modes o ≡ true) × (failure true (eaItems o s at) ≡ fine)
+Fitting s at modes o = (permits (columnOf modes) o ≡ true) × (failure true (eaItems o s at) ≡ fine)
 
-pub fitting : (o : Operand) (s : Size) (modes reason at : ℕ) → Passing (effective o s modes reason at ++ []) → Fitting s at modes o
-fitting o s modes reason at p = (unless-reason (permits modes o) reason (p .0), rw (append-nil (eaItems o s at)) at (passed (eaItems o s at ++ []) (p .1)))
+pub fitting : (o : Operand) (s : Size) (modes reason at : ℕ) → Passing (effective o s (columnOf modes) reason at ++ []) → Fitting s at modes o
+fitting o s modes reason at p = (unless-reason (permits (columnOf modes) o) reason (p .0), rw (append-nil (eaItems o s at)) at (passed (eaItems o s at ++ []) (p .1)))
 
-pub fitted : (o : Operand) (s : Size) (modes reason at : ℕ) → Fitting s at modes o → Passing (effective o s modes reason at ++ [])
+pub fitted : (o : Operand) (s : Size) (modes reason at : ℕ) → Fitting s at modes o → Passing (effective o s (columnOf modes) reason at ++ [])
 fitted o s modes reason at g =
-    (true-unless (permits modes o) (noEncoding reason) (g .0), rw (append-nil (eaItems o s at)) (passing (eaItems o s at) (g .1)))
+    (true-unless (permits (columnOf modes) o) (noEncoding reason) (g .0), rw (append-nil (eaItems o s at)) (passing (eaItems o s at) (g .1)))
 
 -- ---- an operand that is missing stands as D0
 abbrev pub missing : Operand
@@ -146,14 +147,14 @@ pub record Laying (a : ℕ) (i : Instruction) (line x opmode : ℕ) (k : Specifi
 -- its items: checks, the operation word, the specifier's words and checks, and the operand
 abbrev pub formItems : List Item → List Item → ℕ → ℕ → ℕ → List Item → Operand → Size → ℕ → ℕ → ℕ → List Item
 formItems front pre line x opmode xs o s modes reason at =
-    front ++ (typed o ∷ (pre ++ (operation line x opmode (eaField o) ∷ (xs ++ (effective o s modes reason at ++ [])))))
+    front ++ (typed o ∷ (pre ++ (operation line x opmode (eaField o) ∷ (xs ++ (effective o s (columnOf modes) reason at ++ [])))))
 
 module _ {a : ℕ} {i : Instruction} {line x opmode : ℕ} {k : Specifier} {s : Size} {modes v : ℕ} {o : Operand} where
   pub form-is : (front pre xs : List Item) (reason at : ℕ) → itemsOf i a ≡ formItems front pre line x opmode xs o s modes reason at
       → at ≡ behind a k v → wordsIn front ++ wordsIn pre ≡ [] → (Passing (front ++ (pre ++ xs)) → wordsIn xs ≡ specifierWords k v)
       → Laying a i line x opmode k s modes v o (Passing (front ++ (pre ++ xs)))
   form-is front pre xs reason at q p e w =
-      let final = effective o s modes reason at ++ [] in
+      let final = effective o s (columnOf modes) reason at ++ [] in
       let rest = xs ++ final in
       let inner = pre ++ (operation line x opmode (eaField o) ∷ rest) in
       let whole = front ++ (typed o ∷ inner) in
@@ -281,16 +282,17 @@ same-bool false false e = refl
 
 -- a set of modes is another without An: a test of the modes
 abbrev pub lessAddress : ℕ → ℕ → Bool
-lessAddress modes less = all (λ m. sameBool (eqb (less / 2 ^ m % 2) 1) (eqb (modes / 2 ^ m % 2) 1 && not (eqb m 1))) 12
+lessAddress modes less = all (λ m. sameBool (bitAt less m) (bitAt modes m && not (eqb m 1))) 12
 
 pub byte-modes : (modes less : ℕ) → lessAddress modes less ≡ true → (s : Size) (o : Operand)
-    → permits (cond (isByte s) less modes) o ≡ (permits modes o && not (byteOfAddress s o))
+    → permits (columnOf (cond (isByte s) less modes)) o ≡ (permits (columnOf modes) o && not (byteOfAddress s o))
 unfolding permits byteOfAddress
 byte-modes modes less t Byte o =
-    same-bool (eqb (less / 2 ^ modeOf o % 2) 1) (eqb (modes / 2 ^ modeOf o % 2) 1 && not (eqb (modeOf o) 1))
-    (below (λ m. sameBool (eqb (less / 2 ^ m % 2) 1) (eqb (modes / 2 ^ m % 2) 1 && not (eqb m 1))) 12 t (modeOf o) (mode-lt o))
-byte-modes modes less t Word o = sym (and-yes (eqb (modes / 2 ^ modeOf o % 2) 1))
-byte-modes modes less t Long o = sym (and-yes (eqb (modes / 2 ^ modeOf o % 2) 1))
+    rw (column-bit less (modeOf o) (mode-lt o), column-bit modes (modeOf o) (mode-lt o))
+    (same-bool (bitAt less (modeOf o)) (bitAt modes (modeOf o) && not (eqb (modeOf o) 1))
+    (below (λ m. sameBool (bitAt less m) (bitAt modes m && not (eqb m 1))) 12 t (modeOf o) (mode-lt o)))
+byte-modes modes less t Word o = sym (and-yes (permits (columnOf modes) o))
+byte-modes modes less t Long o = sym (and-yes (permits (columnOf modes) o))
 
 pub form-byte : {a : ℕ} {i : Instruction} {line x opmode : ℕ} {k : Specifier} {s : Size} {v : ℕ} {o : Operand} {D : Type 0} (modes less reason : ℕ)
     → lessAddress modes less ≡ true → Laying a i line x opmode k s modes v o ((unless (not (byteOfAddress s o)) (noEncoding reason) ≡ fine) × D)
@@ -301,11 +303,11 @@ form-byte {s = s} {o = o} modes less reason t f =
         b .0 .1,
         b .1,
         (
-          e ∙ true-and (permits modes o) _ (b .2 .0)
+          e ∙ true-and (permits (columnOf modes) o) _ (b .2 .0)
               (unless-reason (not (byteOfAddress s o)) reason (b .0 .0)),
           b .2 .1,
         ),
       );
-      there = λ d n g. let y = and-true (permits modes o) _ (sym e ∙ g .0) in f .there (true-unless _ (noEncoding reason) (y .1), d) n (y .0, g .1);
+      there = λ d n g. let y = and-true (permits (columnOf modes) o) _ (sym e ∙ g .0) in f .there (true-unless _ (noEncoding reason) (y .1), d) n (y .0, g .1);
       words = f .words;
     }

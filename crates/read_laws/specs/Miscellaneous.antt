@@ -26,7 +26,9 @@ use Rattle.isa.specs.declared.Instruction.{Instruction}
 use Rattle.isa.specs.declared.Instruction.the-variants.{OneOperand, UnsizedOne, UnsizedIntoRegister, NoOperand, Link, SWAP, Vector, EXT, MOVEM}
 use Rattle.encode_spec.specs.Item.{word, allow, noEncoding, dataRegister, addressRegister}
 use Rattle.isa_spec.specs.Code.{sizeCode, isByte, longBit, fromMemory, registerBits}
-use Rattle.encode_spec.specs.Ea.{everyMode, dataModes, dataAlterable, control, movemToMemory, byteOfAddress, eaField, single, withData, withAddress}
+use Rattle.isa_spec.specs.Mode.{everyColumn, dataColumn, controlColumn, bits}
+use Rattle.encode_facts.specs.Columns.{movem-column}
+use Rattle.encode_spec.specs.Ea.{dataAlterable, movemToMemory, byteOfAddress, eaField, single, withData, withAddress}
 use Rattle.encode_spec.specs.Movement.{movemModes, movemReason, movemParts, linklParts}
 use Rattle.encode_spec.specs.Arithmetic.{tstParts, extOpmode, extParts, swapParts}
 use Rattle.encode_spec.specs.System.{noOperandParts, vectorParts}
@@ -63,7 +65,7 @@ oneCode NOT = 3
 oneCode TST = 5
 
 abbrev oneModes : OneOperation → Size → ℕ
-oneModes op s = cond (eqb (oneCode op) 5) (readableModes s) dataAlterable
+oneModes op s = cond (eqb (oneCode op) 5) (readableModes s) (bits dataAlterable)
 
 one-laying : (a : ℕ) (op : OneOperation) (o : Operand) (s : Size) (v : ℕ)
     → Laying a (OneOperand op o s) 4 (oneCode op) (sizeCode s) specifier.Nothing s (oneModes op s) v o (Unit {0})
@@ -73,7 +75,7 @@ one-laying a NEG o s v = form-bare [] 54 refl refl
 one-laying a NEGX o s v = form-bare [] 54 refl refl
 one-laying a NOT o s v = form-bare [] 54 refl refl
 one-laying a TST o s v =
-    form-byte everyMode dataModes 7 refl
+    form-byte (bits everyColumn) (bits dataColumn) 7 refl
     (form-behind [] (allow (not (byteOfAddress s o)) 7 ∷ []) [] 12 refl refl refl)
 
 one-code : (op : OneOperation) → (oneAt (oneCode op) ≡ op) × ((s : Size) → At group.OneOperand 4 (oneCode op) (sizeCode s))
@@ -140,17 +142,17 @@ pub unsized-one-reads : (a : ℕ) (op : UnsizedOneOperation) (o : Operand) → A
 unfolding groupAt map
 unsized-one-reads a PEA o (n, e, l) =
     laying-reads (unsized-laying a PEA o 0) (at-code group.PeaSwapBkpt 4 4 1 refl) e n (λ c m.
-    let (t, (u, z)) = modes-say control (λ ea. no (ltb ea 16) ∷ no (ltb ea 8) ∷ []) refl (eaField o) m in
+    let (t, (u, z)) = modes-say (bits controlColumn) (λ ea. no (ltb ea 16) ∷ no (ltb ea 8) ∷ []) refl (eaField o) m in
     (rw t, refl, rw (t, u)))
 unsized-one-reads a NBCD o (n, e, l) =
     laying-reads (unsized-laying a NBCD o 0) (at-code group.NbcdLink 4 4 0 refl) e n (λ c m.
-    let t = modes-say dataAlterable (λ ea. no (eqb (ea / 8) 1) ∷ []) refl (eaField o) m .0 in
+    let t = modes-say (bits dataAlterable) (λ ea. no (eqb (ea / 8) 1) ∷ []) refl (eaField o) m .0 in
     (rw t, refl, rw t))
 unsized-one-reads a JSR o (n, e, l) = laying-reads (unsized-laying a JSR o 0) (at-code group.UnsizedOneIllegal 4 7 2 refl) e n (λ c m. (refl, refl, refl))
 unsized-one-reads a JMP o (n, e, l) = laying-reads (unsized-laying a JMP o 0) (at-code group.UnsizedOneIllegal 4 7 3 refl) e n (λ c m. (refl, refl, refl))
 unsized-one-reads a TAS o (n, e, l) =
     laying-reads (unsized-laying a TAS o 0) (at-code group.UnsizedOneIllegal 4 5 3 refl) e n (λ c m.
-    let t = modes-say dataAlterable (λ ea. no (eqb ea 60) ∷ []) refl (eaField o) m .0 in
+    let t = modes-say (bits dataAlterable) (λ ea. no (eqb ea 60) ∷ []) refl (eaField o) m .0 in
     (rw t, refl, rw t))
 unsized-one-reads a MOVEtoCCR o (n, e, l) = laying-reads (unsized-laying a MOVEtoCCR o 0) (at-code group.UnsizedOneIllegal 4 2 3 refl) e n (λ c m. (refl, refl, refl))
 unsized-one-reads a MOVEfromCCR o (n, e, l) = laying-reads (unsized-laying a MOVEfromCCR o 0) (at-code group.UnsizedOneIllegal 4 1 3 refl) e n (λ c m. (refl, refl, refl))
@@ -310,15 +312,15 @@ abbrev movemOpmode : Size → ℕ
 movemOpmode s = 2 + longBit s
 
 movem-laying : (a : ℕ) (direction : TargetDirection) (s : Size) (mask : ℕ) (o : Operand)
-    → Laying a (MOVEM direction s mask o) 4 (movemCode direction) (movemOpmode s) specifier.Word s (movemModes direction) mask o
+    → Laying a (MOVEM direction s mask o) 4 (movemCode direction) (movemOpmode s) specifier.Word s (bits (movemModes direction)) mask o
     (Passing (allow (not (isByte s)) 20 ∷ []))
 unfolding movemParts
 movem-laying a direction s mask o =
-    form-word (allow (not (isByte s)) 20 ∷ word mask ∷ []) (movemReason direction) refl refl refl
+    form-word (allow (not (isByte s)) 20 ∷ word mask ∷ []) (movemReason direction) (rw (movem-column direction)) refl refl
 
 movem-code : (direction : TargetDirection) (s : Size) → not (isByte s) ≡ true
     → At group.MovemExt 4 (movemCode direction) (movemOpmode s) × (toMemoryAt (5 - movemCode direction) ≡ direction) × (sizeAt (movemOpmode s - 1) ≡ s)
-    × (movemModesAt (movemCode direction) ≡ movemModes direction)
+    × (movemModesAt (movemCode direction) ≡ bits (movemModes direction))
 unfolding groupAt map
 movem-code direction Byte z = absurd (false≢true z)
 movem-code ToMemory Word z = (at-code group.MovemExt 4 4 2 refl, refl, refl, refl)
@@ -327,8 +329,8 @@ movem-code FromMemory Word z = (at-code group.MovemExt 4 6 2 refl, refl, refl, r
 movem-code FromMemory Long z = (at-code group.MovemExt 4 6 3 refl, refl, refl, refl)
 
 -- EXT stands where MOVEM to memory has no mode
-not-ext : (direction : TargetDirection) (ea : ℕ) → permitted (movemModes direction) ea ≡ true → eqb (movemCode direction) 4 && ltb ea 8 ≡ false
-not-ext ToMemory ea m = modes-say movemToMemory (λ ea. no (ltb ea 8) ∷ []) refl ea m .0
+not-ext : (direction : TargetDirection) (ea : ℕ) → permitted (bits (movemModes direction)) ea ≡ true → eqb (movemCode direction) 4 && ltb ea 8 ≡ false
+not-ext ToMemory ea m = modes-say (bits movemToMemory) (λ ea. no (ltb ea 8) ∷ []) refl ea m .0
 not-ext FromMemory ea m = refl
 
 pub movem-reads : (a : ℕ) (direction : TargetDirection) (s : Size) (mask : ℕ) (o : Operand) → Accepted a (MOVEM direction s mask o)
@@ -363,7 +365,7 @@ movem-ext-sound a line x opmode ea hl hx ho he e f h p i r =
 
 -- ---- LEA, and CHK of a word or of a long
 lea-laying : (a : ℕ) (o : Operand) (r : RegisterOperand) (v : ℕ)
-    → Laying a (UnsizedIntoRegister LEA o r) 4 (registerBits r) 7 specifier.Nothing Long control v o (Passing (addressRegister r ∷ []))
+    → Laying a (UnsizedIntoRegister LEA o r) 4 (registerBits r) 7 specifier.Nothing Long (bits controlColumn) v o (Passing (addressRegister r ∷ []))
 unfolding unsizedRegisterParts withAddress
 lea-laying a o r v = form-bare (addressRegister r ∷ []) 34 refl refl
 
@@ -372,7 +374,7 @@ lea-reads : (a : ℕ) (o : Operand) (r : RegisterOperand) → Accepted a (Unsize
 unfolding groupAt map
 lea-reads a o r (n, e, l) =
     laying-reads (lea-laying a o r 0) (at-registers group.LeaExtb 4 7 refl (registerBits r) (omega arith)) e n (λ c m.
-    let t = modes-say control (λ ea. no (ltb ea 8) ∷ []) refl (eaField o) m .0 in
+    let t = modes-say (bits controlColumn) (λ ea. no (ltb ea 8) ∷ []) refl (eaField o) m .0 in
     let u = and-false (eqb (registerBits r) 4) in
     (rw (t, u), refl, rw (t, u, address-bits r (c .0))))
 
@@ -382,7 +384,7 @@ lea-extb-sound a line x opmode ea hl hx ho he e f h p i r =
     let (l, (k, u)) = in-group group.LeaExtb (λ l x o. equal l 4 ∷ equal o 7 ∷ []) refl line x opmode e in
     let j = EXT (Data ea) Byte Long in
     either-encodes a i j (UnsizedIntoRegister LEA (f .source) (Address x)) (wordOf line x opmode ea) (eqb x 4 && ltb ea 8) bare
-    (one specifier.Nothing Long ea control) f h r
+    (one specifier.Nothing Long ea (bits controlColumn)) f h r
     (λ q g.
     let (b, d) = and-true (eqb x 4) _ q in
     word-as a j _ _ _ (omega (arith, eqb-eq x 4 b)) (alone-encodes a j _ specifier.Nothing f g (ext-encodes a ea Byte Long (ltb-is ea 8 d) refl)))
@@ -394,7 +396,7 @@ abbrev checkAt : Bool → UnsizedRegisterOperation
 checkAt b = cond b CHKL CHK
 
 chk-laying : (a : ℕ) (b : Bool) (o : Operand) (r : RegisterOperand) (v : ℕ)
-    → Laying a (UnsizedIntoRegister (checkAt b) o r) 4 (registerBits r) (cond b 4 6) specifier.Nothing (cond b Long Word) dataModes v o
+    → Laying a (UnsizedIntoRegister (checkAt b) o r) 4 (registerBits r) (cond b 4 6) specifier.Nothing (cond b Long Word) (bits dataColumn) v o
     (Passing (dataRegister r ∷ []))
 unfolding unsizedRegisterParts withData
 chk-laying a true o r v = form-bare (dataRegister r ∷ []) 27 refl refl

@@ -17,7 +17,8 @@ use Rattle.isa.specs.declared.Operand.the-variants.{Immediate, Register, Indire
 use Rattle.isa.specs.declared.Instruction.the-variants.{Pair, IntoRegister}
 use Rattle.encode_spec.specs.Item.{Item, fine, malformed, noEncoding, addressRegister, allow, wordsIn, countOf, wordAddress}
 use Rattle.isa_spec.specs.Code.{moveCode, isByte, registerBits}
-use Rattle.encode_spec.specs.Ea.{everyMode, dataModes, dataAlterable, byteOfAddress, permits, isTyped, modeField, registerField, eaField, eaItems, effective, withAddress}
+use Rattle.isa_spec.specs.Mode.{everyColumn, dataColumn, bits}
+use Rattle.encode_spec.specs.Ea.{dataAlterable, byteOfAddress, permits, isTyped, modeField, registerField, eaField, eaItems, effective, withAddress}
 use Rattle.encode_spec.specs.Movement.{moveParts, moveaParts}
 use Rattle.encode_spec.specs.Instruction.{registerParts, pairParts}
 use Rattle.encode_spec.specs.Encode.{itemsOf, wordsOf, refusalOf}
@@ -48,7 +49,7 @@ abbrev destinationPlace : ℕ → Operand → Size → ℕ
 destinationPlace a o s = wordAddress a (1 + countOf (eaItems o s (wordAddress a 1)))
 
 abbrev Moved : ℕ → Operand → Operand → Size → Type 0
-Moved a o d s = (isTyped o ≡ true) × (isTyped d ≡ true) × Fitting s (wordAddress a 1) (readableModes s) o × Fitting s (destinationPlace a o s) dataAlterable d
+Moved a o d s = (isTyped o ≡ true) × (isTyped d ≡ true) × Fitting s (wordAddress a 1) (readableModes s) o × Fitting s (destinationPlace a o s) (bits dataAlterable) d
 
 module _ (a : ℕ) (o d : Operand) (s : Size) where
   -- where the encoder lays them
@@ -59,7 +60,7 @@ module _ (a : ℕ) (o d : Operand) (s : Size) where
   to = wordAddress from (countOf (eaItems o s from))
 
   abbrev source : List Item
-  source = effective o s everyMode 8 from
+  source = effective o s everyColumn 8 from
 
   abbrev destination : List Item
   destination = effective d s dataAlterable 9 to ++ []
@@ -75,26 +76,26 @@ module _ (a : ℕ) (o d : Operand) (s : Size) where
   move-back h =
       let (t, (u, (b, c))) = checked a (Pair MOVE o d s) h in
       let (p, q) = passing-apart source destination c in
-      let y = true-and (permits everyMode o) (not (byteOfAddress s o)) (unless-reason (permits everyMode o) 8 (p .0))
+      let y = true-and (permits everyColumn o) (not (byteOfAddress s o)) (unless-reason (permits everyColumn o) 8 (p .0))
       (unless-reason (not (byteOfAddress s o)) 7 b) in (
         unless-malformed (isTyped o) t,
         unless-malformed (isTyped d) u,
-        (byte-modes everyMode dataModes refl s o ∙ y, rw from-is at (passed (eaItems o s from) (p .1))),
-        rw to-is at (fitting d s dataAlterable 9 to q),
+        (byte-modes (bits everyColumn) (bits dataColumn) refl s o ∙ y, rw from-is at (passed (eaItems o s from) (p .1))),
+        rw to-is at (fitting d s (bits dataAlterable) 9 to q),
       )
 
   move-there : Moved a o d s → refusalOf true (Pair MOVE o d s) a ≡ fine
   unfolding pairParts moveParts
   move-there (t, u, g, h) =
-      let p = and-true (permits everyMode o) (not (byteOfAddress s o)) (sym (byte-modes everyMode dataModes refl s o) ∙ g .0) in
-      let c : Passing source = (true-unless (permits everyMode o) (noEncoding 8) (p .0), passing (eaItems o s from) (rw from-is (g .1))) in
+      let p = and-true (permits everyColumn o) (not (byteOfAddress s o)) (sym (byte-modes (bits everyColumn) (bits dataColumn) refl s o) ∙ g .0) in
+      let c : Passing source = (true-unless (permits everyColumn o) (noEncoding 8) (p .0), passing (eaItems o s from) (rw from-is (g .1))) in
       passed (itemsOf (Pair MOVE o d s) a) (
         true-unless (isTyped o) malformed t,
         (
           true-unless (isTyped d) malformed u,
           (
             true-unless (not (byteOfAddress s o)) (noEncoding 7) (p .1),
-            passing-both source destination c (fitted d s dataAlterable 9 to (rw to-is h)),
+            passing-both source destination c (fitted d s (bits dataAlterable) 9 to (rw to-is h)),
           ),
         ),
       )
@@ -145,13 +146,13 @@ move-reads a o d s h =
     let p : Stands s (wordAddress a 1) (eaField o) o = (g .1, t, h .0 .0, refl) in
     let q : Stands s (destinationPlace a o s) (eaField d) d = (k .1, u, h .0 .1, refl) in
     let r = register-lt d in
-    let n : permitted dataAlterable (eaField d) ≡ true = sym (permits-is dataAlterable s (destinationPlace a o s) (eaField d) d q) ∙ k .0 in
+    let n : permitted (bits dataAlterable) (eaField d) ≡ true = sym (permits-is (bits dataAlterable) s (destinationPlace a o s) (eaField d) d q) ∙ k .0 in
     let z : eaField d / 8 ≡ modeField d = omega arith in
-    let m : eqb (modeField d) 1 ≡ false = rw z at (modes-say dataAlterable (λ ea. no (eqb (ea / 8) 1) ∷ []) refl (eaField d) n .0) in
+    let m : eqb (modeField d) 1 ≡ false = rw z at (modes-say (bits dataAlterable) (λ ea. no (eqb (ea / 8) 1) ∷ []) refl (eaField d) n .0) in
     let l = stands-lt s (destinationPlace a o s) (eaField d) d q in
     let (hl, hx, ho, e) = move-at s (registerField d) (modeField d) r (omega arith) in
     let y : moveLayout (moveSize (moveCode s)) (registerField d) (modeField d) (eaField o) ≡ two specifier.Nothing s (eaField o) (readableModes s) (eaField d)
-    dataAlterable = rw (move-size s .0, m) in
+    (bits dataAlterable) = rw (move-size s .0, m) in
     reads group.MOVE (moveCode s) (registerField d) (modeField d) (eaField o) (record { value = 0; source = o; destination = d }) hl hx ho
     (stands-lt s (wordAddress a 1) (eaField o) o p) e
     (rw y (true-and _ _ (sym (permits-is (readableModes s) s (wordAddress a 1) (eaField o) o p) ∙ g .0) n, refl, p, q))
@@ -159,7 +160,7 @@ move-reads a o d s h =
 
 -- ---- MOVEA
 movea-laying : (a : ℕ) (o : Operand) (r : RegisterOperand) (s : Size) (v : ℕ)
-    → Laying a (IntoRegister MOVEA o r s) (moveCode s) (registerBits r) 1 specifier.Nothing s everyMode v o
+    → Laying a (IntoRegister MOVEA o r s) (moveCode s) (registerBits r) 1 specifier.Nothing s (bits everyColumn) v o
     (Passing (allow (not (isByte s)) 10 ∷ addressRegister r ∷ []))
 unfolding registerParts moveaParts withAddress
 movea-laying a o r s v = form-behind [] (allow (not (isByte s)) 10 ∷ []) (addressRegister r ∷ []) 11 refl refl refl
@@ -172,25 +173,25 @@ movea-reads a o r s (n, e, l) =
     (rw (z, b), refl, rw (z, address-bits r (c .1 .0))))
 
 -- ---- T2
-movea-encodes : (a x ea : ℕ) (s : Size) (f : Tail) (b : Bool) → isByte s ≡ b → x < 8 → TailStands a (cond b noLayout (one specifier.Nothing s ea everyMode)) f
+movea-encodes : (a x ea : ℕ) (s : Size) (f : Tail) (b : Bool) → isByte s ≡ b → x < 8 → TailStands a (cond b noLayout (one specifier.Nothing s ea (bits everyColumn))) f
     → plainTail f ≡ f
     → Encodes a (IntoRegister MOVEA (f .source) (Address x) s) (wordOf (moveCode s) x 1 ea ∷ tailWords a
-    (cond b noLayout (one specifier.Nothing s ea everyMode)) f)
+    (cond b noLayout (one specifier.Nothing s ea (bits everyColumn))) f)
 movea-encodes a x ea s f true n hx h p = absurd (false≢true (h .0))
 movea-encodes a x ea s f false n hx h p =
     let w : x % 8 ≡ x = omega arith in
     rw w at (laying-encodes ea f (movea-laying a (f .source) (Address x) s (f .value)) (rw n, (lt-number x hx, tt)) h p (λ n. n) refl (λ e. rw e))
 
-move-encodes : (a x opmode ea : ℕ) (s : Size) (f : Tail) → x < 8 → TailStands a (two specifier.Nothing s ea (readableModes s) (opmode * 8 + x) dataAlterable) f
+move-encodes : (a x opmode ea : ℕ) (s : Size) (f : Tail) → x < 8 → TailStands a (two specifier.Nothing s ea (readableModes s) (opmode * 8 + x) (bits dataAlterable)) f
     → plainTail f ≡ f
     → Encodes a (Pair MOVE (f .source) (f .destination) s)
-    (wordOf (moveCode s) x opmode ea ∷ tailWords a (two specifier.Nothing s ea (readableModes s) (opmode * 8 + x) dataAlterable) f)
+    (wordOf (moveCode s) x opmode ea ∷ tailWords a (two specifier.Nothing s ea (readableModes s) (opmode * 8 + x) (bits dataAlterable)) f)
 move-encodes a x opmode ea s f hx (c, v, q, k) p =
     let o = f .source in
     let d = f .destination in
-    let b = and-true (permitted (readableModes s) ea) (permitted dataAlterable (opmode * 8 + x)) c in
+    let b = and-true (permitted (readableModes s) ea) (permitted (bits dataAlterable) (opmode * 8 + x)) c in
     let g : Fitting s (wordAddress a 1) (readableModes s) o = (permits-is (readableModes s) s (wordAddress a 1) ea o q ∙ b .0, q .0) in
-    let h : Fitting s (destinationPlace a o s) dataAlterable d = (permits-is dataAlterable s (destinationPlace a o s) (opmode * 8 + x) d k ∙ b .1, k .0) in
+    let h : Fitting s (destinationPlace a o s) (bits dataAlterable) d = (permits-is (bits dataAlterable) s (destinationPlace a o s) (opmode * 8 + x) d k ∙ b .1, k .0) in
     let l = register-lt d in
     let e : modeField d * 8 + registerField d ≡ opmode * 8 + x = k .3 in
     let m : modeField d ≡ opmode = omega arith in
@@ -209,6 +210,6 @@ move-sound a line x opmode ea hl hx ho he e f h p i r =
     let j = IntoRegister MOVEA (f .source) (Address x) s in
     let k = Pair MOVE (f .source) (f .destination) s in
     either-encodes a i j k (wordOf line x opmode ea) (eqb opmode 1) (moveaLayout s ea)
-    (two specifier.Nothing s ea (readableModes s) (opmode * 8 + x) dataAlterable) f h r
+    (two specifier.Nothing s ea (readableModes s) (opmode * 8 + x) (bits dataAlterable)) f h r
     (λ q g. word-as a j _ _ _ (omega (arith, t, eqb-eq opmode 1 q)) (movea-encodes a x ea s f (isByte s) refl hx g p))
     (λ q g. word-as a k _ _ _ (omega (arith, t)) (move-encodes a x opmode ea s f hx g p))

@@ -4,7 +4,7 @@ use mathlib.Core.Path.{_≡_, refl, ap}
 use mathlib.Core.Bool.{Bool, true, false, cond}
 use mathlib.Core.List.{[], _∷_}
 use native.Mathlib.Omega.{arith}
-use lib.Dec.{eqb}
+use lib.Dec.{ltb, eqb}
 use lib.ListN.{getD}
 use Rattle.isa.specs.declared.RegisterOperand.{RegisterOperand}
 use Rattle.isa.specs.declared.RegisterOperand.the-variants.{Address, Data}
@@ -13,6 +13,7 @@ use Rattle.isa.specs.declared.Operand.the-variants.{Immediate, Register, Indire
 use Rattle.isa.specs.declared.AddressWidth.the-variants as width
 use Rattle.encode_spec.specs.Item.{fine, dataVerdict, addressVerdict}
 use Rattle.isa_spec.specs.Code.{registerBits, numberOfRegister, general}
+use Rattle.isa_spec.specs.IndexBase.{isPc}
 use Rattle.encode_spec.specs.Ea.{isRegister, isImmediate, modeOf, registerNumber}
 use Rattle.encode_facts.specs.Items.{number-lt, reason-not}
 use Rattle.read_spec.specs.Operand.{generalOf}
@@ -38,6 +39,19 @@ pub address-is : (r : RegisterOperand) → addressVerdict r ≡ fine → (n : �
 address-is (Address n) e = (n, number-lt n e, refl)
 address-is (Data n) e = reason-not 2 e
 
+-- the modes of registers
+pub is-register : (r : RegisterOperand) → isRegister (Register r) ≡ true
+is-register (Address n) = refl
+is-register (Data n) = refl
+
+pub not-immediate : (r : RegisterOperand) → isImmediate (Register r) ≡ false
+not-immediate (Address n) = refl
+not-immediate (Data n) = refl
+
+not-extended : (b : Bool) → (ltb (cond b 10 6) 2 ≡ false) × (eqb (cond b 10 6) 11 ≡ false)
+not-extended true = (refl, refl)
+not-extended false = (refl, refl)
+
 -- a Register operand, an Immediate or another
 pub by-kind : (P : Operand → Type 0) → ((r : RegisterOperand) → P (Register r)) → ((v : ℕ) → P (Immediate v))
     → ((o : Operand) → isRegister o ≡ false → isImmediate o ≡ false → P o) → (o : Operand) → P o
@@ -50,8 +64,9 @@ by-kind P r i h (IndirectDisplacement z base) = h (IndirectDisplacement z base) 
 by-kind P r i h (IndirectIndex base z x) = h (IndirectIndex base z x) refl refl
 by-kind P r i h (PcDisplacement t) = h (PcDisplacement t) refl refl
 by-kind P r i h (PcIndex t x) = h (PcIndex t x) refl refl
-by-kind P r i h (Extended base w z outer) = h (Extended base w z outer) refl refl
-by-kind P r i h (Absolute a width) = h (Absolute a width) refl refl
+by-kind P r i h (Extended base w z outer) = let n = not-extended (isPc base) in h (Extended base w z outer) (n .0) (n .1)
+by-kind P r i h (Absolute a width.Word) = h (Absolute a width.Word) refl refl
+by-kind P r i h (Absolute a width.Long) = h (Absolute a width.Long) refl refl
 
 pub by-register : (P : Operand → Type 0) → ((r : RegisterOperand) → P (Register r)) → ((o : Operand) → isRegister o ≡ false → P o) → (o : Operand) → P o
 by-register P r h = by-kind P r (λ v. h (Immediate v) refl) (λ o e i. h o e)

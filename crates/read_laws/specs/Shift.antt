@@ -21,6 +21,7 @@ use Rattle.isa.specs.declared.Instruction.{Instruction}
 use Rattle.isa.specs.declared.Instruction.the-variants.{Shift, BF}
 use Rattle.encode_spec.specs.Item.{fine, numberVerdict, check, register, word, allow}
 use Rattle.isa_spec.specs.Code.{sizeCode, isWord, registerBits, bit}
+use Rattle.isa_spec.specs.Mode.{bits}
 use Rattle.encode_spec.specs.Ea.{memoryAlterable, isRegister, bitFieldRead, bitFieldWritten, typed, single}
 use Rattle.encode_spec.specs.Logic.{shiftKind, leftBit, countBits, countItems, isOne, shiftRegisterParts, shiftMemoryParts, shiftParts}
 use Rattle.read_spec.specs.declared.Group.the-variants as group
@@ -32,6 +33,7 @@ use Rattle.read_spec.specs.Decoded.{dataOperand, shiftDecoded, wordOf}
 use Rattle.read_operand_laws.specs.Facts.{count-holds}
 use Rattle.encode_facts.specs.Items.{lt-number, reason-not, number-lt, unless-range, true-unless, unless-reason}
 use Rattle.isa_facts.specs.Code.{bit-lt}
+use Rattle.isa_facts.specs.Mode.{column-cond}
 use Rattle.base_facts.specs.Tests.{below, and-true, true-and, ltb-is, eqb-eq, eqb-is}
 use Rattle.isa_spec.specs.Field.{holds}
 use Rattle.read_laws.specs.Control.{count-eight}
@@ -51,7 +53,7 @@ use Rattle.read_spec.specs.Accepted.{Accepted}
 use Rattle.read_laws.specs.Tests.{equal, yes, among, implies, facts-below}
 use Rattle.read_laws.specs.MapLaws.{At, at-code, at-upto, at-among, in-group}
 use Rattle.read_laws.specs.LayingLaws.{Passing, passed, checked, one-back, Laying, form-as, laying-reads, laying-encodes, decoded-as, word-as, alone-reads, alone-encodes, form-word, form-behind}
-use Rattle.read_laws.specs.Operands.{by-kind, by-register, data-bits}
+use Rattle.read_laws.specs.Operands.{is-register, not-immediate, by-kind, by-register, data-bits}
 
 -- ---- the fields of a shift
 kind-at : (op : ShiftOperation) → (shiftKind op < 4) × (shiftAt (shiftKind op) ≡ op)
@@ -68,7 +70,7 @@ data Count : Operand → Type 0 where
 count-back : (count : Operand) → Passing (countItems count) → Count count
 count-back =
     by-kind (λ count. Passing (countItems count) → Count count)
-    (λ r c. rw (← data-bits r (c .0)) (inRegister (registerBits r) (omega arith)))
+    (λ r c. rw (← data-bits r ((rw (is-register r) at c) .0)) (inRegister (registerBits r) (omega arith)))
     (λ v c. number v (c .0))
     (λ o e i c. reason-not 63 ((rw (e, i) at c) .0))
 
@@ -163,7 +165,7 @@ register-reads : (a : ℕ) (op : ShiftOperation) (count : Operand) (r : Register
     → Accepted a (Shift op count (Register r) direction s) → Reads a (Shift op count (Register r) direction s)
 unfolding shiftParts shiftRegisterParts
 register-reads a op count r direction s h =
-    let (t, (u, (d, c))) = checked a (Shift op count (Register r) direction s) h in
+    let (t, (u, (d, c))) = rw (is-register r) at (checked a (Shift op count (Register r) direction s) h) in
     rw (← data-bits r d) (data-reads a op count (registerBits r) direction s (count-back count (rw (append-nil (countItems count)) at c)) (omega arith))
 
 pub shift-register-sound : Sound group.ShiftRegister
@@ -183,12 +185,12 @@ word-is Long e = absurd (false≢true e)
 one-is : (count : Operand) → isOne count ≡ true → count ≡ Immediate 1
 one-is =
     by-kind (λ count. isOne count ≡ true → count ≡ Immediate 1)
-    (λ r e. absurd (false≢true e))
+    (λ r e. absurd (false≢true (rw (not-immediate r) at e)))
     (λ v e. ap Immediate (eqb-eq v 1 e))
     (λ o e i h. absurd (false≢true (rw i at h)))
 
 memory-laying : (a : ℕ) (op : ShiftOperation) (count o : Operand) (direction : ShiftDirection) (s : Size) (v : ℕ) → isRegister o ≡ false
-    → Laying a (Shift op count o direction s) 14 (shiftKind op) (4 * leftBit direction + 3) specifier.Nothing Word memoryAlterable v o
+    → Laying a (Shift op count o direction s) 14 (shiftKind op) (4 * leftBit direction + 3) specifier.Nothing Word (bits memoryAlterable) v o
     (Passing (typed count ∷ allow (isOne count && isWord s) 64 ∷ []))
 unfolding shiftParts shiftMemoryParts single
 memory-laying a op count o direction s v e =
@@ -220,7 +222,7 @@ unfolding map
 shift-memory-sound a line x opmode ea hl hx ho he e f h p i r =
     let (w, u) = in-group group.ShiftMemory (λ l x o. equal (wordOf 14 (shiftKind (shiftAt x)) (4 * leftBit (directionAt (o / 4)) + 3) 0) (wordOf l x o 0) ∷ [])
     refl line x opmode e in
-    let n = memory-not (f .source) (one-back a specifier.Nothing Word ea memoryAlterable f h .0 .0) in
+    let n = memory-not (f .source) (one-back a specifier.Nothing Word ea (bits memoryAlterable) f h .0 .0) in
     let direction = directionAt (opmode / 4) in
     decoded-as a i (Shift (shiftAt x) (Immediate 1) (f .source) direction Word) _ _ _ r (omega (arith, w))
     (laying-encodes ea f (memory-laying a (shiftAt x) (Immediate 1) (f .source) direction Word (f .value) n) (refl, (refl, tt)) h p (λ n. (tt, n)) refl (λ e. rw e))
@@ -282,11 +284,11 @@ abbrev codeOpmode : BitFieldOperation → ℕ
 codeOpmode op = 4 * (bitFieldCode op % 2) + 3
 
 field-laying : (a : ℕ) (op : BitFieldOperation) (o : Operand) (f : BitField) (r v : ℕ) → wordIn f r ≡ v
-    → Laying a (BF op o f r) 14 (codeX op) (codeOpmode op) specifier.BitField Byte (cond (writes op) bitFieldWritten bitFieldRead) v o (Holding f r)
+    → Laying a (BF op o f r) 14 (codeX op) (codeOpmode op) specifier.BitField Byte (cond (writes op) (bits bitFieldWritten) (bits bitFieldRead)) v o (Holding f r)
 unfolding bitFieldParts
 field-laying a op o f r v e =
     form-as
-    (form-word (check (bitFieldVerdict f) ∷ register r ∷ word (wordIn f r) ∷ []) (cond (writes op) 32 33) refl refl (ap (λ (w : ℕ). w ∷ []) e))
+    (form-word (check (bitFieldVerdict f) ∷ register r ∷ word (wordIn f r) ∷ []) (cond (writes op) 32 33) (rw (column-cond (writes op) bitFieldWritten bitFieldRead refl refl)) refl (ap (λ (w : ℕ). w ∷ []) e))
     (λ c. holding-back f r (c .0) (c .1 .0)) (λ d. (true-unless _ _ (true-and _ _ (d .0) (d .1)), (lt-number r (d .2), tt)))
 
 abbrev operationAt : ℕ → ℕ → BitFieldOperation

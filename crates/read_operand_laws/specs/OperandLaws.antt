@@ -19,6 +19,7 @@ use Rattle.isa_spec.specs.Field.{holds, topOf}
 use Rattle.isa_spec.specs.Code.{numberOfRegister}
 use Rattle.encode_spec.specs.Item.{fine, register, failure, orElse, ranged, numberVerdict, wordsIn, countOf, wordAddress}
 use Rattle.isa_spec.specs.ExtensionWord.{isCanonical}
+use Rattle.isa_facts.specs.Mode.{columnOf, column-bit}
 use Rattle.encode_spec.specs.Ea.{distance, indexSizeVerdict, briefItems, wordItems, immediateWords, immediateItems, extendedMode, extendedItems, absoluteItems, modeOf, permits, eaField, eaItems, isTyped}
 use Rattle.base_spec.specs.Signed.{signed32, signed64, bitsOf}
 use Rattle.read_spec.specs.Number.{signed8, signed16, reach}
@@ -447,11 +448,11 @@ mode-lt (Extended base w z outer) = cond-lt (eqb base 8) 10 6 12 (omega arith) (
 mode-lt (Absolute v width.Word) = omega arith
 mode-lt (Absolute v width.Long) = omega arith
 
-pub permits-is : (modes : ℕ) (s : Size) (at ea : ℕ) (o : Operand) → Stands s at ea o → permits modes o ≡ permitted modes ea
+pub permits-is : (modes : ℕ) (s : Size) (at ea : ℕ) (o : Operand) → Stands s at ea o → permits (columnOf modes) o ≡ permitted modes ea
 unfolding permits
 permits-is modes s at ea o h =
     let p : modeAt ea ≡ modeOf o = ap modeAt (sym (h .3)) ∙ mode-field o (h .1) in
-    rw (p, ltb-true (modeOf o) 12 (mode-lt o))
+    rw (p, ltb-true (modeOf o) 12 (mode-lt o)) (column-bit modes (modeOf o) (mode-lt o))
 
 pub field-lt : (o : Operand) → eaField o < 64
 field-lt (Immediate v) = omega arith

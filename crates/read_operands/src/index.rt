@@ -11,6 +11,7 @@ use isa::IndexRegister;
 use isa::Operand;
 use isa::RegisterOperand;
 use isa_values::extension_word::ExtensionWord;
+use isa_values::index_base::IndexBase;
 use read_values::number;
 
 // The outer displacement of a full word at `place`, after the base displacement z.
@@ -70,7 +71,7 @@ fn index_operand(base: u8, place: u32, w: u16, z: i32) -> Operand
     ensures { λ r. ⌜ r ≡ indexOperand base place w z ⌝ }
 {
     let index = index_of(w);
-    if base == 8 {
+    if IndexBase(base).is_pc() {
         Operand::PcIndex {
             target: number::reach(place, z),
             index,
@@ -91,7 +92,7 @@ fn scaled_operand(base: u8, place: u32, w: u16, z: i32) -> Operand
     Operand::Extended {
         base,
         word: w / 512 * 512,
-        displacement: displacement::landed(base == 8, place, z),
+        displacement: displacement::landed(IndexBase(base).is_pc(), place, z),
         outer: 0,
     }
 }

@@ -4,18 +4,17 @@
 use Prim.Native.Nat.{ℕ}
 use mathlib.Core.Bool.{true, false, cond}
 use lib.Dec.{eqb}
-use lib.ListN.{replicate}
 use Rattle.isa.specs.declared.Size.{Size}
 use Rattle.isa.specs.declared.BitFieldOperation.{BitFieldOperation}
 use Rattle.isa.specs.declared.UnsizedOneOperation.{UnsizedOneOperation}
 use Rattle.isa.specs.declared.UnsizedOneOperation.the-variants.{PEA, NBCD, JSR, JMP, TAS, MOVEtoCCR, MOVEfromCCR, MOVEtoSR, MOVEfromSR}
 use Rattle.isa_spec.specs.Code.{isByte}
-use Rattle.encode_spec.specs.Ea.{everyColumn, dataColumn, memoryColumn, controlColumn, alterableColumn, both, setTo, bits}
+use Rattle.isa_spec.specs.Mode.{everyColumn, dataColumn, memoryColumn, controlColumn, alterableColumn, both, setTo, only, bits}
 use Rattle.encode_spec.specs.Bits.{writes}
 
 -- one mode alone
 abbrev pub onlyMode : ℕ → ℕ
-onlyMode n = bits (setTo true n (replicate 12 false))
+onlyMode n = bits (only n)
 
 abbrev pub allModes : ℕ
 allModes = bits everyColumn

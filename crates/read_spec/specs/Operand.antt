@@ -17,6 +17,7 @@ use Rattle.isa.specs.declared.Operand.{Operand}
 use Rattle.isa.specs.declared.Operand.the-variants.{Immediate, Register, Indirect, PostIndirect, PreIndirect, IndirectDisplacement, IndirectIndex, PcDisplacement, PcIndex, Extended, Absolute}
 use Rattle.base_spec.specs.Signed.{signed32, bitsOf}
 use Rattle.isa_spec.specs.ExtensionWord.{isFull, baseSize, outerSize, isCanonical}
+use Rattle.isa_spec.specs.IndexBase.{isPc}
 use Rattle.encode_spec.specs.Ea.{fromPc}
 use Rattle.read_spec.specs.Number.{signed8, signed16, reach}
 use Rattle.read_spec.specs.Tree.{Tree, ret, fail, more, bind, guard}
@@ -59,10 +60,10 @@ fullTree base at w = guard (isCanonical w) (baseTree base at w)
 
 -- the brief format: of scale 1 the MC68000's index, else an Extended operand without the low bits
 abbrev pub indexOperand : ℕ → ℕ → ℕ → ℤ → Operand
-indexOperand base at w z = cond (eqb base 8) (PcIndex (reach at z) (indexOf w)) (IndirectIndex (Address base) z (indexOf w))
+indexOperand base at w z = cond (isPc base) (PcIndex (reach at z) (indexOf w)) (IndirectIndex (Address base) z (indexOf w))
 
 abbrev pub scaledOperand : ℕ → ℕ → ℕ → ℤ → Operand
-scaledOperand base at w z = Extended base (w / 512 * 512) (landed (eqb base 8) at z) (pos 0)
+scaledOperand base at w z = Extended base (w / 512 * 512) (landed (isPc base) at z) (pos 0)
 
 abbrev pub briefOperand : ℕ → ℕ → ℕ → Operand
 briefOperand base at w = cond (eqb (w / 512 % 4) 0) (indexOperand base at w (signed8 (w % 256))) (scaledOperand base at w (signed8 (w % 256)))

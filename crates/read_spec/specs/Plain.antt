@@ -10,12 +10,13 @@ use Rattle.isa.specs.declared.Instruction.{Instruction}
 use Rattle.isa.specs.declared.Instruction.the-variants.{IntoRegister, MOVEM, Transfer, Pair, Quick, MOVEQ, ImmediateInto, WordIntoData, SWAP, EXG, UnsizedIntoRegister, UnsizedOne, UnsizedPair, EXT, OneOperand, Bcc, Scc, DBcc, Branch, Link, UNLK, Shift, Vector, Status, ConditionCode, MOVEUSP, Raw, NoOperand, RTD, MOVEC, TRAPcc, MULL, Pack, CAS, CAS2, BF, DIVL}
 use Rattle.base_spec.specs.Signed.{bitsOf}
 use Rattle.isa_spec.specs.ExtensionWord.{isFull}
+use Rattle.isa_spec.specs.IndexBase.{isPc}
 use Rattle.read_spec.specs.Operand.{indexOf}
 
 -- a brief Extended operand: of scale 1 an index, its displacement the offset or, read as unsigned, the target; another
 -- keeps bits 15 to 9 of its word and has outer 0
 abbrev pub plainIndex : ℕ → ℕ → ℤ → Operand
-plainIndex base w z = cond (eqb base 8) (PcIndex (bitsOf z % 2 ^ 32) (indexOf w)) (IndirectIndex (Address base) z (indexOf w))
+plainIndex base w z = cond (isPc base) (PcIndex (bitsOf z % 2 ^ 32) (indexOf w)) (IndirectIndex (Address base) z (indexOf w))
 
 abbrev pub plainBrief : ℕ → ℕ → ℤ → Operand
 plainBrief base w z = cond (eqb (w / 512 % 4) 0) (plainIndex base w z) (Extended base (w / 512 * 512) z (pos 0))

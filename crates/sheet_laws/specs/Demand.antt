@@ -16,7 +16,7 @@ use Rattle.m68k_encode.specs.Laws.{accepted-fine, accepted-words}
 use Rattle.numeric_spec.specs.Form.{formOf}
 use Rattle.sheet_spec.specs.Line.{Parsed}
 use Rattle.sheet_spec.specs.Made.{makes, made, ofLines}
-use Rattle.sheet_spec.specs.Sheet.{Sheet, sheetAt, lineAt, countAt, addressAt, resolved, wordsIn}
+use Rattle.sheet_spec.specs.Sheet.{Sheet, sheetAt, lineAt, countAt, addressAt, resolved, encodedWords}
 use Rattle.sheet_spec.specs.Follow.{Next, on, to, either, stop, nextOf, target, lineNext, nextWith, named}
 use Rattle.sheet_spec.specs.Promises.{InGrammar, AcceptedSheet}
 use Rattle.sheet_size_facts.specs.Says.{line-makes}
@@ -87,7 +87,7 @@ module _ (start : ℕ) (ps : List Parsed) (grammar : (n : ℕ) → InGrammar (li
       at-line start ps grammar room ok n h g .follows .read (addressAt s) a (address-even n h g) (landing .2),
     )
 
-    words-are : wordsIn (encodeOf j a) ≡ wordsOf j a
+    words-are : encodedWords (encodeOf j a) ≡ wordsOf j a
     words-are = accepted-words j a number
 
     counts-are : length (wordsOf j a) ≡ countAt s n

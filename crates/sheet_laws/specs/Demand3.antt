@@ -6,7 +6,7 @@ use native.Mathlib.Omega.{arith}
 use lib.ListN.{length, take, drop}
 use Rattle.encode_spec.specs.Encode.{encodeOf}
 use Rattle.sheet_spec.specs.Line.{Parsed}
-use Rattle.sheet_spec.specs.Sheet.{sheetAt, sheetIn, lineAt, countAt, addressAt, encoded, wordsIn, image}
+use Rattle.sheet_spec.specs.Sheet.{sheetAt, sheetIn, lineAt, countAt, addressAt, encoded, encodedWords, image}
 use Rattle.sheet_spec.specs.Translate.{inOrder, sheetOutcome, outcomeOf}
 use Rattle.sheet_spec.specs.Promises.{InGrammar, AcceptedSheet, Stands, Demand3}
 use Rattle.sheet_facts.specs.Lines.{line-grammar}
@@ -21,13 +21,13 @@ module _ (start : ℕ) (ps : List Parsed) (grammar : (n : ℕ) → InGrammar (li
     (ok : AcceptedSheet (sheetAt start ps) room) where
   words-at : (n : ℕ) (h : 1 ≤ n) (g : n ≤ length ps)
       → take (countAt (sheetAt start ps) n) (drop ((addressAt (sheetAt start ps) n - start) / 2) (image (sheetAt start ps)))
-      ≡ wordsIn (encodeOf (line-stands start ps grammar room ok even n h g .instruction) (addressAt (sheetAt start ps) n))
+      ≡ encodedWords (encodeOf (line-stands start ps grammar room ok even n h g .instruction) (addressAt (sheetAt start ps) n))
   words-at n h g =
       let s = sheetAt start ps in
       let o : (addressAt s n - start) / 2 ≡ before s n = omega (arith, address-is start ps n h g) in
       ap (λ (k : ℕ). take (countAt s n) (drop k (image s))) o
       ∙ words-stand (s .counts) (encoded s) (counts start ps grammar room ok) (pred n) (omega (arith, lines-length start ps))
-      ∙ ap wordsIn (line-stands start ps grammar room ok even n h g .entry)
+      ∙ ap encodedWords (line-stands start ps grammar room ok even n h g .entry)
 
   sheet-stands : Demand3 (sheetAt start ps) (image (sheetAt start ps))
   sheet-stands =

@@ -17,7 +17,7 @@ use Rattle.read_spec.specs.Plain.{plain}
 use Rattle.read_spec.specs.Read.{readOf}
 use Rattle.sheet_spec.specs.Line.{Token, Parsed, says}
 use Rattle.sheet_spec.specs.Made.{Line, Made, makes, made}
-use Rattle.sheet_spec.specs.Sheet.{Sheet, sheetAt, total, wordCount, endOf, lineAt, countAt, addressAt, resolved, encoded, wordsIn, image}
+use Rattle.sheet_spec.specs.Sheet.{Sheet, sheetAt, total, wordCount, endOf, lineAt, countAt, addressAt, resolved, encoded, encodedWords, image}
 use Rattle.sheet_spec.specs.Follow.{Next, on, to, either, stop, nextOf, Place, follow, goes, target, lineNext, nextWith, named, comeLine, stepLine, byLines, begins, readingAt, comeWord, stepWord, byWords, Reads, Together, both-ended, both-at}
 use Rattle.sheet_size_facts.specs.Says.{line-makes}
 use Rattle.sheet_size_facts.specs.Image.{total-suc, total-part, noWords, Counts, words-length, drop-before}
@@ -46,7 +46,7 @@ pub record LineStands (s : Sheet) (n : ℕ) : Type 0 where
   pub parsed : lineAt s n ≡ says tokens
   pub line : Line (resolved s) tokens instruction
   pub entry : getD (encoded s) (pred n) noWords ≡ encodeOf instruction (addressAt s n)
-  pub reads-back : (rest : List ℕ) → readOf (wordsIn (encodeOf instruction (addressAt s n)) ++ rest) (addressAt s n) ≡ Read (plain instruction) (2 * countAt s n)
+  pub reads-back : (rest : List ℕ) → readOf (encodedWords (encodeOf instruction (addressAt s n)) ++ rest) (addressAt s n) ≡ Read (plain instruction) (2 * countAt s n)
   pub aims : Aims (nextWith (resolved s) s n) (addressAt s (named s n))
   pub within : Within (nextWith (resolved s) s n) (length (s .lines)) (named s n)
 
@@ -74,7 +74,7 @@ module _ (start : ℕ) (ps : List Parsed) (lines-some : 1 ≤ length ps) (counts
       let d = drop-before (s .counts) (encoded s) counts (pred n) (omega (arith, lines-length start ps)) in
       let o : (addressAt s n - start) / 2 ≡ before s n = omega (arith, address-is start ps n h g) in
       ap (λ (k : ℕ). readOf (drop k (image s)) (addressAt s n)) o
-      ∙ ap (λ (ws : List ℕ). readOf ws (addressAt s n)) (d .1 ∙ ap (λ (e : Encoded). wordsIn e ++ d .0) (l .entry))
+      ∙ ap (λ (ws : List ℕ). readOf ws (addressAt s n)) (d .1 ∙ ap (λ (e : Encoded). encodedWords e ++ d .0) (l .entry))
       ∙ l .reads-back (d .0)
 
   abbrev pub reads : (n : ℕ) → 1 ≤ n → n ≤ length ps → Reads s (image s) n

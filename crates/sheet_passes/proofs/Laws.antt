@@ -24,7 +24,7 @@ use Rattle.sheet_entries.specs.Made.{madeWith, namesLines}
 use Rattle.sheet_entries.specs.MadeLaws.{made-listed, made-zero, names-in}
 use Rattle.base_text.specs.LinesLaws.{lines-next}
 use Rattle.sheet_spec.specs.Made.{namesIn, judged, made}
-use Rattle.sheet_spec.specs.Sheet.{sizedAs, sizedOf, sizesOf, halfOf, total, encodedAs, encodedFrom, wordsIn, allWords}
+use Rattle.sheet_spec.specs.Sheet.{sizedAs, sizedOf, sizesOf, halfOf, total, encodedAs, encodedFrom, encodedWords, allWords}
 use Rattle.sheet_spec.specs.Translate.{andThen, inTurn, sizeOutcome, encodeOutcome, sizing, over}
 use Rattle.sheet_facts.specs.Listing.{over-length}
 use Rattle.sheet_passes.specs.declared.Passed.{Passed}
@@ -250,13 +250,13 @@ module _ (text : List ℕ) (from : ℕ) (addresses : List ℕ) where
           (rw done (s .places), rw done (s .image-is))
 
       module _ (e : ℕ) (h : next < length text) (g : e ≡ partEnd 10 text next) (r : Encoded) (is : r ≡ lineEncoded addresses (lineOf (lineTo text next e)) (getD addresses k 0)) where
-        writing-count : length (wordsIn r) ≡ r .count
+        writing-count : length (encodedWords r) ≡ r .count
         writing-count = rw (encoded-here (s .go) e h g r is) (as-words (made (listed addresses) (lineOf (lineTo text next e))) (getD addresses k 0))
 
         pub writing-most : r .count ≤ 11
         writing-most = rw (encoded-here (s .go) e h g r is) (as-most (made (listed addresses) (lineOf (lineTo text next e))) (getD addresses k 0))
 
-        all-here : words ≡ (s .written ++ wordsIn r) ++ allWords (encodedLeft (e + 1) (k + 1))
+        all-here : words ≡ (s .written ++ encodedWords r) ++ allWords (encodedLeft (e + 1) (k + 1))
         all-here = s .all ∙ rw (left-here (s .go) e h g r is, append-assoc)
 
         pub writing-room : length words ≤ length lent → at + r .count ≤ length lent
@@ -266,18 +266,18 @@ module _ (text : List ℕ) (from : ℕ) (addresses : List ℕ) where
               m,
               s .places,
               writing-count,
-              length-append (s .written) (wordsIn r),
+              length-append (s .written) (encodedWords r),
               ap (λ (x : List ℕ). length x) all-here,
-              length-append (s .written ++ wordsIn r) (allWords (encodedLeft (e + 1) (k + 1))),
+              length-append (s .written ++ encodedWords r) (allWords (encodedLeft (e + 1) (k + 1))),
             )
 
-        pub writing-next : length words ≤ length lent → (last : List ℕ) → last ≡ over (wordsIn r) (take (length image - at) (drop at image))
+        pub writing-next : length words ≤ length lent → (last : List ℕ) → last ≡ over (encodedWords r) (take (length image - at) (drop at image))
             → Writing (e + 1) (k + 1) (at + r .count) (putMid at (length image - at) image last)
         writing-next m last f =
             record {
               go = going-next (s .go) e h g;
-              written = s .written ++ wordsIn r;
+              written = s .written ++ encodedWords r;
               all = all-here;
-              places = omega (arith, s .places, writing-count, length-append (s .written) (wordsIn r));
-              image-is = rw (s .image-is) (over-more (s .written) (wordsIn r) lent last at (s .places) (omega (arith, writing-room m, writing-count)) (rw (s .image-is) at f));
+              places = omega (arith, s .places, writing-count, length-append (s .written) (encodedWords r));
+              image-is = rw (s .image-is) (over-more (s .written) (encodedWords r) lent last at (s .places) (omega (arith, writing-room m, writing-count)) (rw (s .image-is) at f));
             }

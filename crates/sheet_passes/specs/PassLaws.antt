@@ -10,7 +10,7 @@ use Rattle.isa.specs.declared.Measured.{Measured}
 use Rattle.isa.specs.declared.Encoded.{Encoded}
 use Rattle.sheet_spec.specs.Line.{Parsed}
 use Rattle.sheet_spec.specs.Made.{Made, makes, turnedBack, judged, made, builtAs, namesIn, ofLines}
-use Rattle.sheet_spec.specs.Sheet.{sizedAs, sizedOf, sizesOf, halfOf, total, addressesFrom, encodedAs, wordsIn}
+use Rattle.sheet_spec.specs.Sheet.{sizedAs, sizedOf, sizesOf, halfOf, total, addressesFrom, encodedAs, encodedWords}
 use Rattle.sheet_spec.specs.Translate.{inOrder, inTurn, sizeOutcome}
 use Rattle.sheet_facts.specs.Listing.{both-in-order, in-order-zero}
 use Rattle.sheet_facts.specs.Made.{made-back}
@@ -27,7 +27,7 @@ pub as-most : (m : Made) (a : ℕ) → encodedAs a m .count ≤ 11
 as-most (makes i) a = omega (arith, encode-most i a)
 as-most (turnedBack k) a = omega arith
 
-pub as-words : (m : Made) (a : ℕ) → length (wordsIn (encodedAs a m)) ≡ encodedAs a m .count
+pub as-words : (m : Made) (a : ℕ) → length (encodedWords (encodedAs a m)) ≡ encodedAs a m .count
 as-words m a = omega (arith, as-places m a, as-most m a, length-take (encodedAs a m .count) (encodedAs a m .words))
 
 -- where its names have been looked at, it is the line encoded

@@ -6,7 +6,7 @@ ghost use mathlib.Core.List.{map};
 ghost use lib.ListN.{length};
 ghost use Rattle.sheet_spec.specs.Line.{lineOf};
 ghost use Rattle.sheet_spec.specs.Made.{turnedBack, judged};
-ghost use Rattle.sheet_spec.specs.Sheet.{sizedAs, sizedOf, sizesOf, halfOf, total, encodedAs, wordsIn, allWords};
+ghost use Rattle.sheet_spec.specs.Sheet.{sizedAs, sizedOf, sizesOf, halfOf, total, encodedAs, encodedWords, allWords};
 ghost use Rattle.sheet_spec.specs.Translate.{inTurn, sizing, encodeOutcome, over};
 ghost use Rattle.sheet_passes.specs.Passes.{parsedAt, passedOf, filledOf, lineEncoded, Placed, encodedAt};
 use isa::Encoded;
@@ -151,7 +151,7 @@ pub fn ranges(text: &[u8], from: usize, addresses: &[u32]) -> Passed
 // The words that count, at the front of the part.
 fn put_words(part: &mut [u16], e: Encoded)
     requires { ⌜ (e .count ≤ 11) × (e .count ≤ length (now part)) ⌝ }
-    ensures { λ r. ⌜ now (part .exit) ≡ over (wordsIn e) (now (part .entry)) ⌝ }
+    ensures { λ r. ⌜ now (part .exit) ≡ over (encodedWords e) (now (part .entry)) ⌝ }
 {
     let words = e.words;
     let count = e.count;

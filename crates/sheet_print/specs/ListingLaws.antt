@@ -9,7 +9,7 @@ use lib.Seq.{take-all, take-suc, take-at, drop-at, drop-cons, drop-drop}
 use Rattle.base_spec.specs.Written.{hex4Of}
 use Rattle.base_spec.specs.Refused.{tab}
 use Rattle.isa.specs.declared.Encoded.{Encoded}
-use Rattle.sheet_spec.specs.Sheet.{addressesFrom, wordsIn, allWords}
+use Rattle.sheet_spec.specs.Sheet.{addressesFrom, encodedWords, allWords}
 use Rattle.sheet_size_facts.specs.Image.{Counts, later-counts}
 use Rattle.print_spec.specs.Printed.{listedWords, lineText, listingFrom}
 use Rattle.sheet_print.specs.Listing.{firstCount, linesText, Rises, Laid}
@@ -76,14 +76,14 @@ module _ (A W : List ℕ) (k from : ℕ) (h : k < length A) (l : Laid (drop k A)
 
 -- ---- from encoded lines, each with as many words as counted
 module _ (a c : ℕ) (cs : List ℕ) (e : Encoded) (es : List Encoded) (h : Counts (c ∷ cs) (e ∷ es)) where
-  first-counts : length (wordsIn e) ≡ c
+  first-counts : length (encodedWords e) ≡ c
   first-counts = h .each 0 (omega arith)
 
-  first-count : firstCount (a ∷ addressesFrom (a + 2 * c) cs) (length (wordsIn e ++ allWords es)) ≡ c
+  first-count : firstCount (a ∷ addressesFrom (a + 2 * c) cs) (length (encodedWords e ++ allWords es)) ≡ c
   first-count = go cs es (h .lines) first-counts
     where
-      go : (ds : List ℕ) (fs : List Encoded) → length (c ∷ ds) ≡ length (e ∷ fs) → length (wordsIn e) ≡ c
-          → firstCount (a ∷ addressesFrom (a + 2 * c) ds) (length (wordsIn e ++ allWords fs)) ≡ c
+      go : (ds : List ℕ) (fs : List Encoded) → length (c ∷ ds) ≡ length (e ∷ fs) → length (encodedWords e) ≡ c
+          → firstCount (a ∷ addressesFrom (a + 2 * c) ds) (length (encodedWords e ++ allWords fs)) ≡ c
       go [] [] q w = rw append-nil w
       go [] (f ∷ fs) q w = absurd (omega arith)
       go (d ∷ ds) fs q w = omega arith
@@ -100,15 +100,15 @@ listing-is k a [] es h = refl
 listing-is k a (c ∷ cs) [] h = absurd (omega (arith, h .lines))
 listing-is k a (c ∷ cs) (e ∷ es) h =
     let q = first-counts a c cs e es h in
-    rw (first-count a c cs e es h, take-at (wordsIn e) (allWords es) c q, drop-at (wordsIn e) (allWords es) c q)
-    (ap (λ (t : List ℕ). lineText k a (wordsIn e) ++ t) (listing-is (suc k) (a + 2 * c) cs es (later-counts c cs e es h)))
+    rw (first-count a c cs e es h, take-at (encodedWords e) (allWords es) c q, drop-at (encodedWords e) (allWords es) c q)
+    (ap (λ (t : List ℕ). lineText k a (encodedWords e) ++ t) (listing-is (suc k) (a + 2 * c) cs es (later-counts c cs e es h)))
 
 pub laid : (a : ℕ) (cs : List ℕ) (es : List Encoded) → Counts cs es → ((k : ℕ) → k < length cs → getD cs k 0 ≤ 11) → Laid (addressesFrom a cs) (allWords es)
 laid a [] es h few = tt
 laid a (c ∷ cs) [] h few = absurd (omega (arith, h .lines))
 laid a (c ∷ cs) (e ∷ es) h few =
     let q = first-counts a c cs e es h in
-    rw (first-count a c cs e es h, drop-at (wordsIn e) (allWords es) c q) (
+    rw (first-count a c cs e es h, drop-at (encodedWords e) (allWords es) c q) (
       rises a c cs e es h,
       few 0 (omega arith),
       rw length-append (omega (arith, q)),

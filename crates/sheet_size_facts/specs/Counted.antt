@@ -10,7 +10,7 @@ use Rattle.isa.specs.declared.Instruction.{Instruction}
 use Rattle.encode_spec.specs.Encode.{encodeOf, sizeOf}
 use Rattle.sheet_spec.specs.Line.{Parsed, says}
 use Rattle.sheet_spec.specs.Made.{Line, Made, makes, made}
-use Rattle.sheet_spec.specs.Sheet.{Sheet, sheetAt, sheetIn, wordCount, lineAt, countAt, addresses, addressAt, resolved, encodedAs, encoded, wordsIn, image}
+use Rattle.sheet_spec.specs.Sheet.{Sheet, sheetAt, sheetIn, wordCount, lineAt, countAt, addresses, addressAt, resolved, encodedAs, encoded, encodedWords, image}
 use Rattle.sheet_spec.specs.Translate.{inOrder, outcomeOf}
 use Rattle.sheet_spec.specs.Promises.{InGrammar, AcceptedSheet}
 use Rattle.sheet_facts.specs.Lines.{line-grammar}
@@ -22,7 +22,7 @@ use Rattle.sheet_size_facts.specs.Bounds.{upTo, line-at, count-size, add
 use Rattle.m68k_encode.specs.Laws.{size-law, places-law, encode-most}
 
 -- the words that count are as many as they say
-pub words-counted : (i : Instruction) (a : ℕ) → length (wordsIn (encodeOf i a)) ≡ encodeOf i a .count
+pub words-counted : (i : Instruction) (a : ℕ) → length (encodedWords (encodeOf i a)) ≡ encodeOf i a .count
 words-counted i a = omega (arith, places-law i a, encode-most i a, length-take (encodeOf i a .count) (encodeOf i a .words))
 
 module _ (start : ℕ) (ps : List Parsed) (grammar : (n : ℕ) → InGrammar (lineAt (sheetAt start ps) n)) (room : ℕ) (ok : AcceptedSheet (sheetAt start ps) room) where
@@ -69,7 +69,7 @@ module _ (start : ℕ) (ps : List Parsed) (grammar : (n : ℕ) → InGrammar (li
         lines = counts-length start ps ∙ sym (lines-length start ps);
         each = λ k h.
             let q : suc k ≤ length ps = omega (arith, lines-length start ps) in
-            ap (λ (e : Encoded). length (wordsIn e)) (entry-is (suc k) (omega arith) q) ∙ words-counted (i (suc k) (omega arith) q) (addressAt s (suc k)) ∙ count-of (suc k) (omega arith) q;
+            ap (λ (e : Encoded). length (encodedWords e)) (entry-is (suc k) (omega arith) q) ∙ words-counted (i (suc k) (omega arith) q) (addressAt s (suc k)) ∙ count-of (suc k) (omega arith) q;
       }
 
   pub image-length : length (image s) ≡ wordCount s

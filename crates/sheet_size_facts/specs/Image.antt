@@ -9,7 +9,7 @@ use lib.Seq.{take-at, take-all, drop-at}
 use Rattle.isa.specs.declared.Encoded.{Encoded}
 use Rattle.sheet_spec.specs.Line.{Parsed, no}
 use Rattle.sheet_spec.specs.Made.{turnedBack, made}
-use Rattle.sheet_spec.specs.Sheet.{total, addressesFrom, encodedAs, encodedFrom, wordsIn, allWords}
+use Rattle.sheet_spec.specs.Sheet.{total, addressesFrom, encodedAs, encodedFrom, encodedWords, allWords}
 
 -- ---- counts and addresses
 pub addresses-length : (a : ℕ) (cs : List ℕ) → length (addressesFrom a cs) ≡ length cs
@@ -61,18 +61,18 @@ encoded-is f (a ∷ places) (p ∷ ps) h (suc k) g = encoded-is f places ps (ome
 -- ---- each line's words are as many as it counts
 pub record Counts (cs : List ℕ) (es : List Encoded) : Type 0 where
   pub lines : length cs ≡ length es
-  pub each : (k : ℕ) → k < length es → length (wordsIn (getD es k noWords)) ≡ getD cs k 0
+  pub each : (k : ℕ) → k < length es → length (encodedWords (getD es k noWords)) ≡ getD cs k 0
 
 pub later-counts : (c : ℕ) (cs : List ℕ) (e : Encoded) (es : List Encoded) → Counts (c ∷ cs) (e ∷ es) → Counts cs es
 later-counts c cs e es h = record { lines = omega (arith, h .lines); each = λ k g. h .each (suc k) (omega arith) }
 
 -- a line's words stand behind those of the lines before it
-splits : (es : List Encoded) (k : ℕ) → k < length es → (rest : List ℕ) × (allWords es ≡ allWords (take k es) ++ (wordsIn (getD es k noWords) ++ rest))
+splits : (es : List Encoded) (k : ℕ) → k < length es → (rest : List ℕ) × (allWords es ≡ allWords (take k es) ++ (encodedWords (getD es k noWords) ++ rest))
 splits [] k h = absurd (omega arith)
 splits (e ∷ es) zero h = (allWords es, refl)
 splits (e ∷ es) (suc k) h =
     let r = splits es k (omega arith) in
-    (r .0, ap (λ (x : List ℕ). wordsIn e ++ x) (r .1) ∙ sym (append-assoc (wordsIn e) (allWords (take k es)) _))
+    (r .0, ap (λ (x : List ℕ). encodedWords e ++ x) (r .1) ∙ sym (append-assoc (encodedWords e) (allWords (take k es)) _))
 
 front-length : (cs : List ℕ) (es : List Encoded) → Counts cs es → (k : ℕ) → length (allWords (take k es)) ≡ total (take k cs)
 front-length [] [] h zero = refl
@@ -91,15 +91,15 @@ module _ (cs : List ℕ) (es : List Encoded) (ok : Counts cs es) where
       ∙ ap total (take-all (length es) cs (omega (arith, ok .lines)))
 
   -- what stands from the place of line k + 1 on
-  pub drop-before : (k : ℕ) → k < length es → (rest : List ℕ) × (drop (total (take k cs)) (allWords es) ≡ wordsIn (getD es k noWords) ++ rest)
+  pub drop-before : (k : ℕ) → k < length es → (rest : List ℕ) × (drop (total (take k cs)) (allWords es) ≡ encodedWords (getD es k noWords) ++ rest)
   drop-before k h =
       let r = splits es k h in (
         r .0,
         ap (λ (ws : List ℕ). drop (total (take k cs)) ws) (r .1)
-            ∙ drop-at (allWords (take k es)) (wordsIn (getD es k noWords) ++ r .0) _ (front-length cs es ok k),
+            ∙ drop-at (allWords (take k es)) (encodedWords (getD es k noWords) ++ r .0) _ (front-length cs es ok k),
       )
 
-  pub words-stand : (k : ℕ) → k < length es → take (getD cs k 0) (drop (total (take k cs)) (allWords es)) ≡ wordsIn (getD es k noWords)
+  pub words-stand : (k : ℕ) → k < length es → take (getD cs k 0) (drop (total (take k cs)) (allWords es)) ≡ encodedWords (getD es k noWords)
   words-stand k h =
       let d = drop-before k h in
-      ap (λ (ws : List ℕ). take (getD cs k 0) ws) (d .1) ∙ take-at (wordsIn (getD es k noWords)) (d .0) _ (ok .each k h)
+      ap (λ (ws : List ℕ). take (getD cs k 0) ws) (d .1) ∙ take-at (encodedWords (getD es k noWords)) (d .0) _ (ok .each k h)

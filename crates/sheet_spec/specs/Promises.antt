@@ -12,7 +12,7 @@ use Rattle.sheet_spec.specs.declared.Kind.the-variants as kind
 use Rattle.sheet_spec.specs.Line.{Parsed, says, no}
 use Rattle.sheet_spec.specs.Spell.{SuitAll, spell}
 use Rattle.sheet_spec.specs.Made.{made}
-use Rattle.sheet_spec.specs.Sheet.{isSheet, startLine, instructionLines, at, startOf, sizedOf, Sheet, sheetIn, lineCount, wordCount, endOf, lineAt, countAt, addressAt, resolved, encodedAs, wordsIn, image}
+use Rattle.sheet_spec.specs.Sheet.{isSheet, startLine, instructionLines, at, startOf, sizedOf, Sheet, sheetIn, lineCount, wordCount, endOf, lineAt, countAt, addressAt, resolved, encodedAs, encodedWords, image}
 use Rattle.sheet_spec.specs.Translate.{Outcome, inOrder, outcomeOf, listedOf, imageOf, scratchOf}
 use Rattle.sheet_spec.specs.Follow.{Reads, Together, byLines, byWords}
 
@@ -60,7 +60,7 @@ pub record Same (f g : List ℕ) : Type 0 where
 -- line n of a sheet: its tokens and instruction, read from the words v at its address as its plain form; its words stand at its place
 pub record Stands (s : Sheet) (v : List ℕ) (n : ℕ) : Type 0 where
   pub read : Reads s v n
-  pub words : take (countAt s n) (drop ((addressAt s n - s .start) / 2) v) ≡ wordsIn (encodeOf (read .instruction) (addressAt s n))
+  pub words : take (countAt s n) (drop ((addressAt s n - s .start) / 2) v) ≡ encodedWords (encodeOf (read .instruction) (addressAt s n))
 
 -- demand 3 of a sheet and its words v: the followers stay together after any choices; each line stands, reached or not
 pub record Demand3 (s : Sheet) (v : List ℕ) : Type 0 where

@@ -143,12 +143,12 @@ abbrev pub encoded : Sheet → List Encoded
 encoded s = encodedFrom (resolved s) (addresses s) (s .lines)
 
 -- their words, each line's directly after those of the line before
-abbrev pub wordsIn : Encoded → List ℕ
-wordsIn e = take (e .count) (e .words)
+abbrev pub encodedWords : Encoded → List ℕ
+encodedWords e = take (e .count) (e .words)
 
 abbrev pub allWords : List Encoded → List ℕ
 allWords [] = []
-allWords (e ∷ es) = wordsIn e ++ allWords es
+allWords (e ∷ es) = encodedWords e ++ allWords es
 
 abbrev pub image : Sheet → List ℕ
 image s = allWords (encoded s)

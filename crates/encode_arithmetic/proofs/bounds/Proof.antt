@@ -5,7 +5,7 @@ use Rattle.encode_spec.specs.Arithmetic.{boundsParts}
 
 returns : tie.Need-returns
 unfolding boundsParts
-returns c = rw (c .effective .ensures, c .before .word .ensures, c .before .before .general .ensures .0, c .before .before .before .register .ensures, c .before .before .before .before .number-of-register .ensures, c .before .before .before .before .before .operation .ensures, c .before .before .before .before .before .before .ea-field .ensures .0, c .before .before .before .before .before .before .before .standard-size .ensures .0)
+returns c = rw (c .effective .ensures, c .before .word .ensures, c .before .before .bit .ensures .0, c .before .before .before .general .ensures .0, c .before .before .before .before .register .ensures, c .before .before .before .before .before .number-of-register .ensures, c .before .before .before .before .before .before .operation .ensures, c .before .before .before .before .before .before .before .ea-field .ensures .0, c .before .before .before .before .before .before .before .before .standard-size .ensures .0)
 
 pub bounds-spec : {M : Type 1} → statement M
 bounds-spec =
@@ -18,6 +18,7 @@ bounds-spec =
     (λ c κs. search needs)
     (λ c κs. search needs)
     (λ c. search needs)
+    (λ c κs. search needs)
     (λ c. search needs)
     (λ c. search needs)
     (λ c κs. search needs)

@@ -5,13 +5,12 @@ use Rattle.encode_spec.specs.Control.{dbccParts}
 
 returns : tie.Need-returns
 unfolding dbccParts
-returns c = rw (c .displacement-to .ensures, c .before .data-register .ensures, c .before .before .condition-operation .ensures, c .before .before .before .register-bits .ensures .0, c .before .before .before .before .code .ensures .0)
+returns c = rw (c .displacement-to .ensures, c .before .data-register .ensures, c .before .before .condition-operation .ensures, c .before .before .before .register-bits .ensures .0)
 
 pub dbcc-spec : {M : Type 1} → statement M
 dbcc-spec =
     tie.close
     (tie.spec
-    (λ c κs. search needs)
     (λ c κs. search needs)
     (λ c. search needs)
     (λ c κs. search needs)
