@@ -346,7 +346,7 @@ unfolding map
 movem-ext-sound a line x opmode ea hl hx ho he e f h p i r =
     let (w, (z, (k, u))) = in-group group.MovemExt (λ l x o. equal (wordOf 4 (movemCode (toMemoryAt (5 - x))) (movemOpmode (sizeAt (o - 1))) 0) (wordOf l x o 0)
     ∷ yes (not (isByte (sizeAt (o - 1)))) ∷ equal (extOpmode (sizeAt (o - 2)) (sizeAt (o - 1))) o ∷ yes (not (eqb o 0)) ∷ equal l 4
-    ∷ equal (movemModesAt x) (movemModes (toMemoryAt (5 - x))) ∷ []) refl line
+    ∷ equal (movemModesAt x) (bits (movemModes (toMemoryAt (5 - x)))) ∷ []) refl line
     x opmode e in
     let s = sizeAt (opmode - 1) in
     let direction = toMemoryAt (5 - x) in

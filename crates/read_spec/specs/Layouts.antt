@@ -110,7 +110,7 @@ branchLayout byte = cond (eqb byte 0) (alone specifier.Word) (cond (eqb byte 255
 
 -- <ea>,Dn of OR, AND, SUB, CMP and ADD
 abbrev pub intoDataLayout : ℕ → Size → ℕ → Layout
-intoDataLayout line s ea = one specifier.Nothing s ea (cond (eqb line 8 || eqb line 12) (bits dataColumn) (readableModes s))
+intoDataLayout line s ea = one specifier.Nothing s ea (cond (eqb line 8 || eqb line 12) dataModes (readableModes s))
 
 -- Dn,<ea> of OR, AND, SUB and ADD; below 16 stand the forms Dy,Dx and -(Ay),-(Ax) of others
 abbrev pub fromDataLayout : Specifier → Size → ℕ → Layout
@@ -146,11 +146,11 @@ layoutOf group.UnsizedOneIllegal line x opmode ea = unsizedOneIllegalLayout x op
 layoutOf group.NbcdLink line x opmode ea = nbcdLinkLayout ea
 layoutOf group.PeaSwapBkpt line x opmode ea = peaSwapBkptLayout ea
 layoutOf group.MovemExt line x opmode ea = movemExtLayout x opmode ea
-layoutOf group.MULL line x opmode ea = one specifier.Multiply Long ea (bits dataColumn)
-layoutOf group.DIVL line x opmode ea = one specifier.Divide Long ea (bits dataColumn)
+layoutOf group.MULL line x opmode ea = one specifier.Multiply Long ea dataModes
+layoutOf group.DIVL line x opmode ea = one specifier.Divide Long ea dataModes
 layoutOf group.System line x opmode ea = systemLayout ea
 layoutOf group.LeaExtb line x opmode ea = leaExtbLayout x ea
-layoutOf group.CHK line x opmode ea = one specifier.Nothing (cond (eqb opmode 4) Long Word) ea (bits dataColumn)
+layoutOf group.CHK line x opmode ea = one specifier.Nothing (cond (eqb opmode 4) Long Word) ea dataModes
 layoutOf group.Quick line x opmode ea = quickLayout (sizeAt (opmode % 4)) ea
 layoutOf group.Conditional line x opmode ea = conditionalLayout ea
 layoutOf group.Branch line x opmode ea = branchLayout (opmode % 4 * 64 + ea)
