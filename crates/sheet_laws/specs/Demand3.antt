@@ -17,7 +17,7 @@ use Rattle.sheet_size_facts.specs.Counted.{counts}
 use Rattle.sheet_laws.specs.Follows.{reads, together}
 use Rattle.sheet_laws.specs.Demand.{line-stands}
 
-module _ (start : ℕ) (ps : List Parsed) (grammar : (n : ℕ) → InGrammar (lineAt (sheetAt start ps) n)) (even : start % 2 ≡ 0) (lines-some : 1 ≤ length ps) (room : ℕ)
+module _ (start : ℕ) (ps : List Parsed) (grammar : (n : ℕ) → InGrammar (lineAt (sheetAt start ps) n)) (even : start % 2 ≡ 0) (room : ℕ)
     (ok : AcceptedSheet (sheetAt start ps) room) where
   words-at : (n : ℕ) (h : 1 ≤ n) (g : n ≤ length ps)
       → take (countAt (sheetAt start ps) n) (drop ((addressAt (sheetAt start ps) n - start) / 2) (image (sheetAt start ps)))
@@ -32,17 +32,17 @@ module _ (start : ℕ) (ps : List Parsed) (grammar : (n : ℕ) → InGrammar (li
   sheet-stands : Demand3 (sheetAt start ps) (image (sheetAt start ps))
   sheet-stands =
       record {
-        together = together start ps lines-some (counts start ps grammar room ok) (line-stands start ps grammar room ok even);
-        each = λ n h g. record { read = reads start ps lines-some (counts start ps grammar room ok) (line-stands start ps grammar room ok even) n h g; words = words-at n h g };
+        together = together start ps (counts start ps grammar room ok) (line-stands start ps grammar room ok even);
+        each = λ n h g. record { read = reads start ps (counts start ps grammar room ok) (line-stands start ps grammar room ok even) n h g; words = words-at n h g };
       }
 
 -- of any even start and lines in the grammar
-pub demand-3 : (start : ℕ) (ps : List Parsed) (room : ℕ) → ((n : ℕ) → InGrammar (lineAt (sheetAt start ps) n)) → start % 2 ≡ 0 → 1 ≤ length ps
+pub demand-3 : (start : ℕ) (ps : List Parsed) (room : ℕ) → ((n : ℕ) → InGrammar (lineAt (sheetAt start ps) n)) → start % 2 ≡ 0
     → sheetOutcome (sheetAt start ps) room ≡ inOrder → Demand3 (sheetAt start ps) (image (sheetAt start ps))
-demand-3 start ps room grammar even some e = sheet-stands start ps grammar even some room (accepted-sheet start ps room e)
+demand-3 start ps room grammar even e = sheet-stands start ps grammar even room (accepted-sheet start ps room e)
 
 -- of a text
 pub demand-3-text : (text : List ℕ) (places room : ℕ) → outcomeOf text places room ≡ inOrder → Demand3 (sheetIn text) (image (sheetIn text))
 demand-3-text text places room e =
     let a = accepted text places room e in
-    sheet-stands (sheetIn text .start) (sheetIn text .lines) (line-grammar text) (a .even) (a .lines-some) room (a .lines)
+    sheet-stands (sheetIn text .start) (sheetIn text .lines) (line-grammar text) (a .even) room (a .lines)

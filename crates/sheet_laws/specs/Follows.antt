@@ -51,7 +51,7 @@ pub record LineStands (s : Sheet) (n : ℕ) : Type 0 where
   pub within : Within (nextWith (resolved s) s n) (length (s .lines)) (named s n)
 
 -- ---- the followers of a start and lines
-module _ (start : ℕ) (ps : List Parsed) (lines-some : 1 ≤ length ps) (counts : Counts (sheetAt start ps .counts) (encoded (sheetAt start ps)))
+module _ (start : ℕ) (ps : List Parsed) (counts : Counts (sheetAt start ps .counts) (encoded (sheetAt start ps)))
     (stands : (n : ℕ) → 1 ≤ n → n ≤ length ps → LineStands (sheetAt start ps) n) where
   abbrev s : Sheet
   s = sheetAt start ps
