@@ -2,9 +2,9 @@
 use mathlib.Core.Bool.{cond, _&&_}
 use mathlib.Core.List.{List, [], _∷_, _++_}
 use Prim.Native.Nat.{ℕ}
-use lib.IntN.{ℤ, pos}
+use lib.IntN.{ℤ}
 use Rattle.base_spec.specs.Written.{decimalOf, signedOf}
-use Rattle.base_spec.specs.Refused.{tab, refusedText, notInForm}
+use Rattle.base_spec.specs.Refused.{tab, refusalText, notInForm}
 use Rattle.base_spec.specs.Parts.{fields}
 use Rattle.base_spec.specs.Number.{numberOf}
 use Rattle.base_spec.specs.Numbers.{magnitudeOf}
@@ -22,10 +22,6 @@ numbersText (z ∷ zs) = signedOf z ++ tab ++ numbersText zs
 -- the numbers, => and the length
 unfoldable pub readText : List ℤ → ℕ → List ℕ
 readText zs n = numbersText zs ++ (61 ∷ 62 ∷ 9 ∷ []) ++ decimalOf n ++ (10 ∷ [])
-
--- refused⇥number⇥0⇥0
-abbrev pub refusalText : ℕ → List ℕ
-refusalText number = refusedText number 0 (pos 0) ++ (10 ∷ [])
 
 abbrev pub readingText : Reading → List ℕ
 readingText (Read i n) = readText (numbersOf i) n
