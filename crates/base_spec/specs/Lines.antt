@@ -1,10 +1,9 @@
--- What is printed for a text, line by line, and for a part of it that fits a buffer; `answer` is what a line gets, and `need` the places that must be left before one.
-use mathlib.Core.Path.{_≡_}
+-- What is printed for a text, line by line, as far as a buffer has room; `answer` is what a line gets, and `need` the places that must be left before one.
 use mathlib.Core.Bool.{cond}
 use mathlib.Core.List.{List, [], _∷_, _++_}
-use Prim.Native.Nat.{ℕ, _+_, _-_, _≤_, _<_}
+use Prim.Native.Nat.{ℕ, _+_, _-_}
 use lib.Dec.{eqb, ltb}
-use lib.ListN.{length, take, drop}
+use lib.ListN.{length, drop}
 use Rattle.base_spec.specs.Parts.{onto}
 use Rattle.base_spec.specs.declared.Step.{Step}
 
@@ -20,19 +19,23 @@ answersTo answer (l ∷ ls) = answer l ++ answersTo answer ls
 unfoldable pub answersOf : (List ℕ → List ℕ) → List ℕ → List ℕ
 answersOf answer text = answersTo answer (linesOf text)
 
--- where a walk over lines stops: before a line that finds fewer places left than it needs, or past the last one
-abbrev pub stepOver : (List ℕ → List ℕ) → ℕ → List (List ℕ) → ℕ → ℕ → ℕ → Step
-stepOver answer need [] next room at = record { next = next; count = at }
-stepOver answer need (l ∷ ls) next room at =
-    cond (ltb (room - at) need) (record { next = next; count = at }) (stepOver answer need ls (next + length l + 1) room (at + length (answer l)))
+-- the lines that are answered in `room` places: those before the first that finds fewer than it needs
+abbrev pub fitting : (List ℕ → List ℕ) → ℕ → ℕ → List (List ℕ) → List (List ℕ)
+fitting answer need room [] = []
+fitting answer need room (l ∷ ls) = cond (ltb room need) [] (l ∷ fitting answer need (room - length (answer l)) ls)
+
+-- the places of lines in a text, each with its LF
+abbrev pub spanOf : List (List ℕ) → ℕ
+spanOf [] = 0
+spanOf (l ∷ ls) = length l + 1 + spanOf ls
+
+-- what is written of the text from `from` on, where and after how much it stops
+unfoldable pub answeredOf : (List ℕ → List ℕ) → ℕ → List ℕ → ℕ → ℕ → List ℕ
+answeredOf answer need text from room = answersTo answer (fitting answer need room (linesOf (drop from text)))
 
 unfoldable pub stepOf : (List ℕ → List ℕ) → ℕ → List ℕ → ℕ → ℕ → Step
-stepOf answer need text from room = stepOver answer need (linesOf (drop from text)) from room 0
-
--- the lines of the text from `from` to r .next are answered in the first r .count places of buf, which makes it out
-pub record Answered (answer : List ℕ → List ℕ) (need : ℕ) (text : List ℕ) (from : ℕ) (buf out : List ℕ) (r : Step) : Type 0 where
-  pub step : r ≡ stepOf answer need text from (length buf)
-  pub all : answersOf answer (drop from text) ≡ take (r .count) out ++ answersOf answer (drop (r .next) text)
-  pub rest : drop (r .count) out ≡ drop (r .count) buf
-  pub room : r .count ≤ length buf
-  pub onward : from < length text → need ≤ length buf → from < r .next
+stepOf answer need text from room =
+    record {
+      next = from + spanOf (fitting answer need room (linesOf (drop from text)));
+      count = length (answeredOf answer need text from room);
+    }

@@ -16,6 +16,14 @@ unfoldable pub refusedText : ℕ → ℕ → ℤ → List ℕ
 refusedText number detail value =
     (114 ∷ 101 ∷ 102 ∷ 117 ∷ 115 ∷ 101 ∷ 100 ∷ 9 ∷ []) ++ fieldText number ++ fieldText detail ++ signedOf value
 
--- refused⇥7⇥0⇥0
+-- refused⇥number⇥0⇥0, a line of its own
+abbrev pub refusalText : ℕ → List ℕ
+refusalText number = refusedText number 0 (pos 0) ++ (10 ∷ [])
+
+-- what a line gets that is not in the form
 abbrev pub notInForm : List ℕ
-notInForm = refusedText 7 0 (pos 0) ++ (10 ∷ [])
+notInForm = refusalText 7
+
+-- what is printed for an input that is longer than a program takes
+abbrev pub tooLong : List ℕ
+tooLong = refusalText 10

@@ -14,7 +14,11 @@ placed buf at t = take at buf ++ t ++ drop (at + length t) buf
 abbrev pub hexDigit : ℕ → ℕ
 hexDigit d = cond (ltb d 10) (48 + d) (55 + d)
 
--- four capital hexadecimal digits
+-- two capital hexadecimal digits
+abbrev pub hex2Of : ℕ → List ℕ
+hex2Of b = hexDigit (b / 16 % 16) ∷ hexDigit (b % 16) ∷ []
+
+-- four of them
 abbrev pub hex4Of : ℕ → List ℕ
 hex4Of w = hexDigit (w / 4096 % 16) ∷ hexDigit (w / 256 % 16) ∷ hexDigit (w / 16 % 16) ∷ hexDigit (w % 16) ∷ []
 

@@ -1,18 +1,21 @@
 -- Laws of what is printed for a text, line by line. Assumes nothing.
-use mathlib.Core.Path.{_≡_, refl, ap, sym, _∙_}
+use mathlib.Core.Path.{_≡_, refl, ap, sym, _∙_, subst}
 use mathlib.Core.Bool.{Bool, true, false, cond}
-use mathlib.Core.List.{List, [], _∷_, _++_, append-assoc}
+use mathlib.Core.List.{List, [], _∷_, _++_, append-assoc, append-nil}
 use Prim.Native.Nat.{ℕ, zero, suc, _+_, _-_, _≤_, _<_}
 use native.Mathlib.Omega.{arith}
 use lib.ListN.{length, take, drop, length-append, length-take, length-drop}
-use lib.Seq.{take-at, drop-at, drop-drop}
-use lib.Dec.{eqb}
+use lib.Seq.{drop-drop}
+use lib.Dec.{eqb, ltb}
 use Rattle.base_text.specs.Parts.{before, partEnd}
 use Rattle.base_spec.specs.Parts.{onto}
 use Rattle.base_text.specs.PartLaws.{part-is}
 use Rattle.base_text.specs.Wrote.{Wrote}
+use Rattle.base_text.specs.WroteLaws.{wrote-none, wrote-then}
+use Rattle.base_spec.specs.Written.{placed}
 use borrow.Author.Tests.{lt-ltb, le-ltb}
-use Rattle.base_spec.specs.Lines.{linesOf, answersTo, answersOf, stepOver, stepOf}
+use Rattle.base_spec.specs.declared.Step.{Step}
+use Rattle.base_spec.specs.Lines.{linesOf, answersTo, answersOf, fitting, spanOf, answeredOf, stepOf}
 
 lines-first : (b : ℕ) (bs : List ℕ) → linesOf (b ∷ bs) ≡ before 10 (b ∷ bs) ∷ linesOf (drop (suc (length (before 10 (b ∷ bs)))) (b ∷ bs))
 lines-first b [] = go (eqb b 10)
@@ -44,56 +47,123 @@ lines-next text from e h g =
     let q : from + suc (length (before 10 (drop from text))) ≡ e + 1 = omega arith in
     rw (part-is 10 text from e g, lines-of (drop from text) (omega (arith, length-drop from text)), drop-drop (suc (length (before 10 (drop from text)))) from text, q)
 
+-- a walk over the lines from `from` on has come to `next`, with `at` places of buf written, which makes it out
+pub record Walked (answer : List ℕ → List ℕ) (need : ℕ) (text : List ℕ) (from : ℕ) (buf out : List ℕ) (next at : ℕ) : Type 0 where
+  pub done : List (List ℕ)
+  pub lines : fitting answer need (length buf) (linesOf (drop from text)) ≡ done ++ fitting answer need (length buf - at) (linesOf (drop next text))
+  pub reached : next ≡ from + spanOf done
+  pub wrote : Wrote buf 0 (answersTo answer done) out at
+
+span-more : (ls : List (List ℕ)) (l : List ℕ) → spanOf (ls ++ (l ∷ [])) ≡ spanOf ls + (length l + 1)
+span-more [] l = omega arith
+span-more (k ∷ ls) l = omega (arith, span-more ls l)
+
 module _ (answer : List ℕ → List ℕ) where
-  answers-first : (l : List ℕ) → 0 < length l → answersOf answer l ≡ answer (before 10 l) ++ answersOf answer (drop (suc (length (before 10 l))) l)
-  unfolding answersOf
-  answers-first [] h = absurd (omega arith)
-  answers-first (b ∷ bs) h = ap (answersTo answer) (lines-first b bs)
+  answers-more : (ls : List (List ℕ)) (l : List ℕ) → answersTo answer (ls ++ (l ∷ [])) ≡ answersTo answer ls ++ answer l
+  answers-more [] l = append-nil (answer l)
+  answers-more (k ∷ ls) l = ap (λ (t : List ℕ). answer k ++ t) (answers-more ls l) ∙ sym (append-assoc (answer k) (answersTo answer ls) (answer l))
 
-  -- the line that begins at `from`, and those past it
-  pub answers-next : (text : List ℕ) (from e : ℕ) → from < length text → e ≡ partEnd 10 text from
-      → answersOf answer (drop from text) ≡ answer (take (e - from) (drop from text)) ++ answersOf answer (drop (e + 1) text)
-  answers-next text from e h g =
-      let q : from + suc (length (before 10 (drop from text))) ≡ e + 1 = omega arith in
-      rw (part-is 10 text from e g, answers-first (drop from text) (omega (arith, length-drop from text)), drop-drop (suc (length (before 10 (drop from text)))) from text, q)
+  module _ (need : ℕ) (text : List ℕ) (from : ℕ) (buf : List ℕ) where
+    pub walked-start : Walked answer need text from buf buf from 0
+    walked-start =
+        let q : length buf - 0 ≡ length buf = omega arith in
+        record { done = []; lines = rw q; reached = omega arith; wrote = wrote-none buf 0 }
 
-  -- the walk goes on by one line, or stops
+    -- it goes on by one line
+    pub walked-on : {mid out : List ℕ} {next at r : ℕ} (e : ℕ) → Walked answer need text from buf mid next at → next < length text → e ≡ partEnd 10 text next → e ≤ length text
+        → need ≤ length buf - at → Wrote mid at (answer (take (e - next) (drop next text))) out r → r ≤ length buf → Walked answer need text from buf out (e + 1) r
+    walked-on {mid} {out} {next} {at} {r} e w h g m k v f =
+        let line = take (e - next) (drop next text) in
+        let q : length buf - at - length (answer line) ≡ length buf - r = omega (arith, v .next) in
+        let b : next ≤ e = omega arith in
+        let n : length line ≡ e - next = rw (length-take, length-drop) (omega arith) in
+        let one : fitting answer need (length buf - at) (linesOf (drop next text)) ≡ line ∷ fitting answer need (length buf - r) (linesOf (drop (e + 1) text)) =
+        rw (lines-next text next e h g, le-ltb (length buf - at) need k, q) in
+        record {
+          done = w .done ++ (line ∷ []);
+          lines = w .lines ∙ ap (λ (t : List (List ℕ)). w .done ++ t) one ∙ sym (append-assoc (w .done) (line ∷ []) (fitting answer need (length buf - r) (linesOf (drop (e + 1) text))));
+          reached = omega (arith, w .reached, span-more (w .done) line, n);
+          wrote = rw (answers-more (w .done) line) (wrote-then (w .wrote) v f);
+        }
+
+    -- it stops where the room or the text ends
+    module _ {out : List ℕ} {next at : ℕ} (w : Walked answer need text from buf out next at) where
+      stopped : fitting answer need (length buf - at) (linesOf (drop next text)) ≡ []
+          → (record { next = next; count = at } ≡ stepOf answer need text from (length buf)) × (out ≡ placed buf 0 (answeredOf answer need text from (length buf)))
+      unfolding stepOf answeredOf
+      stopped e =
+          let d : fitting answer need (length buf) (linesOf (drop from text)) ≡ w .done = w .lines ∙ ap (λ (t : List (List ℕ)). w .done ++ t) e ∙ append-nil (w .done) in
+          let stops : at ≡ length (answersTo answer (w .done)) = omega (arith, w .wrote .next) in
+          rw d ((λ i. record { next = w .reached i; count = stops i }), w .wrote .image)
+
+      full : (ls : List (List ℕ)) → length buf - at < need → fitting answer need (length buf - at) ls ≡ []
+      full [] h = refl
+      full (l ∷ ls) h = rw (lt-ltb (length buf - at) need h)
+
+      pub walked-full : length buf - at < need
+          → (record { next = next; count = at } ≡ stepOf answer need text from (length buf)) × (out ≡ placed buf 0 (answeredOf answer need text from (length buf)))
+      walked-full h = stopped (full (linesOf (drop next text)) h)
+
+      pub walked-end : length text ≤ next
+          → (record { next = next; count = at } ≡ stepOf answer need text from (length buf)) × (out ≡ placed buf 0 (answeredOf answer need text from (length buf)))
+      walked-end h = stopped (rw (drop-all text next h))
+
+  -- what is written fits
+  pub step-room : {out : List ℕ} {r : Step} (need : ℕ) (text : List ℕ) (from : ℕ) (buf : List ℕ)
+      → (r ≡ stepOf answer need text from (length buf)) × (out ≡ placed buf 0 (answeredOf answer need text from (length buf))) → length out ≡ length buf → r .count ≤ length buf
+  unfolding stepOf
+  step-room {out} {r} need text from buf (e, f) h =
+      let t = answeredOf answer need text from (length buf) in
+      let n : r .count ≡ length t = ap (λ (s : Step). s .count) e in
+      omega (arith, n, ap length f, length-append t (drop (0 + length t) buf))
+
   module _ (need : ℕ) where
-    pub step-on : (text : List ℕ) (from e room at r : ℕ) → from < length text → e ≡ partEnd 10 text from → e ≤ length text → need ≤ room - at
-        → r ≡ at + length (answer (take (e - from) (drop from text)))
-        → stepOver answer need (linesOf (drop from text)) from room at ≡ stepOver answer need (linesOf (drop (e + 1) text)) (e + 1) room r
-    step-on text from e room at r h g m k f =
-        let b : from ≤ e = omega arith in
-        let n : length (take (e - from) (drop from text)) ≡ e - from = rw (length-take, length-drop) (omega arith) in
-        let q : from + (e - from) + 1 ≡ e + 1 = omega arith in
-        rw (lines-next text from e h g, le-ltb (room - at) need k, n, q, f)
+    abbrev AllLines : ℕ → List ℕ → List (List ℕ) → Type 0
+    AllLines room s ls = answersTo answer ls ≡ answersTo answer (fitting answer need room ls) ++ answersTo answer (linesOf (drop (spanOf (fitting answer need room ls)) s))
 
-    pub step-start : (text : List ℕ) (from room : ℕ) → stepOf answer need text from room ≡ stepOver answer need (linesOf (drop from text)) from room 0
-    unfolding stepOf
-    step-start text from room = refl
+    lines-step : (k : ℕ) → ((s : List ℕ) (room : ℕ) → length s ≤ k → AllLines room s (linesOf s)) → (s : List ℕ) (room : ℕ) → length s ≤ suc k → AllLines room s (linesOf s)
+    lines-step k f [] room h = refl
+    lines-step k f (b ∷ bs) room h = subst (AllLines room (b ∷ bs)) (sym (lines-first b bs)) (go (ltb room need))
+      where
+        l : List ℕ
+        l = before 10 (b ∷ bs)
 
-    pub step-full : (ls : List (List ℕ)) (from room at : ℕ) → room - at < need → stepOver answer need ls from room at ≡ record { next = from; count = at }
-    step-full [] from room at h = refl
-    step-full (l ∷ ls) from room at h = rw (lt-ltb (room - at) need h)
+        rest : List ℕ
+        rest = drop (suc (length l)) (b ∷ bs)
 
-    pub step-end : (text : List ℕ) (from room at : ℕ) → length text ≤ from → stepOver answer need (linesOf (drop from text)) from room at ≡ record { next = from; count = at }
-    step-end text from room at h = rw (drop-all text from h)
+        left : ℕ
+        left = room - length (answer l)
 
--- a line's answer in its places
-module _ {buf out t : List ℕ} {at r : ℕ} (w : Wrote buf at t out r) (h : r ≤ length buf) where
-  n : length (take at buf ++ t) ≡ r
-  n = rw (length-append, length-take) (omega (arith, w .next))
+        fits : List (List ℕ)
+        fits = fitting answer need left (linesOf rest)
 
-  pub wrote-take : take r out ≡ take at buf ++ t
-  wrote-take = rw (w .image) (take-at (take at buf ++ t) (drop (at + length t) buf) r n)
+        far : drop (spanOf fits) rest ≡ drop (length l + 1 + spanOf fits) (b ∷ bs)
+        far = let q : suc (length l) + spanOf fits ≡ length l + 1 + spanOf fits = omega arith in drop-drop (spanOf fits) (suc (length l)) (b ∷ bs) ∙ ap (λ (n : ℕ). drop n (b ∷ bs)) q
 
-  pub wrote-drop : drop r out ≡ drop r buf
-  wrote-drop = rw (w .image, drop-at (take at buf ++ t) (drop (at + length t) buf) r n, w .next)
+        go : (t : Bool) → answersTo answer (l ∷ linesOf rest)
+            ≡ answersTo answer (cond t [] (l ∷ fits)) ++ answersTo answer (linesOf (drop (spanOf (cond t [] (l ∷ fits))) (b ∷ bs)))
+        go true = ap (answersTo answer) (sym (lines-first b bs))
+        go false =
+            ap (λ (t : List ℕ). answer l ++ t) (f rest left (omega (arith, length-drop (suc (length l)) (b ∷ bs))))
+            ∙ ap (λ (t : List ℕ). answer l ++ (answersTo answer fits ++ answersTo answer (linesOf t))) far
+            ∙ sym (append-assoc (answer l) (answersTo answer fits) (answersTo answer (linesOf (drop (length l + 1 + spanOf fits) (b ∷ bs)))))
 
-pub take-on : {mid out t : List ℕ} {at r : ℕ} (all rest more : List ℕ) → all ≡ take at mid ++ rest → rest ≡ t ++ more
-    → Wrote mid at t out r → r ≤ length mid → all ≡ take r out ++ more
-take-on all rest more e f w h = e ∙ rw (f, wrote-take w h, append-assoc)
+    all-lines : (k : ℕ) (s : List ℕ) (room : ℕ) → length s ≤ k → AllLines room s (linesOf s)
+    all-lines zero [] room h = refl
+    all-lines zero (b ∷ bs) room h = absurd (omega arith)
+    all-lines (suc k) s room h = lines-step k (all-lines k) s room h
 
-pub drop-on : {mid out t : List ℕ} {at r : ℕ} (buf : List ℕ) → drop at mid ≡ drop at buf → Wrote mid at t out r → r ≤ length mid → drop r out ≡ drop r buf
-drop-on {mid} {out} {t} {at} {r} buf e w h =
-    wrote-drop w h ∙ rw (w .next) (sym (drop-drop (length t) at mid) ∙ ap (drop (length t)) e ∙ drop-drop (length t) at buf)
+-- a step goes on where there is room
+pub step-onward : (answer : List ℕ → List ℕ) (need : ℕ) (text : List ℕ) (from room : ℕ) → from < length text → need ≤ room → from < stepOf answer need text from room .next
+unfolding stepOf
+step-onward answer need text from room h g =
+    rw (lines-of (drop from text) (omega (arith, length-drop from text)), le-ltb room need g) (omega arith)
+
+-- and the steps print the answers to all lines
+pub answers-all : (answer : List ℕ → List ℕ) (need : ℕ) (text : List ℕ) (from room : ℕ)
+    → answersOf answer (drop from text) ≡ answeredOf answer need text from room ++ answersOf answer (drop (stepOf answer need text from room .next) text)
+unfolding answersOf answeredOf stepOf
+answers-all answer need text from room =
+    let fits = fitting answer need room (linesOf (drop from text)) in
+    all-lines answer need (length (drop from text)) (drop from text) room (omega arith)
+    ∙ ap (λ (t : List ℕ). answersTo answer fits ++ answersTo answer (linesOf t)) (drop-drop (spanOf fits) from text)

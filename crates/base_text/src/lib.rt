@@ -7,9 +7,9 @@ ghost use Rattle.base_text.specs.Parts.{partEnd};
 ghost use Rattle.base_text.specs.Number.{digitsFrom};
 ghost use Rattle.base_spec.specs.Number.{unsignedOf, negated, numberOf};
 ghost use Rattle.base_text.specs.Numbers.{noNumbers, lineNumbers, placedNumber, withNumber};
-ghost use Rattle.base_spec.specs.Written.{placed, hexDigit, hex4Of, hex8Of, decimalOf, signedOf};
+ghost use Rattle.base_spec.specs.Written.{placed, hexDigit, hex2Of, hex4Of, hex8Of, decimalOf, signedOf};
 ghost use Rattle.base_text.specs.Wrote.{Wrote};
-ghost use Rattle.base_spec.specs.Refused.{fieldText, refusedText, notInForm};
+ghost use Rattle.base_spec.specs.Refused.{fieldText, refusedText, refusalText, notInForm, tooLong};
 use base_spec::Number;
 
 // Where the part that begins at `from` ends: the next `stop`, or the end.
@@ -225,6 +225,14 @@ fn hex_digit(w: u16) -> u8
     if d < 10 { 48 + d as u8 } else { 55 + d as u8 }
 }
 
+pub fn put_hex2(out: &mut [u8], at: usize, b: u8) -> usize
+    requires { ⌜ at + 2 ≤ length (now out) ⌝ }
+    ensures { λ r. ⌜ (r ≡ at + 2) × (now (out .exit) ≡ placed (now (out .entry)) at (hex2Of b)) ⌝ }
+{
+    let digits = [hex_digit((b / 16) as u16), hex_digit(b as u16)];
+    put(out, at, &digits)
+}
+
 pub fn put_hex4(out: &mut [u8], at: usize, w: u16) -> usize
     requires { ⌜ at + 4 ≤ length (now out) ⌝ }
     ensures { λ r. ⌜ (r ≡ at + 4) × (now (out .exit) ≡ placed (now (out .entry)) at (hex4Of w)) ⌝ }
@@ -297,11 +305,26 @@ pub fn put_refusal(out: &mut [u8], at: usize, number: u8, detail: u8, value: i64
     put_signed(out, next, value)
 }
 
+// A refusal with no detail and no value, a line of its own.
+pub fn put_refused(out: &mut [u8], at: usize, number: u8) -> usize
+    requires { ⌜ at + 37 ≤ length (now out) ⌝ }
+    ensures { λ r. ⌜ Wrote (now (out .entry)) at (refusalText number) (now (out .exit)) r × (r ≤ at + 37) ⌝ }
+{
+    let next = put_refusal(out, at, number, 0, 0);
+    put_byte(out, next, b'\n')
+}
+
 // What a line gets that is not in the form.
 pub fn put_not_in_form(out: &mut [u8], at: usize) -> usize
     requires { ⌜ at + 37 ≤ length (now out) ⌝ }
     ensures { λ r. ⌜ Wrote (now (out .entry)) at notInForm (now (out .exit)) r × (r ≤ at + 37) ⌝ }
 {
-    let next = put_refusal(out, at, 7, 0, 0);
-    put_byte(out, next, b'\n')
+    put_refused(out, at, 7)
+}
+
+// What is printed for an input that is longer than a program takes.
+pub fn too_long() -> [u8; 15]
+    ensures { λ r. ⌜ r ≡ tooLong ⌝ }
+{
+    *b"refused\t10\t0\t0\n"
 }

@@ -4,9 +4,12 @@ ghost use Prim.Native.Nat.{_+_, _≤_};
 ghost use lib.ListN.{length, take};
 ghost use Rattle.base_spec.specs.Written.{placed};
 ghost use Rattle.base_text.specs.Wrote.{Wrote};
-ghost use Rattle.base_spec.specs.Lines.{Answered};
+ghost use Rattle.base_spec.specs.Lines.{answeredOf, stepOf};
 ghost use Rattle.print_spec.specs.EncodeAnswer.{wordsText, encodedText, measuredText, resultText, builtText, answerOf};
 ghost use Rattle.encode_answers.specs.Places.{placesIn, placesText};
+
+pub mod bytes;
+
 use base_spec::Step;
 use isa::Encoded;
 use isa::Measured;
@@ -42,7 +45,7 @@ fn put_encoded(out: &mut [u8], at: usize, e: Encoded) -> usize
 }
 
 // The size or the refusal.
-fn put_measured(out: &mut [u8], at: usize, m: Measured) -> usize
+pub fn put_measured(out: &mut [u8], at: usize, m: Measured) -> usize
     requires { ⌜ at + 36 ≤ length (now out) ⌝ }
     ensures { λ r. ⌜ Wrote (now (out .entry)) at (measuredText m) (now (out .exit)) r × (r ≤ at + 36) ⌝ }
 {
@@ -91,7 +94,7 @@ fn put_numbers(out: &mut [u8], at: usize, numbers: Numbers) -> usize
     }
 }
 
-fn numbers_in(n: base_text::LineNumbers) -> Numbers
+pub fn numbers_in(n: base_text::LineNumbers) -> Numbers
     ensures { λ r. ⌜ r ≡ placesIn n ⌝ }
 {
     let negative = n.negative;
@@ -118,7 +121,7 @@ pub fn answer(line: &[u8], out: &mut [u8], at: usize) -> usize
 
 // The answers to the lines from a place on, while the buffer has room.
 pub fn answers(text: &[u8], from: usize, out: &mut [u8]) -> Step
-    ensures { λ r. ⌜ Answered answerOf 128 (now (text .entry)) from (now (out .entry)) (now (out .exit)) r ⌝ }
+    ensures { λ r. ⌜ (r ≡ stepOf answerOf 128 (now (text .entry)) from (length (now (out .entry)))) × (now (out .exit) ≡ placed (now (out .entry)) 0 (answeredOf answerOf 128 (now (text .entry)) from (length (now (out .entry))))) ⌝ }
 {
     let mut next = from;
     let mut at: usize = 0;

@@ -1,4 +1,5 @@
 pub mod BitFieldOperation
+pub mod ControlRegister
 pub mod DisplacementSize
 pub mod ExtensionWord
 pub mod Fields

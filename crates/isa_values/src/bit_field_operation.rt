@@ -2,8 +2,28 @@
 ghost use mathlib.Core.Path.{_≡_};
 ghost use Prim.Native.Nat.{_<_};
 ghost use Rattle.encode_spec.specs.Bits.{bitFieldCode, writes};
-ghost use Rattle.isa_values.specs.BitFieldOperation.{hasRegister};
+ghost use Rattle.isa_values.specs.BitFieldOperation.{hasRegister, bitFieldOf};
 use isa::BitFieldOperation;
+
+// The eight, in the order of their code.
+pub const ALL: [BitFieldOperation; 8] = [
+    BitFieldOperation::Test,
+    BitFieldOperation::ExtractUnsigned,
+    BitFieldOperation::Change,
+    BitFieldOperation::ExtractSigned,
+    BitFieldOperation::Clear,
+    BitFieldOperation::FindFirstOne,
+    BitFieldOperation::Set,
+    BitFieldOperation::Insert,
+];
+
+// The operation of the low three bits.
+pub fn from_code(code: u16) -> BitFieldOperation
+    ensures { λ r. ⌜ r ≡ bitFieldOf code ⌝ }
+{
+    let i = (code % 8) as usize;
+    ALL[i]
+}
 
 // Whether it names a data register beside the field.
 pub fn has_register(operation: BitFieldOperation) -> bool

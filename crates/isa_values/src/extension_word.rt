@@ -16,6 +16,16 @@ use isa::Size;
 // The word as it is encoded.
 pub struct ExtensionWord(pub u16);
 
+// The bit of the full format, and its BS and IS.
+pub const FULL: u16 = 0x0100;
+
+pub const BASE_SUPPRESSED: u16 = 0x0080;
+
+pub const INDEX_SUPPRESSED: u16 = 0x0040;
+
+// How far the extension word of a PC-relative operand usually stands from the instruction.
+pub const EXTENSION_WORD_OFFSET: i32 = 2;
+
 // An index register that may be missing.
 pub enum IndexChoice {
     None,
@@ -27,21 +37,21 @@ impl ExtensionWord {
     pub fn is_full(self) -> bool
         ensures { λ r. ⌜ r ≡ isFull (self .0) ⌝ }
     {
-        self.0 / 256 % 2 == 1
+        self.0 / FULL % 2 == 1
     }
 
     // Whether the base register is suppressed.
     pub fn base_suppressed(self) -> bool
         ensures { λ r. ⌜ r ≡ baseSuppressed (self .0) ⌝ }
     {
-        self.is_full() & (self.0 / 128 % 2 == 1)
+        self.is_full() & (self.0 / BASE_SUPPRESSED % 2 == 1)
     }
 
     // Whether the index is suppressed.
     pub fn index_suppressed(self) -> bool
         ensures { λ r. ⌜ r ≡ indexSuppressed (self .0) ⌝ }
     {
-        self.is_full() & (self.0 / 64 % 2 == 1)
+        self.is_full() & (self.0 / INDEX_SUPPRESSED % 2 == 1)
     }
 
     // The width of the base displacement of a full word.
@@ -201,9 +211,9 @@ impl ExtensionWord {
         ensures { λ r. ⌜ r .0 ≡ fullWord index scale «base_suppressed» «index_suppressed» «base_displacement» indirection «outer_displacement» ⌝ }
     {
         let upper = ExtensionWord::index_bits(index, scale)
-            + 256
-            + bit(base_suppressed) * 128
-            + bit(index_suppressed) * 64;
+            + FULL
+            + bit(base_suppressed) * BASE_SUPPRESSED
+            + bit(index_suppressed) * INDEX_SUPPRESSED;
         let lower = displacement_size::code(base_displacement) * 16
             + indirection_code(indirection, outer_displacement);
         ExtensionWord(upper + lower)

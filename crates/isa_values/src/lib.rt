@@ -7,5 +7,6 @@ pub mod displacement_size;
 pub mod extension_word;
 pub mod field;
 pub mod index_base;
+pub mod processor;
 pub mod register_operand;
 pub mod size;

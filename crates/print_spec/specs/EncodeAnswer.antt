@@ -48,10 +48,10 @@ addressedText notThere = notInForm
 unfoldable pub instructionText : List ℤ → List ℕ
 instructionText zs = addressedText (takeLong zs)
 
--- for the numbers that the fields of a line say
-unfoldable pub lineNumbersText : List Number → List ℕ
-lineNumbersText ns = cond (allNumbers ns) (instructionText (map integerOf ns)) notInForm
+-- for the numbers that the fields of a line say; `text` is what numbers get
+unfoldable pub lineNumbersText : (List ℤ → List ℕ) → List Number → List ℕ
+lineNumbersText text ns = cond (allNumbers ns) (text (map integerOf ns)) notInForm
 
 -- for a line
 unfoldable pub answerOf : List ℕ → List ℕ
-answerOf line = lineNumbersText (map numberOf (fields line))
+answerOf line = lineNumbersText instructionText (map numberOf (fields line))

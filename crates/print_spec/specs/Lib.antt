@@ -1,4 +1,5 @@
 pub mod EncodeAnswer
+pub mod BytesAnswer
 pub mod Run
 pub mod ReadAnswer
 pub mod Printed

@@ -26,13 +26,13 @@ unfoldable pub readText : List ℤ → ℕ → List ℕ
 readText zs n = numbersText zs ++ (61 ∷ 62 ∷ 9 ∷ []) ++ decimalOf n ++ (10 ∷ [])
 
 -- refused⇥number⇥detail⇥value
-abbrev pub refusalText : Measured → List ℕ
-refusalText m = refusedText (m .number) (m .detail) (m .value) ++ (10 ∷ [])
+abbrev pub refusedRunText : Measured → List ℕ
+refusedRunText m = refusedText (m .number) (m .detail) (m .value) ++ (10 ∷ [])
 
 abbrev pub readingText : Reading → List ℕ
 readingText (Read i n) = readText (numbersOf i) n
-readingText Short = refusalText (readingRefusal Short)
-readingText Nothing = refusalText (readingRefusal Nothing)
+readingText Short = refusedRunText (readingRefusal Short)
+readingText Nothing = refusedRunText (readingRefusal Nothing)
 
 -- for the fields of a line: an address, then words
 abbrev pub answerTo : List (List ℕ) → List ℕ

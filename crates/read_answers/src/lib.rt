@@ -4,9 +4,8 @@ ghost use Prim.Native.Nat.{_+_, _≤_};
 ghost use lib.ListN.{length};
 ghost use Rattle.base_spec.specs.Written.{placed};
 ghost use Rattle.base_text.specs.Wrote.{Wrote};
-ghost use Rattle.base_spec.specs.Lines.{Answered};
-ghost use Rattle.read_spec.specs.Refusal.{refusedRun};
-ghost use Rattle.print_spec.specs.ReadAnswer.{refusalText, readingText};
+ghost use Rattle.base_spec.specs.Lines.{answeredOf, stepOf};
+ghost use Rattle.print_spec.specs.ReadAnswer.{readingText};
 ghost use Rattle.read_runs.specs.Kept.{runText, keptAnswerOf};
 ghost use Rattle.read_answers.specs.Put.{minusIf, heldText, firstNumbers, putText};
 use base_spec::Step;
@@ -60,23 +59,14 @@ fn put_read(out: &mut [u8], at: usize, numbers: Numbers, bytes: u32) -> usize
     base_text::put_byte(out, next, b'\n')
 }
 
-// A refusal with no detail and no value.
-fn put_refused(out: &mut [u8], at: usize, number: u8) -> usize
-    requires { ⌜ at + 37 ≤ length (now out) ⌝ }
-    ensures { λ r. ⌜ Wrote (now (out .entry)) at (refusalText (refusedRun number)) (now (out .exit)) r × (r ≤ at + 37) ⌝ }
-{
-    let next = base_text::put_refusal(out, at, number, 0, 0);
-    base_text::put_byte(out, next, b'\n')
-}
-
 fn put_reading(out: &mut [u8], at: usize, reading: Reading) -> usize
     requires { ⌜ at + 398 ≤ length (now out) ⌝ }
     ensures { λ r. ⌜ Wrote (now (out .entry)) at (readingText reading) (now (out .exit)) r × (r ≤ at + 398) ⌝ }
 {
     match reading {
         Reading::Read(i, n) => put_read(out, at, numeric_numbers::numbers(i), n),
-        Reading::Short => put_refused(out, at, 5),
-        Reading::Nothing => put_refused(out, at, 6),
+        Reading::Short => base_text::put_refused(out, at, 5),
+        Reading::Nothing => base_text::put_refused(out, at, 6),
     }
 }
 
@@ -104,7 +94,7 @@ pub fn answer(line: &[u8], out: &mut [u8], at: usize) -> usize
 
 // The answers to the lines from a place on, while the buffer has room.
 pub fn answers(text: &[u8], from: usize, out: &mut [u8]) -> Step
-    ensures { λ r. ⌜ Answered keptAnswerOf 512 (now (text .entry)) from (now (out .entry)) (now (out .exit)) r ⌝ }
+    ensures { λ r. ⌜ (r ≡ stepOf keptAnswerOf 512 (now (text .entry)) from (length (now (out .entry)))) × (now (out .exit) ≡ placed (now (out .entry)) 0 (answeredOf keptAnswerOf 512 (now (text .entry)) from (length (now (out .entry))))) ⌝ }
 {
     let mut next = from;
     let mut at: usize = 0;

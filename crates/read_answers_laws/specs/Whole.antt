@@ -1,5 +1,5 @@
 -- The answer speaks of all the words of a line, though only the first 16 are kept.
-use mathlib.Core.Path.{_≡_, refl, ap, _∙_, subst}
+use mathlib.Core.Path.{_≡_, refl, ap, _∙_}
 use mathlib.Core.Bool.{Bool, true, false, cond, _&&_}
 use mathlib.Core.List.{List, [], _∷_}
 use Prim.Native.Nat.{ℕ}
@@ -7,8 +7,7 @@ use lib.ListN.{take}
 use Rattle.base_spec.specs.Parts.{fields}
 use Rattle.base_spec.specs.Number.{numberOf}
 use Rattle.base_spec.specs.Numbers.{magnitudeOf}
-use Rattle.base_spec.specs.declared.Step.{Step}
-use Rattle.base_spec.specs.Lines.{Answered}
+use Rattle.base_spec.specs.Lines.{answeredOf, stepOf}
 use Rattle.base_spec.specs.Refused.{notInForm}
 use Rattle.read_spec.specs.Read.{readOf}
 use Rattle.read_laws.specs.Kept.{read-kept}
@@ -47,5 +46,6 @@ unfolding keptAnswerOf runOf readAnswerOf
 answer-whole line = answer-if (fields line)
 
 -- and so of every line that `answers` answers
-pub answers-whole : (need : ℕ) (text : List ℕ) (from : ℕ) (buf out : List ℕ) (r : Step) → Answered keptAnswerOf need text from buf out r → Answered readAnswerOf need text from buf out r
-answers-whole need text from buf out r h = subst (λ (answer : List ℕ → List ℕ). Answered answer need text from buf out r) (λ i line. answer-whole line i) h
+pub answers-whole : (need : ℕ) (text : List ℕ) (from room : ℕ)
+    → (stepOf keptAnswerOf need text from room ≡ stepOf readAnswerOf need text from room) × (answeredOf keptAnswerOf need text from room ≡ answeredOf readAnswerOf need text from room)
+answers-whole need text from room = ((λ i. stepOf (λ line. answer-whole line i) need text from room), (λ i. answeredOf (λ line. answer-whole line i) need text from room))

@@ -1,6 +1,6 @@
 //! The original's answer to a line of the numeric form.
 
-use crate::machine::encode::{encode, size, EncodeError, Field};
+use crate::machine::encode::{encode, encode_bytes, size, EncodeError, Field};
 use crate::numeric::{placed, Placed};
 
 include!(concat!(env!("OUT_DIR"), "/field_numbers.rs"));
@@ -38,6 +38,14 @@ pub fn answer(placed: &Placed) -> Answer {
         words: encode(&placed.instruction, placed.address).map_err(refusal),
         size: size(&placed.instruction).map_err(refusal),
     }
+}
+
+/// What `encode_bytes` says.
+pub fn encoded_bytes(placed: &Placed) -> Result<Vec<u8>, Refusal> {
+    if placed.outside {
+        return Err(OUTSIDE);
+    }
+    encode_bytes(&placed.instruction, placed.address).map_err(refusal)
 }
 
 fn refusal(error: EncodeError) -> Refusal {
@@ -91,7 +99,7 @@ impl Answer {
 }
 
 impl Refusal {
-    fn text(&self) -> String {
+    pub fn text(&self) -> String {
         format!("refused\t{}\t{}\t{}", self.number, self.detail, self.value)
     }
 }

@@ -1,13 +1,15 @@
-//! Compares an encoder, a reader and a sheet translator with the Rust original.
-//! README.md says how.
+//! Compares an encoder, a reader, the functions on values and a sheet translator
+//! with the Rust original. README.md says how.
 
 mod answer;
 mod batch;
+mod bytes;
 mod compare;
 mod coverage;
 mod draft;
 mod fill;
 mod generate;
+mod given;
 mod instructions;
 mod kinds;
 mod list;
@@ -34,6 +36,8 @@ const USAGE: &str =
        | replay PROGRAM SEED COUNT | places | reasons
        | read-answer | read-list SEED | read-replay PROGRAM SEED TAILS | read-back PROGRAM SEED COUNT
        | read-decode PROGRAM SEED TAILS | read-objdump PROGRAM SEED TAILS
+       | bytes-answer | bytes-list SEED | bytes-replay PROGRAM SEED COUNT
+       | values-answer | values-list | values-replay PROGRAM
        | sheet-answer | sheet-one | sheet-list SEED | sheet-replay PROGRAM SEED COUNT
        | sheet-whole | sheet-whole-source | sheet-whole-image | sheet-whole-time ROUNDS";
 
@@ -66,6 +70,11 @@ fn run(arguments: &[&str]) -> Result<usize, Box<dyn Error>> {
         ["reasons"] => reasons(),
         ["read-answer"] => answer(reading::answer::answer_line)?,
         ["read-list", seed] => reading::list::write(seed.parse()?, &mut output())?,
+        ["bytes-answer"] => answer(bytes::answer::answer_line)?,
+        ["bytes-list", seed] => bytes::list::write(seed.parse()?, &mut output())?,
+        ["values-answer"] => answer(given::answer::answer_line)?,
+        ["values-list"] => given::list::write(&mut output())?,
+        ["values-replay", program] => return different(given::replay::replay(program)?),
         ["sheet-answer"] => sheet::answer::answer_list(&input()?, &mut output())?,
         ["sheet-one"] => sheet::answer::answer_one(input()?, &mut output())?,
         ["sheet-list", seed] => sheet::list::write(seed.parse()?, &mut output())?,
@@ -86,6 +95,7 @@ fn against(command: &str, program: &str, seed: u64, count: usize) -> Result<usiz
         "read-back" => different(reading::back::replay(program, seed, count)?),
         "read-decode" => unexplained(reading::decoder::compare(program, seed, count)?),
         "read-objdump" => unexplained(reading::objdump::compare(program, seed, count)?),
+        "bytes-replay" => different(bytes::replay::replay(program, seed, count)?),
         "sheet-replay" => different(sheet::replay::replay(program, seed, count)?),
         _ => Err(USAGE.into()),
     }

@@ -4,6 +4,8 @@ use mathlib.Core.Path.{_≡_}
 use Prim.Native.Nat.{_-_}
 use native.Mathlib.Omega.{arith}
 use lib.ListN.{length, length-take}
+use Rattle.base_text.specs.LinesLaws.{step-room, step-onward}
+use Rattle.print_spec.specs.EncodeAnswer.{answerOf}
 
 abbrev Inv-loop : tie.InvT-loop
 Inv-loop text out₀ from₀ out from = 65536 ≡ length out
@@ -12,10 +14,14 @@ abbrev μ-loop : tie.MeasureT-loop
 μ-loop text out₀ from₀ out from = length text - from
 
 slice-aggregate-write-all : tie.Need-slice-aggregate-write-all Inv-loop μ-loop
-slice-aggregate-write-all c = simp length-take (omega arith)
+slice-aggregate-write-all c = simp length-take (omega (arith, step-room answerOf 128 (c .before .before .before .before .before .before .before .before .args .text .now) (c .before .before .before .before .before .loop .from) (c .before .before .before .before .before .loop .out) (c .before .before .answers .ensures) (omega arith)))
 
 loop-less : tie.Need-loop-less Inv-loop μ-loop
-loop-less c = omega (arith, c .before .before .before .answers .ensures .onward (omega arith) (omega arith))
+loop-less c =
+    let a = c .before .before .before .answers in
+    let text = c .before .before .before .before .before .before .before .before .before .args .text .now in
+    let l = c .before .before .before .before .before .before .loop in
+    rw (a .ensures .0) (omega (arith, step-onward answerOf 128 text (l .from) (length (l .out)) (omega arith) (omega arith)))
 
 pub print-answers-spec : {M : Type 1} → statement M
 print-answers-spec =
@@ -27,7 +33,7 @@ print-answers-spec =
     (λ c. omega arith)
     (λ c. omega arith)
     (λ c κs. tt)
-    (λ c. omega arith)
+    (λ c. omega (arith, step-room answerOf 128 (c .before .before .before .before .before .before .before .args .text .now) (c .before .before .before .before .loop .from) (c .before .before .before .before .loop .out) (c .before .answers .ensures) (omega arith)))
     slice-aggregate-write-all
     (λ c κs. tt)
     loop-less

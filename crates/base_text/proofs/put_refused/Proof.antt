@@ -1,8 +1,8 @@
 use Rattle.base_text.specs.WroteLaws.{wrote, wrote-then}
 use native.Mathlib.Omega.{arith}
 use borrow.Author.Needs.{needs}
-use Rattle.read_answers.proofs.put_refused.Statement.{statement}
-use Rattle.read_answers.proofs.put_refused.Tie as tie
+use Rattle.base_text.proofs.put_refused.Statement.{statement}
+use Rattle.base_text.proofs.put_refused.Tie as tie
 
 returns : tie.Need-returns
 returns c = (wrote-then (c .before .before .before .before .before .before .put-refusal .ensures .0) (wrote (c .before .before .put-byte .ensures)) (omega arith), omega arith)

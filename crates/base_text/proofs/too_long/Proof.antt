@@ -1,0 +1,12 @@
+use mathlib.Core.Path.{refl}
+use Rattle.base_spec.specs.Refused.{refusedText}
+use Rattle.base_spec.specs.Written.{decimalOf}
+use Rattle.base_text.proofs.too_long.Statement.{statement}
+use Rattle.base_text.proofs.too_long.Tie as tie
+
+returns : tie.Need-returns
+unfolding refusedText decimalOf
+returns c = refl
+
+pub too-long-spec : {M : Type 1} → statement M
+too-long-spec = tie.close (tie.spec returns)

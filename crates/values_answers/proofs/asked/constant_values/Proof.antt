@@ -1,0 +1,17 @@
+use borrow.Author.Needs.{needs}
+use Rattle.values_answers.proofs.asked.constant_values.Statement.{statement}
+use Rattle.values_answers.proofs.asked.constant_values.Tie as tie
+
+returns : tie.Need-returns
+returns c = rw (c .choice-number .ensures, c .before .address-register .ensures, c .before .before .bit .ensures .0, c .before .before .before .is-pc .ensures)
+
+pub constant-values-spec : {M : Type 1} → statement M
+constant-values-spec =
+    tie.close
+    (tie.spec
+    (λ c. search needs)
+    (λ c κs. search needs)
+    (λ c κs. search needs)
+    (λ c κs. search needs)
+    (λ c κs. search needs)
+    returns)
