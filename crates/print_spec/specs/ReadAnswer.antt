@@ -3,9 +3,8 @@ use mathlib.Core.Bool.{cond, _&&_}
 use mathlib.Core.List.{List, [], _∷_, _++_}
 use Prim.Native.Nat.{ℕ}
 use lib.IntN.{ℤ}
-use Rattle.isa.specs.declared.Measured.{Measured}
 use Rattle.base_spec.specs.Written.{decimalOf, signedOf}
-use Rattle.base_spec.specs.Refused.{tab, refusedText, notInForm}
+use Rattle.base_spec.specs.Refused.{tab, notInForm}
 use Rattle.base_spec.specs.Parts.{fields}
 use Rattle.base_spec.specs.Number.{numberOf}
 use Rattle.base_spec.specs.Numbers.{magnitudeOf}
@@ -14,6 +13,7 @@ use Rattle.read_spec.specs.declared.Reading.{Reading}
 use Rattle.read_spec.specs.declared.Reading.the-variants.{Read, Short, Nothing}
 use Rattle.read_spec.specs.Refusal.{readingRefusal}
 use Rattle.read_spec.specs.Read.{readOf}
+use Rattle.print_spec.specs.EncodeAnswer.{measuredText}
 use Rattle.print_spec.specs.Run.{isAddressField, allWords, fieldWords}
 
 -- each number, and a tab
@@ -25,14 +25,10 @@ numbersText (z ∷ zs) = signedOf z ++ tab ++ numbersText zs
 unfoldable pub readText : List ℤ → ℕ → List ℕ
 readText zs n = numbersText zs ++ (61 ∷ 62 ∷ 9 ∷ []) ++ decimalOf n ++ (10 ∷ [])
 
--- refused⇥number⇥detail⇥value
-abbrev pub refusedRunText : Measured → List ℕ
-refusedRunText m = refusedText (m .number) (m .detail) (m .value) ++ (10 ∷ [])
-
 abbrev pub readingText : Reading → List ℕ
 readingText (Read i n) = readText (numbersOf i) n
-readingText Short = refusedRunText (readingRefusal Short)
-readingText Nothing = refusedRunText (readingRefusal Nothing)
+readingText Short = measuredText (readingRefusal Short) ++ (10 ∷ [])
+readingText Nothing = measuredText (readingRefusal Nothing) ++ (10 ∷ [])
 
 -- for the fields of a line: an address, then words
 abbrev pub answerTo : List (List ℕ) → List ℕ
