@@ -60,5 +60,5 @@ pub record Printed (text v s out v′ s′ out′ : List ℕ) (r : Output) : Typ
   pub scratch : s′ ≡ cond (isWide out) (scratchOf text s v) s
 
 -- what is printed for a text of more than 65,536 bytes
-abbrev pub longerText : List ℕ
-longerText = sheetRefusal 10 0 0 (pos 0)
+abbrev pub tooLongSheet : List ℕ
+tooLongSheet = sheetRefusal 10 0 0 (pos 0)

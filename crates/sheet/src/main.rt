@@ -46,13 +46,6 @@ fn print_sheet(text: &[u8]) {
     io::write_all(1, &out[..n]);
 }
 
-// What is printed for a longer text.
-fn print_longer() {
-    let mut out = output_places();
-    let n = sheet_print::print_longer(&mut out).count;
-    io::write_all(1, &out[..n]);
-}
-
 // Whether standard input has a byte more.
 fn has_more() -> bool {
     let mut byte: [u8; 1] = [0; 1];
@@ -64,7 +57,7 @@ fn main() {
     let n = io::read_full(0, &mut text);
     if n == 65536 {
         if has_more() {
-            print_longer();
+            io::write_all(1, &sheet_print::too_long());
             return;
         }
     }

@@ -69,6 +69,10 @@ count-feeds text e = rw (length-map (instructionLines text) lineOf, length-drop 
 pub count-most : (text : List ℕ) → isSheet text ≡ true → lineCount (sheetIn text) ≤ 4096
 count-most text e = omega (arith, count-feeds text e, outline text e .most)
 
+-- and at least 1
+pub count-some : (text : List ℕ) → isSheet text ≡ true → 1 ≤ lineCount (sheetIn text)
+count-some text e = omega (arith, count-feeds text e, outline text e .least)
+
 -- ---- the first line, and the others
 pub start-line : (text : List ℕ) (e : ℕ) → e ≡ partEnd 10 text 0 → startLine text ≡ take e text
 start-line [] e g = go e

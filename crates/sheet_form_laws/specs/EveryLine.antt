@@ -48,7 +48,7 @@ every-line m i l h =
     let e : entries (f .bare) ≡ unaimed m (kind.Instruction ∷ []) (entries i) = sym (append-nil (entries (f .bare))) ∙ sym (rw n at (f .leaves [])) in
     let b = fields-numbers m (kind.Instruction ∷ []) (entries i) h in
     let g : SuitAll (kind.Instruction ∷ []) (saying m (kind.Instruction ∷ []) (entries i)) = (rw n at (f .fits [])) h (λ i. tt) in
-    record { bare = f .bare; form = e; line = record { grammar = g; named = names-some (saying m (kind.Instruction ∷ []) (entries i)); numbers = b .0 ∙ ap (map entryNumber) (sym e); inside = subst Inside (sym e) (b .1) } }
+    record { bare = f .bare; form = e; line = record { grammar = g; labels = names-some (saying m (kind.Instruction ∷ []) (entries i)); numbers = b .0 ∙ ap (map entryNumber) (sym e); inside = subst Inside (sym e) (b .1) } }
 
 -- IllegalWord and SIMHALT have none
 line-named : (f : ℕ → Option ℕ) (vs : List Token) (i : Instruction) → Line f vs i → 0 < length (getD (map bytes (namesOf kind.Instruction)) (placeOf i) [])

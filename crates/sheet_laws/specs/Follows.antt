@@ -6,7 +6,7 @@ use mathlib.Core.List.{List, [], _∷_, _++_}
 use native.Mathlib.Omega.{arith}
 use native.Mathlib.Numerals.{add-one}
 use native.Mathlib.Decide.{decLe}
-use lib.ListN.{length, drop, take, getD}
+use lib.ListN.{length, drop, getD}
 use lib.Seq.{take-all}
 use borrow.Author.Tests.{lt-ltb, le-leb, lt-leb, eq-eqb, ne-eqb}
 use Rattle.isa.specs.declared.Instruction.{Instruction}
@@ -15,13 +15,14 @@ use Rattle.encode_spec.specs.Encode.{encodeOf}
 use Rattle.read_spec.specs.declared.Reading.the-variants.{Read}
 use Rattle.read_spec.specs.Plain.{plain}
 use Rattle.read_spec.specs.Read.{readOf}
-use Rattle.sheet_spec.specs.Line.{Token, Parsed, says}
-use Rattle.sheet_spec.specs.Made.{Line, Made, makes, made}
-use Rattle.sheet_spec.specs.Sheet.{Sheet, sheetAt, total, wordCount, endOf, lineAt, countAt, addressAt, resolved, encoded, encodedWords, image}
+use Rattle.sheet_spec.specs.Line.{Token, says}
+use Rattle.sheet_spec.specs.Made.{Line, made}
+use Rattle.sheet_spec.specs.Sheet.{Sheet, lineCount, total, endOf, lineAt, countAt, addressAt, resolved, encoded, encodedWords, image}
 use Rattle.sheet_spec.specs.Follow.{Next, on, to, either, stop, nextOf, Place, follow, goes, target, lineNext, nextWith, named, comeLine, stepLine, byLines, begins, readingAt, comeWord, stepWord, byWords, Reads, Together, both-ended, both-at}
+use Rattle.sheet_spec.specs.Promises.{CountedSheet}
 use Rattle.sheet_size_facts.specs.Says.{line-makes}
 use Rattle.sheet_size_facts.specs.Image.{total-suc, total-part, noWords, Counts, words-length, drop-before}
-use Rattle.sheet_size_facts.specs.Outcomes.{counts-length, lines-length}
+use Rattle.sheet_size_facts.specs.Outcomes.{lines-length}
 use Rattle.sheet_size_facts.specs.Bounds.{before, address-is}
 
 -- a target is the address t
@@ -48,79 +49,75 @@ pub record LineStands (s : Sheet) (n : ℕ) : Type 0 where
   pub entry : getD (encoded s) (pred n) noWords ≡ encodeOf instruction (addressAt s n)
   pub reads-back : (rest : List ℕ) → readOf (encodedWords (encodeOf instruction (addressAt s n)) ++ rest) (addressAt s n) ≡ Read (plain instruction) (2 * countAt s n)
   pub aims : Aims (nextWith (resolved s) s n) (addressAt s (named s n))
-  pub within : Within (nextWith (resolved s) s n) (length (s .lines)) (named s n)
+  pub within : Within (nextWith (resolved s) s n) (lineCount s) (named s n)
 
--- ---- the followers of a start and lines
-module _ (start : ℕ) (ps : List Parsed) (counts : Counts (sheetAt start ps .counts) (encoded (sheetAt start ps)))
-    (stands : (n : ℕ) → 1 ≤ n → n ≤ length ps → LineStands (sheetAt start ps) n) where
-  abbrev s : Sheet
-  s = sheetAt start ps
-
+-- ---- the followers of a sheet
+module _ (s : Sheet) (tie : CountedSheet s) (counts : Counts (s .counts) (encoded s)) (stands : (n : ℕ) → 1 ≤ n → n ≤ lineCount s → LineStands s n) where
   -- the address of line n, and past the last line the end
   abbrev at : ℕ → ℕ
-  at n = start + 2 * before s n
+  at n = s .start + 2 * before s n
 
-  at-next : (n : ℕ) → 1 ≤ n → n ≤ length ps → at (n + 1) ≡ addressAt s n + 2 * countAt s n
+  at-next : (n : ℕ) → 1 ≤ n → n ≤ lineCount s → at (n + 1) ≡ addressAt s n + 2 * countAt s n
   at-next zero h g = absurd (omega arith)
-  at-next (suc n) h g = rw add-one (omega (arith, address-is start ps (suc n) h g, total-suc (s .counts) n (omega (arith, counts-length start ps))))
+  at-next (suc n) h g = rw add-one (omega (arith, address-is s tie (suc n) h g, total-suc (s .counts) n (omega (arith, tie .lines))))
 
   -- the offset of line n in words, and what stands there
-  offset : (n : ℕ) → (at n - start) / 2 ≡ before s n
+  offset : (n : ℕ) → (at n - s .start) / 2 ≡ before s n
   offset n = omega arith
 
-  pub reads-there : (n : ℕ) (h : 1 ≤ n) (g : n ≤ length ps) → readingAt start (image s) (addressAt s n) ≡ Read (plain (stands n h g .instruction)) (2 * countAt s n)
+  pub reads-there : (n : ℕ) (h : 1 ≤ n) (g : n ≤ lineCount s) → readingAt (s .start) (image s) (addressAt s n) ≡ Read (plain (stands n h g .instruction)) (2 * countAt s n)
   reads-there n h g =
       let l = stands n h g in
-      let d = drop-before (s .counts) (encoded s) counts (pred n) (omega (arith, lines-length start ps)) in
-      let o : (addressAt s n - start) / 2 ≡ before s n = omega (arith, address-is start ps n h g) in
+      let d = drop-before (s .counts) (encoded s) counts (pred n) (omega (arith, lines-length s tie)) in
+      let o : (addressAt s n - s .start) / 2 ≡ before s n = omega (arith, address-is s tie n h g) in
       ap (λ (k : ℕ). readOf (drop k (image s)) (addressAt s n)) o
       ∙ ap (λ (ws : List ℕ). readOf ws (addressAt s n)) (d .1 ∙ ap (λ (e : Encoded). encodedWords e ++ d .0) (l .entry))
       ∙ l .reads-back (d .0)
 
-  abbrev pub reads : (n : ℕ) → 1 ≤ n → n ≤ length ps → Reads s (image s) n
+  abbrev pub reads : (n : ℕ) → 1 ≤ n → n ≤ lineCount s → Reads s (image s) n
   reads n h g =
       let l = stands n h g in
       record { tokens = l .tokens; instruction = l .instruction; parsed = l .parsed; line = l .line; reads = reads-there n h g }
 
-  before-end : (n : ℕ) → 1 ≤ n → n ≤ length ps → before s n < length (image s)
+  before-end : (n : ℕ) → 1 ≤ n → n ≤ lineCount s → before s n < length (image s)
   before-end n h g =
-      omega (arith, total-part (s .counts) (pred n) (omega (arith, counts-length start ps)), words-length (s .counts) (encoded s) counts, stands n h g .some)
+      omega (arith, total-part (s .counts) (pred n) (omega (arith, tie .lines)), words-length (s .counts) (encoded s) counts, stands n h g .some)
 
-  begins-there : (n : ℕ) → 1 ≤ n → n ≤ length ps → begins start (image s) (at n) ≡ true
+  begins-there : (n : ℕ) → 1 ≤ n → n ≤ lineCount s → begins (s .start) (image s) (at n) ≡ true
   begins-there n h g =
       rw (
-        le-leb start (at n) (omega arith),
-        lt-ltb (at n) (endOf start (length (image s))) (omega (arith, before-end n h g)),
-        eq-eqb ((at n - start) % 2) 0 (omega arith),
+        le-leb (s .start) (at n) (omega arith),
+        lt-ltb (at n) (endOf (s .start) (length (image s))) (omega (arith, before-end n h g)),
+        eq-eqb ((at n - s .start) % 2) 0 (omega arith),
       )
 
   -- both come to line n, or to the end
-  comes : (n : ℕ) → 1 ≤ n → n ≤ length ps + 1 → Together s (image s) (comeLine s n) (comeWord start (image s) (at n))
-  comes n h g = go (decLe n (length ps))
+  comes : (n : ℕ) → 1 ≤ n → n ≤ lineCount s + 1 → Together s (image s) (comeLine s n) (comeWord (s .start) (image s) (at n))
+  comes n h g = go (decLe n (lineCount s))
     where
-      go : Dec (n ≤ length ps) → Together s (image s) (comeLine s n) (comeWord start (image s) (at n))
+      go : Dec (n ≤ lineCount s) → Together s (image s) (comeLine s n) (comeWord (s .start) (image s) (at n))
       go (yes d) =
-          let a = address-is start ps n h d in
+          let a = address-is s tie n h d in
           rw (
-            le-leb n (length ps) d,
-            ne-eqb (at n) (endOf start (length (image s))) (omega (arith, before-end n h d)),
+            le-leb n (lineCount s) d,
+            ne-eqb (at n) (endOf (s .start) (length (image s))) (omega (arith, before-end n h d)),
             begins-there n h d,
             sym a,
             reads-there n h d,
           )
           (both-at n h d (reads n h d))
       go (no d) =
-          let e : before s n ≡ length (image s) = ap total (take-all (pred n) (s .counts) (omega (arith, counts-length start ps))) ∙ sym (words-length (s .counts) (encoded s) counts) in
-          rw (lt-leb n (length ps) (omega arith), eq-eqb (at n) (endOf start (length (image s))) (omega (arith, e))) both-ended
+          let e : before s n ≡ length (image s) = ap total (take-all (pred n) (s .counts) (omega (arith, tie .lines))) ∙ sym (words-length (s .counts) (encoded s) counts) in
+          rw (lt-leb n (lineCount s) (omega arith), eq-eqb (at n) (endOf (s .start) (length (image s))) (omega (arith, e))) both-ended
 
-  onward : (n : ℕ) → 1 ≤ n → n ≤ length ps → Together s (image s) (comeLine s (n + 1)) (comeWord start (image s) (addressAt s n + 2 * countAt s n))
-  onward n h g = subst (λ (k : ℕ). Together s (image s) (comeLine s (n + 1)) (comeWord start (image s) k)) (at-next n h g) (comes (n + 1) (omega arith) (omega arith))
+  onward : (n : ℕ) → 1 ≤ n → n ≤ lineCount s → Together s (image s) (comeLine s (n + 1)) (comeWord (s .start) (image s) (addressAt s n + 2 * countAt s n))
+  onward n h g = subst (λ (k : ℕ). Together s (image s) (comeLine s (n + 1)) (comeWord (s .start) (image s) k)) (at-next n h g) (comes (n + 1) (omega arith) (omega arith))
 
-  aside : (n t : ℕ) → t ≡ addressAt s n → 1 ≤ n → n ≤ length ps → Together s (image s) (comeLine s n) (comeWord start (image s) t)
-  aside n t e h g = subst (λ (k : ℕ). Together s (image s) (comeLine s n) (comeWord start (image s) k)) (sym (e ∙ address-is start ps n h g)) (comes n h (omega arith))
+  aside : (n t : ℕ) → t ≡ addressAt s n → 1 ≤ n → n ≤ lineCount s → Together s (image s) (comeLine s n) (comeWord (s .start) (image s) t)
+  aside n t e h g = subst (λ (k : ℕ). Together s (image s) (comeLine s n) (comeWord (s .start) (image s) k)) (sym (e ∙ address-is s tie n h g)) (comes n h (omega arith))
 
-  goes-on : (x : Next) (n : ℕ) → 1 ≤ n → n ≤ length ps → Aims x (addressAt s (named s n)) → Within x (length ps) (named s n) → (c : Bool)
-      → Together s (image s) (goes (comeLine s) x (n + 1) (named s n) c) (goes (comeWord start (image s)) x (addressAt s n + 2 * countAt s n) (target x) c)
+  goes-on : (x : Next) (n : ℕ) → 1 ≤ n → n ≤ lineCount s → Aims x (addressAt s (named s n)) → Within x (lineCount s) (named s n) → (c : Bool)
+      → Together s (image s) (goes (comeLine s) x (n + 1) (named s n) c) (goes (comeWord (s .start) (image s)) x (addressAt s n + 2 * countAt s n) (target x) c)
   goes-on on n h g a w c = onward n h g
   goes-on (to t) n h g a w c = aside (named s n) t a (w .0) (w .1)
   goes-on (either t) n h g a w true = aside (named s n) t a (w .0) (w .1)
@@ -130,18 +127,18 @@ module _ (start : ℕ) (ps : List Parsed) (counts : Counts (sheetAt start ps .co
   next-of : (n : ℕ) (r : Reads s (image s) n) → nextWith (resolved s) s n ≡ nextOf (plain (r .instruction))
   next-of n r = ap lineNext (ap (made (resolved s)) (r .parsed) ∙ line-makes (resolved s) (r .tokens) (r .instruction) (r .line))
 
-  steps : (p q : Place) (c : Bool) → Together s (image s) p q → Together s (image s) (stepLine s p c) (stepWord start (image s) q c)
+  steps : (p q : Place) (c : Bool) → Together s (image s) p q → Together s (image s) (stepLine s p c) (stepWord (s .start) (image s) q c)
   steps p q c both-ended = both-ended
   steps p q c (both-at n h g r) =
       rw (r .reads, sym (next-of n r)) (goes-on (nextWith (resolved s) s n) n h g (stands n h g .aims) (stands n h g .within) c)
 
-  follows : (p q : Place) (cs : List Bool) → Together s (image s) p q → Together s (image s) (follow (stepLine s) p cs) (follow (stepWord start (image s)) q cs)
+  follows : (p q : Place) (cs : List Bool) → Together s (image s) p q → Together s (image s) (follow (stepLine s) p cs) (follow (stepWord (s .start) (image s)) q cs)
   follows p q [] t = t
-  follows p q (c ∷ cs) t = follows (stepLine s p c) (stepWord start (image s) q c) cs (steps p q c t)
+  follows p q (c ∷ cs) t = follows (stepLine s p c) (stepWord (s .start) (image s) q c) cs (steps p q c t)
 
   -- the followers are together after any choices
-  pub together : (choices : List Bool) → Together s (image s) (byLines s choices) (byWords start (image s) choices)
+  pub together : (choices : List Bool) → Together s (image s) (byLines s choices) (byWords (s .start) (image s) choices)
   together cs =
-      let z : at 1 ≡ start = omega arith in
-      follows (comeLine s 1) (comeWord start (image s) start) cs
-      (subst (λ (k : ℕ). Together s (image s) (comeLine s 1) (comeWord start (image s) k)) z (comes 1 (omega arith) (omega arith)))
+      let z : at 1 ≡ s .start = omega arith in
+      follows (comeLine s 1) (comeWord (s .start) (image s) (s .start)) cs
+      (subst (λ (k : ℕ). Together s (image s) (comeLine s 1) (comeWord (s .start) (image s) k)) z (comes 1 (omega arith) (omega arith)))

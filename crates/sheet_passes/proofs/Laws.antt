@@ -24,7 +24,7 @@ use Rattle.sheet_entries.specs.Made.{madeWith, namesLines}
 use Rattle.sheet_entries.specs.MadeLaws.{made-listed, made-zero, names-in}
 use Rattle.base_text.specs.LinesLaws.{lines-next}
 use Rattle.sheet_spec.specs.Made.{namesIn, judged, made}
-use Rattle.sheet_spec.specs.Sheet.{sizedAs, sizedOf, sizesOf, halfOf, total, encodedAs, encodedFrom, encodedWords, allWords}
+use Rattle.sheet_spec.specs.Sheet.{sizedAs, sizedOf, sizesOf, halfOf, total, encodedLine, encodedFrom, encodedWords, allWords}
 use Rattle.sheet_spec.specs.Translate.{andThen, inTurn, sizeOutcome, encodeOutcome, sizing, over}
 use Rattle.sheet_facts.specs.Listing.{over-length}
 use Rattle.sheet_passes.specs.declared.Passed.{Passed}
@@ -70,7 +70,7 @@ unfolding sizedOf made
 line-sized n line h e f g = rw (f, g, e, made-zero n (lineOf line) (few line), names-in n h (λ k. 0) (lineOf line) (few line))
 
 pub line-encoded : (addresses line : List ℕ) (a : ℕ) {e : Entries} {b : Built} → length addresses ≤ 4096 → e ≡ entriesOf (lineOf line)
-    → b ≡ madeWith e addresses → encodedAs a (judged b true) ≡ lineEncoded addresses (lineOf line) a
+    → b ≡ madeWith e addresses → encodedLine a (judged b true) ≡ lineEncoded addresses (lineOf line) a
 unfolding lineEncoded
 line-encoded addresses line a h e f = rw (f, e, made-listed addresses h (lineOf line) (few line))
 
@@ -187,7 +187,7 @@ module _ (text : List ℕ) (from : ℕ) (addresses : List ℕ) where
       name-here : namesIn (listed addresses) (lineOf (lineTo text next e)) ≡ true
       name-here = (rw lines-here at (s .named)) 0 (omega arith)
 
-      pub encoded-here : r ≡ encodedAs (getD addresses k 0) (made (listed addresses) (lineOf (lineTo text next e)))
+      pub encoded-here : r ≡ encodedLine (getD addresses k 0) (made (listed addresses) (lineOf (lineTo text next e)))
       encoded-here = is ∙ line-is addresses (lineOf (lineTo text next e)) (getD addresses k 0) name-here
 
       left-here : encodedLeft next k ≡ r ∷ encodedLeft (e + 1) (k + 1)
@@ -198,7 +198,7 @@ module _ (text : List ℕ) (from : ℕ) (addresses : List ℕ) where
   -- ---- ranges
   pub record Ranging (next k : ℕ) : Type 0 where
     pub go : Going next k
-    pub verdict : inTurn encodeOutcome 1 (encodedAt addresses (parsedAt text from)) ≡ inTurn encodeOutcome (suc k) (encodedLeft next k)
+    pub verdict : encoding (encodedAt addresses (parsedAt text from)) ≡ inTurn encodeOutcome (suc k) (encodedLeft next k)
 
   pub ranging : Placed addresses (parsedAt text from) → Ranging from 0
   ranging p = record { go = going p; verdict = refl }
@@ -212,15 +212,15 @@ module _ (text : List ℕ) (from : ℕ) (addresses : List ℕ) where
 
   module _ {next k : ℕ} (s : Ranging next k) where
     pub ranging-end : length text ≤ next
-        → record { number = 0; line = 0; detail = 0; value = pos 0; words = 0 } ≡ passedOf (inTurn encodeOutcome 1 (encodedAt addresses (parsedAt text from))) 0
+        → record { number = 0; line = 0; detail = 0; value = pos 0; words = 0 } ≡ passedOf (encoding (encodedAt addresses (parsedAt text from))) 0
     ranging-end h = rw (s .verdict, nothing-left next k h)
 
     module _ (e : ℕ) (h : next < length text) (g : e ≡ partEnd 10 text next) (r : Encoded) (is : r ≡ lineEncoded addresses (lineOf (lineTo text next e)) (getD addresses k 0)) where
-      ranging-here : inTurn encodeOutcome 1 (encodedAt addresses (parsedAt text from)) ≡ andThen (encodeOutcome (suc k) r) (inTurn encodeOutcome (suc (suc k)) (encodedLeft (e + 1) (k + 1)))
+      ranging-here : encoding (encodedAt addresses (parsedAt text from)) ≡ andThen (encodeOutcome (suc k) r) (inTurn encodeOutcome (suc (suc k)) (encodedLeft (e + 1) (k + 1)))
       ranging-here = s .verdict ∙ ap (inTurn encodeOutcome (suc k)) (left-here (s .go) e h g r is)
 
       pub ranging-stop : (r .number ≡ 0 → ⊥)
-          → record { number = r .number; line = k + 1; detail = r .detail; value = r .value; words = 0 } ≡ passedOf (inTurn encodeOutcome 1 (encodedAt addresses (parsedAt text from))) 0
+          → record { number = r .number; line = k + 1; detail = r .detail; value = r .value; words = 0 } ≡ passedOf (encoding (encodedAt addresses (parsedAt text from))) 0
       ranging-stop z = rw (ranging-here, ne-eqb (r .number) 0 z, add-one)
 
       pub ranging-next : r .number ≡ 0 → Ranging (e + 1) (k + 1)

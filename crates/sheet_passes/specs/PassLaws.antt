@@ -10,7 +10,7 @@ use Rattle.isa.specs.declared.Measured.{Measured}
 use Rattle.isa.specs.declared.Encoded.{Encoded}
 use Rattle.sheet_spec.specs.Line.{Parsed}
 use Rattle.sheet_spec.specs.Made.{Made, makes, turnedBack, judged, made, builtAs, namesIn, ofLines}
-use Rattle.sheet_spec.specs.Sheet.{sizedAs, sizedOf, sizesOf, halfOf, total, addressesFrom, encodedAs, encodedWords}
+use Rattle.sheet_spec.specs.Sheet.{sizedAs, sizedOf, sizesOf, halfOf, total, addressesFrom, encodedLine, encodedWords}
 use Rattle.sheet_spec.specs.Translate.{inOrder, inTurn, sizeOutcome}
 use Rattle.sheet_facts.specs.Listing.{both-in-order, in-order-zero}
 use Rattle.sheet_facts.specs.Made.{made-back}
@@ -19,19 +19,19 @@ use Rattle.m68k_encode.specs.Laws.{places-law, encode-most}
 use Rattle.sheet_passes.specs.Passes.{filledOf, listed, lineEncoded}
 
 -- ---- an encoded line has eleven places, and so many words count
-pub as-places : (m : Made) (a : ℕ) → length (encodedAs a m .words) ≡ 11
+pub as-places : (m : Made) (a : ℕ) → length (encodedLine a m .words) ≡ 11
 as-places (makes i) a = places-law i a
 as-places (turnedBack k) a = refl
 
-pub as-most : (m : Made) (a : ℕ) → encodedAs a m .count ≤ 11
+pub as-most : (m : Made) (a : ℕ) → encodedLine a m .count ≤ 11
 as-most (makes i) a = omega (arith, encode-most i a)
 as-most (turnedBack k) a = omega arith
 
-pub as-words : (m : Made) (a : ℕ) → length (encodedWords (encodedAs a m)) ≡ encodedAs a m .count
-as-words m a = omega (arith, as-places m a, as-most m a, length-take (encodedAs a m .count) (encodedAs a m .words))
+pub as-words : (m : Made) (a : ℕ) → length (encodedWords (encodedLine a m)) ≡ encodedLine a m .count
+as-words m a = omega (arith, as-places m a, as-most m a, length-take (encodedLine a m .count) (encodedLine a m .words))
 
 -- where its names have been looked at, it is the line encoded
-pub line-is : (addresses : List ℕ) (p : Parsed) (a : ℕ) → namesIn (listed addresses) p ≡ true → lineEncoded addresses p a ≡ encodedAs a (made (listed addresses) p)
+pub line-is : (addresses : List ℕ) (p : Parsed) (a : ℕ) → namesIn (listed addresses) p ≡ true → lineEncoded addresses p a ≡ encodedLine a (made (listed addresses) p)
 unfolding lineEncoded made
 line-is addresses p a h = rw h
 

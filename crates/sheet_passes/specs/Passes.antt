@@ -12,7 +12,7 @@ use Rattle.isa.specs.declared.Encoded.{Encoded}
 use Rattle.base_spec.specs.Lines.{linesOf}
 use Rattle.sheet_spec.specs.Line.{Parsed, no, lineOf}
 use Rattle.sheet_spec.specs.Made.{namesIn, judged, builtAs, ofLines}
-use Rattle.sheet_spec.specs.Sheet.{halfOf, encodedAs, encodedFrom}
+use Rattle.sheet_spec.specs.Sheet.{halfOf, encodedLine, encodedFrom}
 use Rattle.sheet_spec.specs.Translate.{Outcome, inOrder, refused}
 use Rattle.sheet_passes.specs.declared.Passed.{Passed}
 
@@ -36,7 +36,7 @@ listed addresses = ofLines (length addresses) (λ k. getD addresses (pred k) 0)
 
 -- a line whose names have been looked at, encoded
 unfoldable pub lineEncoded : List ℕ → Parsed → ℕ → Encoded
-lineEncoded addresses p a = encodedAs a (judged (builtAs (listed addresses) p) true)
+lineEncoded addresses p a = encodedLine a (judged (builtAs (listed addresses) p) true)
 
 -- an address for each line, and the lines' names have been looked at
 pub record Placed (addresses : List ℕ) (ps : List Parsed) : Type 0 where

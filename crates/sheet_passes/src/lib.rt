@@ -6,7 +6,7 @@ ghost use mathlib.Core.List.{map};
 ghost use lib.ListN.{length};
 ghost use Rattle.sheet_spec.specs.Line.{lineOf};
 ghost use Rattle.sheet_spec.specs.Made.{turnedBack, judged};
-ghost use Rattle.sheet_spec.specs.Sheet.{sizedAs, sizedOf, sizesOf, halfOf, total, encodedAs, encodedWords, allWords};
+ghost use Rattle.sheet_spec.specs.Sheet.{sizedAs, sizedOf, sizesOf, halfOf, total, encodedLine, encodedWords, allWords};
 ghost use Rattle.sheet_spec.specs.Translate.{inTurn, sizing, encodeOutcome, over};
 ghost use Rattle.sheet_passes.specs.Passes.{parsedAt, passedOf, filledOf, lineEncoded, Placed, encodedAt};
 use isa::Encoded;
@@ -59,7 +59,7 @@ fn sized(line: &[u8], lines: usize) -> Measured
 }
 
 fn encoded_as(b: Built, address: u32) -> Encoded
-    ensures { λ r. ⌜ r ≡ encodedAs address (judged b true) ⌝ }
+    ensures { λ r. ⌜ r ≡ encodedLine address (judged b true) ⌝ }
 {
     match b {
         Built::Instruction(i) => m68k_encode::encode(i, address),
@@ -120,7 +120,7 @@ pub fn sizes(text: &[u8], from: usize, lines: usize, start: u32, scratch: &mut [
 // Each line encoded at its address, to the first that is refused.
 pub fn ranges(text: &[u8], from: usize, addresses: &[u32]) -> Passed
     requires { ⌜ Placed (now addresses) (parsedAt (now text) from) ⌝ }
-    ensures { λ r. ⌜ r ≡ passedOf (inTurn encodeOutcome 1 (encodedAt (now (addresses .entry)) (parsedAt (now (text .entry)) from))) 0 ⌝ }
+    ensures { λ r. ⌜ r ≡ passedOf (encoding (encodedAt (now (addresses .entry)) (parsedAt (now (text .entry)) from))) 0 ⌝ }
 {
     let mut next = from;
     let mut k: usize = 0;

@@ -7,16 +7,14 @@ use native.Mathlib.Omega.{arith}
 use lib.ListN.{length, take, drop, getD, length-append}
 use lib.Seq.{take-at}
 use lib.Dec.{leb, eqb}
-use lib.IntN.{pos}
 use borrow.Author.Tests.{le-leb, lt-leb}
 use Rattle.base_spec.specs.Written.{placed}
 use Rattle.base_text.specs.Wrote.{Wrote}
 use Rattle.sheet_spec.specs.declared.Listed.{Listed}
 use Rattle.sheet_spec.specs.Sheet.{isSheet, feeds, last, Sheet, sheetIn, lineCount, wordCount, lineAt, addresses, encoded, image}
-use Rattle.sheet_spec.specs.Translate.{Outcome, inOrder, refused, opening, outcomeOf, listedOf, over, imageOf, scratchOf}
+use Rattle.sheet_spec.specs.Translate.{Outcome, inOrder, refused, outcomeOf, listedOf, over, imageOf, scratchOf}
 use Rattle.sheet_size_facts.specs.Image.{Counts}
-use Rattle.sheet_size_facts.specs.Outcomes.{counts-length, accepted}
-use Rattle.sheet_size_facts.specs.Bounds.{count-is}
+use Rattle.sheet_size_facts.specs.Outcomes.{counted-text, accepted}
 use Rattle.sheet_size_facts.specs.Counted.{counts, image-counts}
 use Rattle.sheet_facts.specs.SheetLaws.{count-most}
 use Rattle.sheet_facts.specs.Lines.{line-grammar}
@@ -24,8 +22,7 @@ use Rattle.sheet_passes.specs.PassLaws.{counted-most}
 use Rattle.sheet_spec.specs.Promises.{Translated}
 use Rattle.sheet_translate.specs.OutcomeLaws.{Sound, outcome-sound}
 use Rattle.sheet_translate.specs.PlaceLaws.{sheet-places}
-use Rattle.print_spec.specs.declared.Output.{Output}
-use Rattle.print_spec.specs.Printed.{listingOf, sheetRefusal, printedOf, isWide, Put, Printed, longerText}
+use Rattle.print_spec.specs.Printed.{listingOf, sheetRefusal, printedOf, Put, Printed, tooLongSheet}
 use Rattle.sheet_print.specs.Listing.{linesText, Laid, wideBy, notWide}
 use Rattle.sheet_print.specs.ListingLaws.{listing-is, laid}
 
@@ -35,12 +32,12 @@ module _ (text : List ℕ) (places room : ℕ) (e : outcomeOf text places room �
   S = sheetIn text
 
   counted-words : Counts (S .counts) (encoded S)
-  counted-words = counts (S .start) (S .lines) (line-grammar text) room (accepted text places room e .lines)
+  counted-words = counts S (counted-text text) (line-grammar text) room (accepted text places room e .lines)
 
   few-words : (k : ℕ) → k < length (S .counts) → getD (S .counts) k 0 ≤ 11
   few-words k h =
-      let q : suc k ≤ lineCount S = omega (arith, counts-length (S .start) (S .lines)) in
-      omega (arith, count-is (S .start) (S .lines) (suc k) (omega arith) q, counted-most (lineCount S) (lineAt S (suc k)))
+      let q : suc k ≤ lineCount S = omega (arith, counted-text text .lines) in
+      omega (arith, counted-text text .each (suc k) (omega arith) q, counted-most (lineCount S) (lineAt S (suc k)))
 
   listing-laid : Laid (addresses S) (image S)
   listing-laid = laid (S .start) (S .counts) (encoded S) counted-words few-words
@@ -123,6 +120,6 @@ sheet-long text h = rw (lt-leb (length text) 65536 h) (long (leb 1 (length text)
     long true = refl
     long false = refl
 
-pub long-refused : (text : List ℕ) (places room : ℕ) → 65536 < length text → printedOf text places room ≡ longerText
+pub long-refused : (text : List ℕ) (places room : ℕ) → 65536 < length text → printedOf text places room ≡ tooLongSheet
 unfolding printedOf outcomeOf
 long-refused text places room h = rw (sheet-long text h)

@@ -5,7 +5,7 @@ ghost use lib.ListN.{length};
 ghost use Rattle.base_spec.specs.Written.{placed};
 ghost use Rattle.base_text.specs.Wrote.{Wrote};
 ghost use Rattle.sheet_spec.specs.Translate.{imageOf, scratchOf};
-ghost use Rattle.print_spec.specs.Printed.{listedWords, lineText, sheetRefusal, printedOf, Put, Printed, longerText};
+ghost use Rattle.print_spec.specs.Printed.{listedWords, lineText, sheetRefusal, printedOf, Printed, tooLongSheet};
 ghost use Rattle.sheet_print.specs.Listing.{firstCount, linesText, Rises, Laid, notWide, wideBy};
 use print_spec::Output;
 
@@ -128,11 +128,8 @@ pub fn print(text: &[u8], image: &mut [u16], scratch: &mut [u32], out: &mut [u8]
 }
 
 // What is printed for a text of more than 65,536 bytes.
-pub fn print_longer(out: &mut [u8]) -> Output
-    ensures { λ r. ⌜ Put longerText (now (out .entry)) (now (out .exit)) r × (r .count ≤ 282624) ⌝ }
+pub fn too_long() -> [u8; 17]
+    ensures { λ r. ⌜ r ≡ tooLongSheet ⌝ }
 {
-    if out.len() < 282624 {
-        return not_wide();
-    }
-    wide(put_refusal(out, 10, 0, 0, 0))
+    *b"refused\t10\t0\t0\t0\n"
 }

@@ -11,7 +11,8 @@ use Rattle.sheet_spec.specs.Line.{equal}
 use Rattle.sheet_spec.specs.declared.Listed.{Listed}
 use Rattle.sheet_spec.specs.Sheet.{sheetIn, lineCount, wordCount, image}
 use Rattle.sheet_spec.specs.Translate.{Outcome, inOrder, refused, outcomeOf, listedAs, listedOf, imageAs, imageOf, scratchOf, isInOrder, same}
-use Rattle.sheet_size_facts.specs.Outcomes.{accepted}
+use Rattle.sheet_size_facts.specs.Outcomes.{counted-text, accepted}
+use Rattle.sheet_facts.specs.SheetLaws.{count-some}
 use Rattle.sheet_size_facts.specs.Bounds.{address-is}
 use Rattle.sheet_spec.specs.Promises.{Translated}
 use Rattle.sheet_translate.specs.OutcomeLaws.{Sound, outcome-sound}
@@ -37,8 +38,8 @@ module _ (text v s v′ s′ : List ℕ) (r : Listed) (t : Translated text v s v
   start-left : r .number ≡ 0 → getD s′ 0 0 ≡ sheetIn text .start
   start-left h =
       let l = left text v s v′ s′ r t h in
-      let some = accepted text (length s) (length v) (l .accepts) .lines-some in
-      omega (arith, l .addresses 1 (omega arith) (omega arith), address-is (sheetIn text .start) (sheetIn text .lines) 1 (omega arith) some)
+      let some = count-some text (accepted text (length s) (length v) (l .accepts) .sheet) in
+      omega (arith, l .addresses 1 (omega arith) (omega arith), address-is (sheetIn text) (counted-text text) 1 (omega arith) some)
 
   judged : 4096 ≡ length s → 45056 ≡ length v → eqb (r .number) 0 ≡ isInOrder (outcomeOf text 4096 45056)
   unfolding listedOf

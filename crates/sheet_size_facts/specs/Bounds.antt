@@ -2,20 +2,17 @@
 use Prim.Native.Nat.{ℕ, suc, pred, _+_, _*_, _^_, _≤_, _<_}
 use mathlib.Core.Path.{_≡_, ap, _∙_}
 use mathlib.Core.Bool.{Bool, true, _&&_}
-use mathlib.Core.List.{List}
 use native.Mathlib.Omega.{arith}
 use lib.Dec.{leb}
-use lib.ListN.{length, take, length-map}
+use lib.ListN.{length, take}
 use borrow.Author.Tests.{leb-true}
 use Rattle.encode_spec.specs.Encode.{sizeOf}
 use Rattle.base_facts.specs.Tests.{and-true}
-use Rattle.sheet_spec.specs.Line.{Parsed, no}
-use Rattle.sheet_spec.specs.Sheet.{total, sizedOf, sizesOf, halfOf, Sheet, sheetAt, lineAt, countAt, addressAt}
-use Rattle.sheet_spec.specs.Promises.{InGrammar, MeasuredSheet}
+use Rattle.sheet_spec.specs.Sheet.{total, sizedOf, halfOf, Sheet, lineCount, lineAt, countAt, addressAt}
+use Rattle.sheet_spec.specs.Promises.{CountedSheet, InGrammar, MeasuredSheet}
 use Rattle.sheet_size_facts.specs.Image.{addresses-are, total-part, total-some}
 use Rattle.sheet_size_facts.specs.Turned.{Bounded}
 use Rattle.sheet_size_facts.specs.Made.{LineMade, line-made}
-use Rattle.sheet_size_facts.specs.Outcomes.{counts-length, map-at}
 use Rattle.m68k_encode.specs.Sizes.{size-least}
 
 -- the names of n lines
@@ -29,38 +26,30 @@ up-to n k e = let b = and-true (leb 1 k) (leb k n) e in (leb-true 1 k (b .0), le
 abbrev pub before : Sheet → ℕ → ℕ
 before s n = total (take (pred n) (s .counts))
 
-module _ (start : ℕ) (ps : List Parsed) where
-  abbrev s : Sheet
-  s = sheetAt start ps
-
-  pub address-is : (n : ℕ) → 1 ≤ n → n ≤ length ps → addressAt s n ≡ start + 2 * before s n
-  address-is n h g = addresses-are start (s .counts) (pred n) (omega (arith, counts-length start ps))
-
-  pub count-is : (n : ℕ) → 1 ≤ n → n ≤ length ps → countAt s n ≡ halfOf (sizedOf (length ps) (lineAt s n))
-  count-is n h g =
-      let m = sizedOf (length ps) no in
-      map-at halfOf (sizesOf ps) (pred n) m 0 (omega (arith, length-map ps (sizedOf (length ps)))) ∙ ap halfOf (map-at (sizedOf (length ps)) ps (pred n) no m (omega arith))
+module _ (s : Sheet) (tie : CountedSheet s) where
+  pub address-is : (n : ℕ) → 1 ≤ n → n ≤ lineCount s → addressAt s n ≡ s .start + 2 * before s n
+  address-is n h g = addresses-are (s .start) (s .counts) (pred n) (omega (arith, tie .lines))
 
   module _ (grammar : (n : ℕ) → InGrammar (lineAt s n)) (ok : MeasuredSheet s) where
-    pub line-at : (n : ℕ) → 1 ≤ n → n ≤ length ps → LineMade (upTo (length ps)) (lineAt s n)
+    pub line-at : (n : ℕ) → 1 ≤ n → n ≤ lineCount s → LineMade (upTo (lineCount s)) (lineAt s n)
     unfolding sizedOf
-    line-at n h g = line-made (upTo (length ps)) (lineAt s n) (grammar n) (ok .sized n h g)
+    line-at n h g = line-made (upTo (lineCount s)) (lineAt s n) (grammar n) (ok .sized n h g)
 
-    pub count-size : (n : ℕ) (h : 1 ≤ n) (g : n ≤ length ps) → countAt s n ≡ halfOf (sizeOf (line-at n h g .first))
+    pub count-size : (n : ℕ) (h : 1 ≤ n) (g : n ≤ lineCount s) → countAt s n ≡ halfOf (sizeOf (line-at n h g .first))
     unfolding sizedOf
-    count-size n h g = count-is n h g ∙ ap halfOf (line-at n h g .measured)
+    count-size n h g = tie .each n h g ∙ ap halfOf (line-at n h g .measured)
 
-    pub count-some : (n : ℕ) → 1 ≤ n → n ≤ length ps → 1 ≤ countAt s n
+    pub count-some : (n : ℕ) → 1 ≤ n → n ≤ lineCount s → 1 ≤ countAt s n
     count-some n h g = omega (arith, count-size n h g, size-least (line-at n h g .first) (line-at n h g .number))
 
     -- names are made numbers of 32 bits
-    pub names-bounded : Bounded (upTo (length ps)) (λ k. k)
+    pub names-bounded : Bounded (upTo (lineCount s)) (λ k. k)
     names-bounded k e =
-        let u = up-to (length ps) k e in
-        omega (arith, u .0, u .1, ok .ends, counts-length start ps, total-some (s .counts) (λ j q. count-some (suc j) (omega arith) (omega (arith, counts-length start ps))))
+        let u = up-to (lineCount s) k e in
+        omega (arith, u .0, u .1, ok .ends, tie .lines, total-some (s .counts) (λ j q. count-some (suc j) (omega arith) (omega (arith, tie .lines))))
 
-    pub address-low : (n : ℕ) → 1 ≤ n → n ≤ length ps → addressAt s n < 2 ^ 32
-    address-low n h g = omega (arith, ok .ends, count-some n h g, address-is n h g, total-part (s .counts) (pred n) (omega (arith, counts-length start ps)))
+    pub address-low : (n : ℕ) → 1 ≤ n → n ≤ lineCount s → addressAt s n < 2 ^ 32
+    address-low n h g = omega (arith, ok .ends, count-some n h g, address-is n h g, total-part (s .counts) (pred n) (omega (arith, tie .lines)))
 
-    pub addresses-bounded : Bounded (upTo (length ps)) (addressAt s)
-    addresses-bounded k e = let u = up-to (length ps) k e in address-low k (u .0) (u .1)
+    pub addresses-bounded : Bounded (upTo (lineCount s)) (addressAt s)
+    addresses-bounded k e = let u = up-to (lineCount s) k e in address-low k (u .0) (u .1)

@@ -9,7 +9,7 @@ use lib.Seq.{take-at, take-all, drop-at}
 use Rattle.isa.specs.declared.Encoded.{Encoded}
 use Rattle.sheet_spec.specs.Line.{Parsed, no}
 use Rattle.sheet_spec.specs.Made.{turnedBack, made}
-use Rattle.sheet_spec.specs.Sheet.{total, addressesFrom, encodedAs, encodedFrom, encodedWords, allWords}
+use Rattle.sheet_spec.specs.Sheet.{total, addressesFrom, encodedLine, encodedFrom, encodedWords, allWords}
 
 -- ---- counts and addresses
 pub addresses-length : (a : ℕ) (cs : List ℕ) → length (addressesFrom a cs) ≡ length cs
@@ -43,7 +43,7 @@ total-some (c ∷ cs) h = omega (arith, h 0 (omega arith), total-some cs (λ k q
 
 -- ---- lines encoded
 abbrev pub noWords : Encoded
-noWords = encodedAs 0 (turnedBack 0)
+noWords = encodedLine 0 (turnedBack 0)
 
 pub encoded-length : (f : ℕ → Option ℕ) (places : List ℕ) (ps : List Parsed) → length places ≡ length ps → length (encodedFrom f places ps) ≡ length ps
 encoded-length f [] [] h = refl
@@ -52,7 +52,7 @@ encoded-length f (a ∷ places) [] h = refl
 encoded-length f (a ∷ places) (p ∷ ps) h = ap suc (encoded-length f places ps (omega arith))
 
 pub encoded-is : (f : ℕ → Option ℕ) (places : List ℕ) (ps : List Parsed) → length places ≡ length ps → (k : ℕ) → k < length ps
-    → getD (encodedFrom f places ps) k noWords ≡ encodedAs (getD places k 0) (made f (getD ps k no))
+    → getD (encodedFrom f places ps) k noWords ≡ encodedLine (getD places k 0) (made f (getD ps k no))
 encoded-is f places [] h k g = absurd (omega arith)
 encoded-is f [] (p ∷ ps) h k g = absurd (omega arith)
 encoded-is f (a ∷ places) (p ∷ ps) h zero g = refl

@@ -6,11 +6,8 @@ use mathlib.Core.List.{List, [], _∷_, map, append-nil}
 use mathlib.Core.Option.{Option, none, some, Option·getD}
 use native.Mathlib.Omega.{arith}
 use Rattle.isa.specs.declared.Instruction.{Instruction}
-use Rattle.isa.specs.declared.Measured.{Measured}
 use Rattle.encode_spec.specs.Encode.{sizeOf}
-use Rattle.numeric_spec.specs.Entry.{Inside}
 use Rattle.numeric_spec.specs.Form.{formOf, numbersOf}
-use Rattle.sheet_spec.specs.declared.Kind.the-variants as kind
 use Rattle.sheet_spec.specs.Line.{Token, literal, label, invalid, Parsed, says}
 use Rattle.sheet_spec.specs.Spell.{SuitAll}
 use Rattle.sheet_spec.specs.Made.{numberAs, isSome, names, namesAll, Line, Made, makes, turnedBack, made}
@@ -97,7 +94,7 @@ module _ (d : ℕ → Bool) (i : Instruction) (vs : List Token) (l : Line (given
 
   line-turned : Turn
   unfolding formOf
-  line-turned = instruction-turned i vs (record { fits = l .grammar; named = l .named; zeros = subst (Spelt (λ k. 0) vs) (sym (append-nil (entries i))) zeros }) (l .inside)
+  line-turned = instruction-turned i vs (record { fits = l .grammar; named = l .labels; zeros = subst (Spelt (λ k. 0) vs) (sym (append-nil (entries i))) zeros }) (l .inside)
 
   line-again : (g : ℕ → ℕ) → Bounded d g → Line (given d g) vs (line-turned .made (zeroed d g))
   unfolding numbersOf formOf
@@ -106,7 +103,7 @@ module _ (d : ℕ → Bool) (i : Instruction) (vs : List Token) (l : Line (given
       let h = zeroed-bounded d g b in
       let f = zeroed d g in
       let spelt = subst (Spelt f vs) (append-nil (entries (t .made f))) (t .spells f h [] (empty-spelt f (t .rest) (t .left .fits))) in
-      record { grammar = l .grammar; named = names-all d g (λ k. 0) vs ∙ l .named; numbers = numbers-given d g vs ∙ spelt; inside = t .stays f h }
+      record { grammar = l .grammar; labels = names-all d g (λ k. 0) vs ∙ l .labels; numbers = numbers-given d g vs ∙ spelt; inside = t .stays f h }
 
 pub line-made : (d : ℕ → Bool) (p : Parsed) → InGrammar p → sizedAs (made (given d (λ k. 0)) p) .number ≡ 0 → LineMade d p
 line-made d p g h = go (made (given d (λ k. 0)) p) refl h

@@ -1,6 +1,6 @@
 -- What an accepted sheet is: every place of 01's table in order.
 use Prim.Native.Nat.{ℕ, zero, suc, pred, _+_, _%_, _^_, _≤_, _<_}
-use mathlib.Core.Path.{_≡_, refl, sym, ap, _∙_, subst}
+use mathlib.Core.Path.{_≡_, refl, sym, ap, _∙_}
 use mathlib.Core.List.{List, [], _∷_, map}
 use native.Mathlib.Omega.{arith}
 use lib.Dec.{leb, eqb}
@@ -9,10 +9,9 @@ use borrow.Author.Tests.{eqb-true, leb-true}
 use Rattle.isa.specs.declared.Measured.{Measured}
 use Rattle.isa.specs.declared.Encoded.{Encoded}
 use Rattle.sheet_spec.specs.Line.{Parsed, no}
-use Rattle.sheet_spec.specs.Sheet.{isSheet, startLine, Start, at, notInForm, startOf, startNumber, sizedOf, sizesOf, halfOf, Sheet, sheetAt, sheetIn, lineCount, wordCount, endOf, lineAt, addressAt, addresses, resolved, encoded}
-use Rattle.sheet_spec.specs.Translate.{Outcome, inOrder, andThen, require, inTurn, sizeOutcome, encodeOutcome, startOutcome, opening, sizing, closing, encoding, sheetOutcome, outcomeOf}
-use Rattle.sheet_spec.specs.Promises.{MeasuredSheet, AcceptedSheet, AcceptedText}
-use Rattle.sheet_facts.specs.SheetLaws.{outline, count-feeds}
+use Rattle.sheet_spec.specs.Sheet.{isSheet, startLine, Start, at, notInForm, startOf, startNumber, sizedOf, sizesOf, halfOf, Sheet, sheetAt, sheetIn, lineCount, wordCount, endOf, addresses, resolved, encoded}
+use Rattle.sheet_spec.specs.Translate.{Outcome, inOrder, require, inTurn, sizeOutcome, encodeOutcome, startOutcome, opening, sizing, closing, encoding, sheetOutcome, outcomeOf}
+use Rattle.sheet_spec.specs.Promises.{CountedSheet, AcceptedSheet, AcceptedText}
 use Rattle.sheet_facts.specs.Listing.{refused-not, both-in-order, require-true, in-order-zero}
 use Rattle.sheet_size_facts.specs.Image.{addresses-length, noWords, encoded-length, encoded-is}
 
@@ -36,42 +35,45 @@ map-at f [] k a b h = absurd (omega arith)
 map-at f (x ∷ xs) zero a b h = refl
 map-at f (x ∷ xs) (suc k) a b h = map-at f xs k a b (omega arith)
 
--- ---- a start and lines
-module _ (start : ℕ) (ps : List Parsed) where
-  abbrev s : Sheet
-  s = sheetAt start ps
+-- ---- a sheet whose lines count half of their sizes
+pub counted-sheet : (start : ℕ) (ps : List Parsed) → CountedSheet (sheetAt start ps)
+counted-sheet start ps =
+    let d = sizedOf (length ps) no in
+    let l = length-map ps (sizedOf (length ps)) in
+    record {
+      lines = length-map (sizesOf ps) halfOf ∙ l;
+      each = λ n h g. map-at halfOf (sizesOf ps) (pred n) d 0 (omega (arith, l)) ∙ ap halfOf (map-at (sizedOf (length ps)) ps (pred n) no d (omega arith));
+    }
 
-  pub counts-length : length (s .counts) ≡ length ps
-  counts-length = length-map (sizesOf ps) halfOf ∙ length-map ps (sizedOf (length ps))
+pub counted-text : (text : List ℕ) → CountedSheet (sheetIn text)
+counted-text text = counted-sheet (sheetIn text .start) (sheetIn text .lines)
 
-  pub places-length : length (addresses s) ≡ length ps
-  places-length = addresses-length start (s .counts) ∙ counts-length
+module _ (s : Sheet) (tie : CountedSheet s) where
+  pub places-length : length (addresses s) ≡ lineCount s
+  places-length = addresses-length (s .start) (s .counts) ∙ tie .lines
 
-  pub lines-length : length (encoded s) ≡ length ps
-  lines-length = encoded-length (resolved s) (addresses s) ps places-length
+  pub lines-length : length (encoded s) ≡ lineCount s
+  lines-length = encoded-length (resolved s) (addresses s) (s .lines) places-length
 
-  pub sizing-each : sizing ps ≡ inOrder → (n : ℕ) → 1 ≤ n → n ≤ length ps → sizedOf (length ps) (lineAt s n) .number ≡ 0
-  sizing-each e n h g =
-      let m = each-in-order sizeOutcome 1 (sizesOf ps) e (sizedOf (length ps) no) (pred n) (omega (arith, length-map ps (sizedOf (length ps)))) in
-      let z = in-order-zero _ (getD (sizesOf ps) (pred n) (sizedOf (length ps) no) .number) _ _ m in
-      sym (ap (λ (x : Measured). x .number) (map-at (sizedOf (length ps)) ps (pred n) no (sizedOf (length ps) no) (omega arith))) ∙ z
-
-  encoding-each : encoding s ≡ inOrder → (n : ℕ) → 1 ≤ n → n ≤ length ps → getD (encoded s) (pred n) noWords .number ≡ 0
+  encoding-each : encoding (encoded s) ≡ inOrder → (n : ℕ) → 1 ≤ n → n ≤ lineCount s → getD (encoded s) (pred n) noWords .number ≡ 0
   encoding-each e n h g = in-order-zero _ (getD (encoded s) (pred n) noWords .number) _ _ (each-in-order encodeOutcome 1 (encoded s) e noWords (pred n) (omega (arith, lines-length)))
 
-  accepts : (room : ℕ) → sheetOutcome s room ≡ inOrder → AcceptedSheet s room
-  accepts room e =
-      let a = both-in-order (sizing ps) _ e in
-      let b = both-in-order (closing start (wordCount s) room) _ (a .1) in
-      let c = both-in-order (require (leb (endOf (s .start) (wordCount s)) (2 ^ 32)) 9) _ (b .0) in
-      record {
-        measured = record { sized = sizing-each (a .0); ends = leb-true (endOf (s .start) (wordCount s)) (2 ^ 32) (require-true _ 9 (c .0)) };
-        image = leb-true (wordCount s) room (require-true _ 11 (c .1));
-        encoded = λ n h g. sym (ap (λ (x : Encoded). x .number) (encoded-is (resolved s) (addresses s) ps places-length (pred n) (omega arith))) ∙ encoding-each (b .1) n h g;
-      }
+pub sizing-each : (ps : List Parsed) → sizing ps ≡ inOrder → (n : ℕ) → 1 ≤ n → n ≤ length ps → sizedOf (length ps) (getD ps (pred n) no) .number ≡ 0
+sizing-each ps e n h g =
+    let m = each-in-order sizeOutcome 1 (sizesOf ps) e (sizedOf (length ps) no) (pred n) (omega (arith, length-map ps (sizedOf (length ps)))) in
+    let z = in-order-zero _ (getD (sizesOf ps) (pred n) (sizedOf (length ps) no) .number) _ _ m in
+    sym (ap (λ (x : Measured). x .number) (map-at (sizedOf (length ps)) ps (pred n) no (sizedOf (length ps) no) (omega arith))) ∙ z
 
-pub accepted-sheet : (start : ℕ) (ps : List Parsed) (room : ℕ) → sheetOutcome (sheetAt start ps) room ≡ inOrder → AcceptedSheet (sheetAt start ps) room
-accepted-sheet start ps room e = accepts start ps room e
+pub accepted-sheet : (s : Sheet) → CountedSheet s → (room : ℕ) → sheetOutcome s room ≡ inOrder → AcceptedSheet s room
+accepted-sheet s tie room e =
+    let a = both-in-order (sizing (s .lines)) _ e in
+    let b = both-in-order (closing (s .start) (wordCount s) room) _ (a .1) in
+    let c = both-in-order (require (leb (endOf (s .start) (wordCount s)) (2 ^ 32)) 9) _ (b .0) in
+    record {
+      measured = record { sized = sizing-each (s .lines) (a .0); ends = leb-true (endOf (s .start) (wordCount s)) (2 ^ 32) (require-true _ 9 (c .0)) };
+      image = leb-true (wordCount s) room (require-true _ 11 (c .1));
+      encoded = λ n h g. sym (ap (λ (x : Encoded). x .number) (encoded-is (resolved s) (addresses s) (s .lines) (places-length s tie) (pred n) (omega arith))) ∙ encoding-each s tie (b .1) n h g;
+    }
 
 -- ---- a text
 pub accepted : (text : List ℕ) (places room : ℕ) → outcomeOf text places room ≡ inOrder → AcceptedText text places room
@@ -80,13 +82,11 @@ accepted text places room e =
     let o = both-in-order (opening text places) _ e in
     let a = both-in-order (require (isSheet text) 10) _ (o .0) in
     let b = both-in-order (startOutcome (startOf (startLine text))) _ (a .1) in
-    let h = require-true (isSheet text) 10 (a .0) in
     let t = start-even (startOf (startLine text)) (b .0) in
     record {
-      sheet = h;
-      lines-some = omega (arith, count-feeds text h, outline text h .least);
+      sheet = require-true (isSheet text) 10 (a .0);
       start = t .0;
       even = t .1;
       scratch = leb-true (lineCount (sheetIn text)) places (require-true _ 11 (b .1));
-      lines = accepted-sheet (sheetIn text .start) (sheetIn text .lines) room (o .1);
+      lines = accepted-sheet (sheetIn text) (counted-text text) room (o .1);
     }

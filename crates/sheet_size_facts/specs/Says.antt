@@ -30,12 +30,12 @@ unfolding made
 line-says f (says vs) i g e =
     let j = judged-makes (builtOf (map (numberAs f) vs)) (namesAll f vs) i e in
     let b = build-sound (map (numberAs f) vs) i (j .0) in
-    (vs, refl, record { grammar = g; named = j .1; numbers = b .0; inside = b .1 })
+    (vs, refl, record { grammar = g; labels = j .1; numbers = b .0; inside = b .1 })
 line-says f no i g e = turned-not e
 
 pub line-makes : (f : ℕ → Option ℕ) (vs : List Token) (i : Instruction) → Line f vs i → made f (says vs) ≡ makes i
 unfolding made
-line-makes f vs i l = ap (λ (b : Bool). judged (builtOf (map (numberAs f) vs)) b) (l .named) ∙ ap (λ (b : Built). judged b true) (ap builtOf (l .numbers) ∙ build-complete i (l .inside))
+line-makes f vs i l = ap (λ (b : Bool). judged (builtOf (map (numberAs f) vs)) b) (l .labels) ∙ ap (λ (b : Built). judged b true) (ap builtOf (l .numbers) ∙ build-complete i (l .inside))
 
 -- the place of an instruction that a token says has a name
 pub place-named : (f : ℕ → Option ℕ) (v : Token) (p : ℕ) → Variant kind.Instruction v → numberAs f v ≡ pos p → 0 < length (getD (map bytes (namesOf kind.Instruction)) p [])

@@ -129,7 +129,7 @@ target stop = 0
 
 -- ---- the lines of a sheet
 
--- where a line goes, its names made by f, by its plain form
+-- where a line goes, by its plain form
 abbrev pub lineNext : Made → Next
 lineNext (makes i) = nextOf (plain i)
 lineNext (turnedBack k) = stop

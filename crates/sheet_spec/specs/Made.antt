@@ -37,10 +37,10 @@ abbrev pub namesAll : (ℕ → Option ℕ) → List Token → Bool
 namesAll f [] = true
 namesAll f (v ∷ vs) = names f v && namesAll f vs
 
--- a line: the tokens are in the grammar, and their numbers are the instruction's
+-- a line of an instruction: the tokens are in the grammar, their labels name lines, and their numbers, inside their types, are the instruction's
 pub record Line (f : ℕ → Option ℕ) (vs : List Token) (i : Instruction) : Type 0 where
   pub grammar : SuitAll (kind.Instruction ∷ []) vs
-  pub named : namesAll f vs ≡ true
+  pub labels : namesAll f vs ≡ true
   pub numbers : map (numberAs f) vs ≡ numbersOf i
   pub inside : Inside (formOf i)
 

@@ -12,8 +12,8 @@ use Rattle.sheet_spec.specs.declared.Kind.the-variants as kind
 use Rattle.sheet_spec.specs.Line.{Parsed, says, no}
 use Rattle.sheet_spec.specs.Spell.{SuitAll, spell}
 use Rattle.sheet_spec.specs.Made.{made}
-use Rattle.sheet_spec.specs.Sheet.{isSheet, startLine, instructionLines, at, startOf, sizedOf, Sheet, sheetIn, lineCount, wordCount, endOf, lineAt, countAt, addressAt, resolved, encodedAs, encodedWords, image}
-use Rattle.sheet_spec.specs.Translate.{Outcome, inOrder, outcomeOf, listedOf, imageOf, scratchOf}
+use Rattle.sheet_spec.specs.Sheet.{isSheet, startLine, instructionLines, at, startOf, sizedOf, halfOf, Sheet, sheetIn, lineCount, wordCount, endOf, lineAt, countAt, addressAt, resolved, encodedLine, encodedWords, image}
+use Rattle.sheet_spec.specs.Translate.{inOrder, outcomeOf, listedOf, imageOf, scratchOf}
 use Rattle.sheet_spec.specs.Follow.{Reads, Together, byLines, byWords}
 
 -- a START line in the form
@@ -25,6 +25,11 @@ abbrev pub InGrammar : Parsed → Type 0
 InGrammar (says vs) = SuitAll (kind.Instruction ∷ []) vs
 InGrammar no = Unit {0}
 
+-- each line counts half of its size (01)
+pub record CountedSheet (s : Sheet) : Type 0 where
+  pub lines : length (s .counts) ≡ lineCount s
+  pub each : (n : ℕ) → 1 ≤ n → n ≤ lineCount s → countAt s n ≡ halfOf (sizedOf (lineCount s) (lineAt s n))
+
 -- each line is measured, and the end is at most 2^32
 pub record MeasuredSheet (s : Sheet) : Type 0 where
   pub sized : (n : ℕ) → 1 ≤ n → n ≤ lineCount s → sizedOf (lineCount s) (lineAt s n) .number ≡ 0
@@ -34,11 +39,10 @@ pub record MeasuredSheet (s : Sheet) : Type 0 where
 pub record AcceptedSheet (s : Sheet) (room : ℕ) : Type 0 where
   pub measured : MeasuredSheet s
   pub image : wordCount s ≤ room
-  pub encoded : (n : ℕ) → 1 ≤ n → n ≤ lineCount s → encodedAs (addressAt s n) (made (resolved s) (lineAt s n)) .number ≡ 0
+  pub encoded : (n : ℕ) → 1 ≤ n → n ≤ lineCount s → encodedLine (addressAt s n) (made (resolved s) (lineAt s n)) .number ≡ 0
 
 pub record AcceptedText (text : List ℕ) (places room : ℕ) : Type 0 where
   pub sheet : isSheet text ≡ true
-  pub lines-some : 1 ≤ lineCount (sheetIn text)
   pub start : startOf (startLine text) ≡ at (sheetIn text .start)
   pub even : sheetIn text .start % 2 ≡ 0
   pub scratch : lineCount (sheetIn text) ≤ places

@@ -65,7 +65,7 @@ startNumber notInForm = 0
 
 -- ---- a start and parsed lines
 
--- a line of n: 7, then 8, then as `size` refuses it with `@` as 0
+-- a line of a sheet of n lines: 7, then 8, then as `size` refuses it with `@` as 0
 abbrev pub sizedAs : Made → Measured
 sizedAs (makes i) = sizeOf i
 sizedAs (turnedBack k) = record { size = 0; number = k; detail = 0; value = pos 0 }
@@ -129,15 +129,15 @@ addressAt s n = getD (addresses s) (pred n) 0
 abbrev pub resolved : Sheet → ℕ → Option ℕ
 resolved s = ofLines (lineCount s) (addressAt s)
 
--- each line encoded at its address, its names made by f
-abbrev pub encodedAs : ℕ → Made → Encoded
-encodedAs a (makes i) = encodeOf i a
-encodedAs a (turnedBack k) = record { words = replicate 11 0; count = 0; number = k; detail = 0; value = pos 0 }
+-- each line encoded at its address
+abbrev pub encodedLine : ℕ → Made → Encoded
+encodedLine a (makes i) = encodeOf i a
+encodedLine a (turnedBack k) = record { words = replicate 11 0; count = 0; number = k; detail = 0; value = pos 0 }
 
 abbrev pub encodedFrom : (ℕ → Option ℕ) → List ℕ → List Parsed → List Encoded
 encodedFrom f [] ps = []
 encodedFrom f (a ∷ later) [] = []
-encodedFrom f (a ∷ later) (p ∷ ps) = encodedAs a (made f p) ∷ encodedFrom f later ps
+encodedFrom f (a ∷ later) (p ∷ ps) = encodedLine a (made f p) ∷ encodedFrom f later ps
 
 abbrev pub encoded : Sheet → List Encoded
 encoded s = encodedFrom (resolved s) (addresses s) (s .lines)

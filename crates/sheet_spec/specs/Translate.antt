@@ -59,12 +59,12 @@ abbrev pub closing : ℕ → ℕ → ℕ → Outcome
 closing start words room = andThen (require (leb (endOf start words) (2 ^ 32)) 9) (require (leb words room) 11)
 
 -- each line in turn
-abbrev pub encoding : Sheet → Outcome
-encoding s = inTurn encodeOutcome 1 (encoded s)
+abbrev pub encoding : List Encoded → Outcome
+encoding es = inTurn encodeOutcome 1 es
 
 -- of a start and lines
 abbrev pub sheetOutcome : Sheet → ℕ → Outcome
-sheetOutcome s room = andThen (sizing (s .lines)) (andThen (closing (s .start) (wordCount s) room) (encoding s))
+sheetOutcome s room = andThen (sizing (s .lines)) (andThen (closing (s .start) (wordCount s) room) (encoding (encoded s)))
 
 unfoldable pub outcomeOf : List ℕ → ℕ → ℕ → Outcome
 outcomeOf text places room = andThen (opening text places) (sheetOutcome (sheetIn text) room)

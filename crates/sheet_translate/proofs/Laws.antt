@@ -22,7 +22,7 @@ use Rattle.sheet_spec.specs.Translate.{Outcome, inOrder, refused, andThen, requ
 use Rattle.sheet_spec.specs.Promises.{Translated}
 use Rattle.sheet_facts.specs.Listing.{as-in-order, as-refused, over-length}
 use Rattle.sheet_facts.specs.Lines.{line-grammar}
-use Rattle.sheet_size_facts.specs.Outcomes.{sizing-each, accepted}
+use Rattle.sheet_size_facts.specs.Outcomes.{counted-text, sizing-each, accepted}
 use Rattle.sheet_size_facts.specs.Bounds.{line-at, addresses-bounded}
 use Rattle.sheet_size_facts.specs.Counted.{image-counts}
 use Rattle.sheet_passes.specs.declared.Passed.{Passed}
@@ -134,8 +134,8 @@ module _ {text : List ℕ} {from lines words : ℕ} {v s : List ℕ} (z : SizedS
 
   named : (k : ℕ) → k < lineCount S → namesIn (resolved S) (getD (S .lines) k no) ≡ true
   named k h =
-      let l = line-at (S .start) (S .lines) (line-grammar text) (z .measured) (suc k) (omega arith) (omega arith) in
-      ap (namesIn (resolved S)) (l .parsed) ∙ l .line (addressAt S) (addresses-bounded (S .start) (S .lines) (line-grammar text) (z .measured)) .named
+      let l = line-at S (counted-text text) (line-grammar text) (z .measured) (suc k) (omega arith) (omega arith) in
+      ap (namesIn (resolved S)) (l .parsed) ∙ l .line (addressAt S) (addresses-bounded S (counted-text text) (line-grammar text) (z .measured)) .labels
 
   pub placed : Placed (take lines s) (parsedAt text from)
   placed =
@@ -145,9 +145,9 @@ module _ {text : List ℕ} {from lines words : ℕ} {v s : List ℕ} (z : SizedS
   encoded-is : encodedAt (take lines s) (parsedAt text from) ≡ encoded S
   encoded-is = rw (z .addresses, z .begin, resolved-is)
 
-  module _ (p : Passed) (e : p ≡ passedOf (inTurn encodeOutcome 1 (encodedAt (take lines s) (parsedAt text from))) 0) where
-    ranged : encoding S ≡ asOutcome (p .line) (p .number) (p .detail) (p .value)
-    ranged = as-passed (encoding S) (encoded-sound 1 (encoded S)) 0 p (e ∙ ap (λ (es : List Encoded). passedOf (inTurn encodeOutcome 1 es) 0) encoded-is)
+  module _ (p : Passed) (e : p ≡ passedOf (encoding (encodedAt (take lines s) (parsedAt text from))) 0) where
+    ranged : encoding (encoded S) ≡ asOutcome (p .line) (p .number) (p .detail) (p .value)
+    ranged = as-passed (encoding (encoded S)) (encoded-sound 1 (encoded S)) 0 p (e ∙ ap (λ (es : List Encoded). passedOf (encoding es) 0) encoded-is)
 
     pub refused-range : (p .number ≡ 0 → ⊥) → (s′ : List ℕ) (r : Listed) → r ≡ listedAs (refused (p .number) (p .line) (p .detail) (p .value)) 0 0
         → s′ ≡ replicate (length s) 0 → Translated text v s v s′ r
@@ -223,11 +223,11 @@ module _ (text v s : List ℕ) (o : opening text (length s) ≡ inOrder) (n : �
         measured : sizing (T .lines) ≡ asOutcome (p .line) (p .number) (p .detail) (p .value)
         measured = as-passed (sizing (T .lines)) (sizes-sound 1 (sizesOf (T .lines))) (wordCount T) p pass-is
 
-        after : (w : Outcome) → sizing (T .lines) ≡ w → outcomeOf text (length s) (length v) ≡ andThen w (andThen (closing (T .start) (wordCount T) (length v)) (encoding T))
+        after : (w : Outcome) → sizing (T .lines) ≡ w → outcomeOf text (length s) (length v) ≡ andThen w (andThen (closing (T .start) (wordCount T) (length v)) (encoding (encoded T)))
         unfolding outcomeOf
         after w e =
             ap (λ (x : Outcome). andThen x (sheetOutcome T (length v))) o
-            ∙ ap (λ (x : Outcome). andThen x (andThen (closing (T .start) (wordCount T) (length v)) (encoding T))) e
+            ∙ ap (λ (x : Outcome). andThen x (andThen (closing (T .start) (wordCount T) (length v)) (encoding (encoded T)))) e
 
         zeroed : (s′ : List ℕ) → s′ ≡ replicate (length s₁) 0 → s′ ≡ replicate (length s) 0
         zeroed s′ e = e ∙ ap (λ (k : ℕ). replicate k 0) kept
@@ -258,7 +258,7 @@ module _ (text v s : List ℕ) (o : opening text (length s) ≡ inOrder) (n : �
                 → s′ ≡ replicate (length s₁) 0 → Translated text v s v s′ r
             refused-end m s′ r f g =
                 turned-away text v s k 0 0 (pos 0)
-                (after inOrder sizes-in-order ∙ ap (λ (x : Outcome). andThen x (encoding T)) (ended ∙ as-refused 0 k 0 (pos 0) m)) s′ r f (zeroed s′ g)
+                (after inOrder sizes-in-order ∙ ap (λ (x : Outcome). andThen x (encoding (encoded T))) (ended ∙ as-refused 0 k 0 (pos 0) m)) s′ r f (zeroed s′ g)
 
             module _ (m : k ≡ 0) where
               close : Closed (T .start) (wordCount T) (length v)
@@ -276,9 +276,9 @@ module _ (text v s : List ℕ) (o : opening text (length s) ≡ inOrder) (n : �
                     needed = needed;
                     places = omega (arith, kept, counted, begun .scratch);
                     addresses = rw addressed (over-take (addresses T) s (n - 1) (sheet-places text ∙ sym counted));
-                    measured = record { sized = sizing-each (T .start) (T .lines) sizes-in-order; ends = close .ends };
+                    measured = record { sized = sizing-each (T .lines) sizes-in-order; ends = close .ends };
                     verdict = ap (λ (x : ℕ). outcomeOf text x (length v)) kept ∙ after inOrder sizes-in-order
-                        ∙ ap (λ (x : Outcome). andThen x (encoding T)) (ended ∙ as-in-order 0 k 0 (pos 0) m);
+                        ∙ ap (λ (x : Outcome). andThen x (encoding (encoded T))) (ended ∙ as-in-order 0 k 0 (pos 0) m);
                   }
 
               pub done : (v′ s′ : List ℕ) (r : Listed) → Translated text v s₁ v′ s′ r → Translated text v s v′ s′ r

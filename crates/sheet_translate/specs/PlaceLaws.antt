@@ -12,7 +12,7 @@ use Rattle.isa.specs.declared.Measured.{Measured}
 use Rattle.sheet_spec.specs.Sheet.{halfOf, sheetIn, lineCount, wordCount, addresses, image}
 use Rattle.sheet_spec.specs.Translate.{Outcome, inOrder, refused, over, outcomeOf, listedAs, listedOf, imageAs, imageOf, scratchAs, scratchOf}
 use Rattle.sheet_facts.specs.Listing.{over-length}
-use Rattle.sheet_size_facts.specs.Outcomes.{places-length, accepted}
+use Rattle.sheet_size_facts.specs.Outcomes.{counted-text, places-length, accepted}
 use Rattle.sheet_size_facts.specs.Counted.{image-counts}
 use Rattle.sheet_passes.specs.Passes.{filledOf}
 use Rattle.sheet_spec.specs.Promises.{Translated}
@@ -34,7 +34,7 @@ over-same (suc n) x (b ∷ bs) e h = rw (sym e) (ap (λ (w : List ℕ). b ∷ w)
 
 -- as many addresses as lines
 pub sheet-places : (text : List ℕ) → length (addresses (sheetIn text)) ≡ lineCount (sheetIn text)
-sheet-places text = places-length (sheetIn text .start) (sheetIn text .lines)
+sheet-places text = places-length (sheetIn text) (counted-text text)
 
 -- no more places are filled than there are lines
 pub filled-length : (a : ℕ) (ms : List Measured) → length (filledOf a ms) ≤ length ms

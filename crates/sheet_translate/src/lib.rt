@@ -8,7 +8,7 @@ ghost use Rattle.sheet_translate.specs.Translated.{outcomeNumber, SizedS
 ghost use Rattle.sheet_spec.specs.Promises.{Translated};
 use sheet_spec::Listed;
 
-pub fn zero(s: &mut [u32])
+fn zero(s: &mut [u32])
     ensures { λ r. ⌜ now (s .exit) ≡ replicate (length (now (s .entry))) 0 ⌝ }
 {
     let mut i: usize = 0;

@@ -27,7 +27,8 @@ use Rattle.isa_values.specs.BitFieldOperation.{hasRegister, bitFieldOf}
 use Rattle.isa_values.specs.ControlRegister.{processorOf}
 use Rattle.isa_values.specs.DisplacementSize.{displacementBytes, displacementCode}
 use Rattle.isa_values.specs.ExtensionWord.{indexRegister, scaleShift, index, extensionBytes}
-use Rattle.isa_values.specs.IndexBase.{isPc, addressRegister}
+use Rattle.isa_spec.specs.IndexBase.{isPc}
+use Rattle.isa_values.specs.IndexBase.{addressRegister}
 use Rattle.isa_values.specs.RegisterOperand.{indexOf}
 use Rattle.isa_values.specs.Size.{byteCount, bitCount}
 
