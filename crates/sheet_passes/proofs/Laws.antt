@@ -25,7 +25,7 @@ use Rattle.sheet_entries.specs.MadeLaws.{made-listed, made-zero, names-in}
 use Rattle.base_text.specs.LinesLaws.{lines-next}
 use Rattle.sheet_spec.specs.Made.{namesIn, judged, made}
 use Rattle.sheet_spec.specs.Sheet.{sizedAs, sizedOf, sizesOf, halfOf, total, encodedLine, encodedFrom, encodedWords, allWords}
-use Rattle.sheet_spec.specs.Translate.{andThen, inTurn, sizeOutcome, encodeOutcome, sizing, over}
+use Rattle.sheet_spec.specs.Translate.{andThen, inTurn, sizeOutcome, encodeOutcome, sizing, encoding, over}
 use Rattle.sheet_facts.specs.Listing.{over-length}
 use Rattle.sheet_passes.specs.declared.Passed.{Passed}
 use Rattle.sheet_passes.specs.Passes.{parsedAt, passedOf, filledOf, listed, lineEncoded, Placed, encodedAt}

@@ -7,7 +7,7 @@ ghost use lib.ListN.{length};
 ghost use Rattle.sheet_spec.specs.Line.{lineOf};
 ghost use Rattle.sheet_spec.specs.Made.{turnedBack, judged};
 ghost use Rattle.sheet_spec.specs.Sheet.{sizedAs, sizedOf, sizesOf, halfOf, total, encodedLine, encodedWords, allWords};
-ghost use Rattle.sheet_spec.specs.Translate.{inTurn, sizing, encodeOutcome, over};
+ghost use Rattle.sheet_spec.specs.Translate.{sizing, encoding, over};
 ghost use Rattle.sheet_passes.specs.Passes.{parsedAt, passedOf, filledOf, lineEncoded, Placed, encodedAt};
 use isa::Encoded;
 use isa::Measured;

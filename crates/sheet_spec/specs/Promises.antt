@@ -71,8 +71,7 @@ pub record Demand3 (s : Sheet) (v : List ℕ) : Type 0 where
   pub together : (choices : List Bool) → Together s v (byLines s choices) (byWords (s .start) v choices)
   pub each : (n : ℕ) → 1 ≤ n → n ≤ lineCount s → Stands s v n
 
--- no refusal: the counts; demand 3 of the words left; each line's text is the spelling of its tokens, and its address stands in the scratch;
--- later words and places are unchanged
+-- no refusal: the counts; demand 3 of the words left; each line's spelling and address; later words and places unchanged
 pub record Followed (text v s v′ s′ : List ℕ) (r : Listed) : Type 0 where
   pub lines : r .lines ≡ lineCount (sheetIn text)
   pub counted : r .words ≡ wordCount (sheetIn text)

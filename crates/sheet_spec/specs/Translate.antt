@@ -62,14 +62,12 @@ closing start words room = andThen (require (leb (endOf start words) (2 ^ 32)) 9
 abbrev pub encoding : List Encoded → Outcome
 encoding es = inTurn encodeOutcome 1 es
 
--- of a start and lines
 abbrev pub sheetOutcome : Sheet → ℕ → Outcome
 sheetOutcome s room = andThen (sizing (s .lines)) (andThen (closing (s .start) (wordCount s) room) (encoding (encoded s)))
 
 unfoldable pub outcomeOf : List ℕ → ℕ → ℕ → Outcome
 outcomeOf text places room = andThen (opening text places) (sheetOutcome (sheetIn text) room)
 
--- the answer
 abbrev pub listedAs : Outcome → ℕ → ℕ → Listed
 listedAs inOrder lines words = record { lines = lines; words = words; number = 0; line = 0; detail = 0; value = pos 0 }
 listedAs (refused number line detail value) lines words =

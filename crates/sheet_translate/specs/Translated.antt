@@ -3,7 +3,7 @@ use mathlib.Core.Path.{_≡_}
 use mathlib.Core.List.{List}
 use Prim.Native.Nat.{ℕ, _≤_}
 use lib.ListN.{length, take}
-use Rattle.sheet_spec.specs.Sheet.{sheetIn, lineCount, wordCount, addresses}
+use Rattle.sheet_spec.specs.Sheet.{sheetIn, lineCount, wordCount, addresses, encoded}
 use Rattle.sheet_spec.specs.Translate.{Outcome, inOrder, refused, encoding, outcomeOf}
 use Rattle.sheet_spec.specs.Promises.{MeasuredSheet}
 use Rattle.sheet_passes.specs.Passes.{parsedAt}
