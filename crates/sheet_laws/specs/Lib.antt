@@ -5,4 +5,3 @@ pub mod Ranges
 pub mod InTypes
 pub mod Demand
 pub mod Demand3
-pub mod Examples
