@@ -15,7 +15,7 @@ fn print_answers(text: &[u8]) {
     let mut out = io::large_buffer();
     let mut from: usize = 0;
     while from < text.len() {
-        let step = encode_answers::bytes::answers(text, from, &mut out);
+        let step = bytes_answers::answers(text, from, &mut out);
         let count = step.count;
         io::write_all(1, &out[..count]);
         from = step.next;

@@ -1,23 +1,16 @@
 -- What is printed for the numbers that code holds in places.
-use mathlib.Core.Bool.{cond, _&&_}
+use mathlib.Core.Bool.{cond}
 use mathlib.Core.List.{List}
 use Prim.Native.Nat.{ℕ}
 use Rattle.base_spec.specs.Refused.{notInForm}
 use Rattle.base_text.specs.declared.LineNumbers.{LineNumbers}
 use Rattle.numeric_places.specs.declared.Numbers.{Numbers}
 use Rattle.numeric_places.specs.Places.{builtFrom}
-use Rattle.numeric_fields.specs.Number.{unsignedAt, longAt}
+use Rattle.numeric_fields.specs.Number.{longAt}
 use Rattle.print_spec.specs.EncodeAnswer.{builtText}
-use Rattle.print_spec.specs.BytesAnswer.{calledText}
 
 abbrev pub placesIn : LineNumbers → Numbers
 placesIn n = record { count = n .count; negative = n .negative; magnitude = n .magnitude }
 
 unfoldable pub placesText : Numbers → List ℕ
 placesText ns = let address = longAt ns 0 in cond (address .ok) (builtText (builtFrom ns 1) (address .value)) notInForm
-
-unfoldable pub lentPlacesText : Numbers → List ℕ
-lentPlacesText ns =
-    let lent = unsignedAt 32 ns 0 in
-    let address = longAt ns (lent .next) in
-    cond (lent .ok && address .ok) (calledText (builtFrom ns (address .next)) (lent .value) (address .value)) notInForm

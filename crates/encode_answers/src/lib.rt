@@ -7,9 +7,6 @@ ghost use Rattle.base_text.specs.Wrote.{Wrote};
 ghost use Rattle.base_spec.specs.Lines.{answeredOf, stepOf};
 ghost use Rattle.print_spec.specs.EncodeAnswer.{wordsText, encodedText, measuredText, resultText, builtText, answerOf};
 ghost use Rattle.encode_answers.specs.Places.{placesIn, placesText};
-
-pub mod bytes;
-
 use base_spec::Step;
 use isa::Encoded;
 use isa::Measured;

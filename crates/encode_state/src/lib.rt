@@ -1,7 +1,7 @@
 // The encoder's state: the words so far, or the first refusal. Once refused it stays as it is.
 ghost use mathlib.Core.Path.{_≡_};
 ghost use Prim.Native.Nat.{_<_, _%_};
-ghost use Rattle.encode_state.specs.Encoder.{pushed, refused, marked, step, run, nextAddress, holding};
+ghost use Rattle.encode_state.specs.Encoder.{refused, marked, step, run, nextAddress, holding};
 ghost use mathlib.Core.List.{[]};
 ghost use Rattle.encode_spec.specs.Item as item;
 ghost use Rattle.encode_spec.specs.Ea.{longItems};

@@ -67,18 +67,18 @@ size-least i h = omega (arith, size-words i h 0, words-count (itemsOf i 0), inst
 
 -- ---- targets
 -- an operand without its target
-abbrev pub bare : Operand → Operand
-bare (Immediate v) = Immediate v
-bare (Register r) = Register r
-bare (Indirect k) = Indirect k
-bare (PostIndirect k) = PostIndirect k
-bare (PreIndirect k) = PreIndirect k
-bare (IndirectDisplacement z base) = IndirectDisplacement z base
-bare (IndirectIndex base z x) = IndirectIndex base z x
-bare (PcDisplacement t) = PcDisplacement 0
-bare (PcIndex t x) = PcIndex 0 x
-bare (Extended base w z outer) = Extended base w z outer
-bare (Absolute a w) = Absolute a w
+abbrev pub untargeted : Operand → Operand
+untargeted (Immediate v) = Immediate v
+untargeted (Register r) = Register r
+untargeted (Indirect k) = Indirect k
+untargeted (PostIndirect k) = PostIndirect k
+untargeted (PreIndirect k) = PreIndirect k
+untargeted (IndirectDisplacement z base) = IndirectDisplacement z base
+untargeted (IndirectIndex base z x) = IndirectIndex base z x
+untargeted (PcDisplacement t) = PcDisplacement 0
+untargeted (PcIndex t x) = PcIndex 0 x
+untargeted (Extended base w z outer) = Extended base w z outer
+untargeted (Absolute a w) = Absolute a w
 
 -- where an operand stands in an instruction
 pub data Hole : (Operand → Instruction) → Type 0 where
@@ -168,18 +168,18 @@ steady cas t x = refl
 steady bf t x = refl
 steady divl t x = refl
 
-pub bare-size : {c : Operand → Instruction} → Hole c → (o : Operand) → sizeOf (c (bare o)) ≡ sizeOf (c o)
-bare-size h (Immediate v) = refl
-bare-size h (Register r) = refl
-bare-size h (Indirect k) = refl
-bare-size h (PostIndirect k) = refl
-bare-size h (PreIndirect k) = refl
-bare-size h (IndirectDisplacement z base) = refl
-bare-size h (IndirectIndex base z x) = refl
-bare-size h (PcDisplacement t) = ap (λ p. p .0) (steady h t (record { register = Data 0; size = size.Byte }))
-bare-size h (PcIndex t x) = ap (λ p. p .1) (steady h t x)
-bare-size h (Extended base w z outer) = refl
-bare-size h (Absolute a w) = refl
+pub untargeted-size : {c : Operand → Instruction} → Hole c → (o : Operand) → sizeOf (c (untargeted o)) ≡ sizeOf (c o)
+untargeted-size h (Immediate v) = refl
+untargeted-size h (Register r) = refl
+untargeted-size h (Indirect k) = refl
+untargeted-size h (PostIndirect k) = refl
+untargeted-size h (PreIndirect k) = refl
+untargeted-size h (IndirectDisplacement z base) = refl
+untargeted-size h (IndirectIndex base z x) = refl
+untargeted-size h (PcDisplacement t) = ap (λ p. p .0) (steady h t (record { register = Data 0; size = size.Byte }))
+untargeted-size h (PcIndex t x) = ap (λ p. p .1) (steady h t x)
+untargeted-size h (Extended base w z outer) = refl
+untargeted-size h (Absolute a w) = refl
 
 pub aim-size : {c : ℕ → Instruction} → Aim c → (t : ℕ) → sizeOf (c 0) ≡ sizeOf (c t)
 unfolding measured

@@ -1,7 +1,6 @@
 // The round trip on the code itself.
 ghost use mathlib.Core.Path.{_≡_};
-ghost use Rattle.encode_spec.specs.Encode.{encodeOf};
-ghost use Rattle.read_spec.specs.Refusal.{refusedRun};
+ghost use Rattle.read_spec.specs.ReadingRefusal.{refusedRun};
 ghost use Rattle.read_spec.specs.Read.{readOf};
 ghost use Rattle.read_spec.specs.RoundTrip.{readBackOf, ReadsBack, refusedBack, writtenBack, WritesBack};
 use isa::Encoded;

@@ -11,7 +11,7 @@ use Rattle.base_spec.specs.Numbers.{magnitudeOf}
 use Rattle.numeric_spec.specs.Form.{numbersOf}
 use Rattle.read_spec.specs.declared.Reading.{Reading}
 use Rattle.read_spec.specs.declared.Reading.the-variants.{Read, Short, Nothing}
-use Rattle.read_spec.specs.Refusal.{readingRefusal}
+use Rattle.read_spec.specs.ReadingRefusal.{readingRefusal}
 use Rattle.read_spec.specs.Read.{readOf}
 use Rattle.print_spec.specs.EncodeAnswer.{measuredText}
 use Rattle.print_spec.specs.Run.{isAddressField, allWords, fieldWords}

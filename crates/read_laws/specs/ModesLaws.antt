@@ -13,7 +13,6 @@ use Rattle.encode_spec.specs.Ea.{dataAlterable, memoryAlterable, bitFieldRead, 
 use Rattle.encode_spec.specs.Arithmetic.{immediateModes}
 use Rattle.encode_spec.specs.Movement.{movemModes}
 use Rattle.encode_spec.specs.Bits.{dynamicModes, staticModes, writes}
-use Rattle.read_spec.specs.declared.Layout.{Layout}
 use Rattle.read_spec.specs.declared.Group.{Group}
 use Rattle.read_spec.specs.declared.Group.the-variants as group
 use Rattle.read_spec.specs.Map.{map, groupAt}
@@ -40,7 +39,7 @@ unsized MOVEfromCCR = dataAlterable
 unsized MOVEtoSR = dataColumn
 unsized MOVEfromSR = dataAlterable
 
--- the set that the encoder has for the operand of an operation word; MOVEP and CMPM, which have none, take d16(An) and (An)+ alone
+-- the set that the encoder has for the operand of an operation word; MOVEP takes d16(An) alone, CMPM (An)+ alone
 abbrev pub encoderModes : Group → ℕ → ℕ → ℕ → ℕ → List Bool
 encoderModes group.Unused line x opmode ea = missing
 encoderModes group.ImmediateInto line x opmode ea = cond (toStatus x opmode ea) missing (immediateModes (immediateAt x))

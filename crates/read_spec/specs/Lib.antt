@@ -1,7 +1,7 @@
 pub mod Plain
 pub mod LeftOut
 pub mod Accepted
-pub mod Refusal
+pub mod ReadingRefusal
 pub mod RoundTrip
 pub mod Tree
 pub mod Number

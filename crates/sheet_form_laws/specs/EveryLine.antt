@@ -31,7 +31,7 @@ fitted i l m =
     let r = row {d = λ k. true} i in
     let law = r .law (subst Ordinary (sym (r .is)) l) in
     subst (λ (j : Instruction). Fitting entries (kind.Instruction ∷ []) j m []) (r .is)
-    (variant-fitting (record { form = entries; kind = kind.Instruction; suits = λ v h. h; names = λ n. (λ h. h, λ k top. refl); top = 98; bare = λ x. x })
+    (variant-fitting (record { form = entries; kind = kind.Instruction; suits = λ v h. h; names = λ n. (λ h. h, λ k top. refl); top = 98; untargeted = λ x. x })
     (placeOf (r .con (r .z))) (λ h. ap (λ t. t .0) (law (r .z))) (r .sort) (r .con) (λ w. ap (λ t. (t .1, t .2)) (law w)) (r .z) m [])
 
 names-some : (vs : List Token) → namesAll (λ k. some 0) vs ≡ true
@@ -45,10 +45,10 @@ unfolding formOf numbersOf
 every-line m i l h =
     let f = fitted i l m in
     let n = append-nil (numeric.payloadOf i) in
-    let e : entries (f .bare) ≡ unaimed m (kind.Instruction ∷ []) (entries i) = sym (append-nil (entries (f .bare))) ∙ sym (rw n at (f .leaves [])) in
+    let e : entries (f .untargeted) ≡ unaimed m (kind.Instruction ∷ []) (entries i) = sym (append-nil (entries (f .untargeted))) ∙ sym (rw n at (f .leaves [])) in
     let b = fields-numbers m (kind.Instruction ∷ []) (entries i) h in
     let g : SuitAll (kind.Instruction ∷ []) (saying m (kind.Instruction ∷ []) (entries i)) = (rw n at (f .fits [])) h (λ i. tt) in
-    record { bare = f .bare; form = e; line = record { grammar = g; labels = names-some (saying m (kind.Instruction ∷ []) (entries i)); numbers = b .0 ∙ ap (map entryNumber) (sym e); inside = subst Inside (sym e) (b .1) } }
+    record { untargeted = f .untargeted; form = e; line = record { grammar = g; labels = names-some (saying m (kind.Instruction ∷ []) (entries i)); numbers = b .0 ∙ ap (map entryNumber) (sym e); inside = subst Inside (sym e) (b .1) } }
 
 -- IllegalWord and SIMHALT have none
 line-named : (f : ℕ → Option ℕ) (vs : List Token) (i : Instruction) → Line f vs i → 0 < length (getD (map bytes (namesOf kind.Instruction)) (placeOf i) [])

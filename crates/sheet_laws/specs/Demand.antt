@@ -16,7 +16,7 @@ use Rattle.m68k_encode.specs.Laws.{accepted-fine, accepted-words}
 use Rattle.numeric_spec.specs.Form.{formOf}
 use Rattle.sheet_spec.specs.Made.{made, ofLines}
 use Rattle.sheet_spec.specs.Sheet.{Sheet, lineCount, lineAt, countAt, addressAt, resolved, encodedWords}
-use Rattle.sheet_spec.specs.Follow.{Next, on, to, either, stop, nextOf, target, lineNext, nextWith, named}
+use Rattle.sheet_spec.specs.Follow.{Next, on, to, either, stop, nextOf, target, lineNext, nextWith, targetLine}
 use Rattle.sheet_spec.specs.Promises.{CountedSheet, InGrammar, AcceptedSheet}
 use Rattle.sheet_size_facts.specs.Says.{line-makes}
 use Rattle.sheet_size_facts.specs.Lawful.{quiet, Goes, quietly, aimed}
@@ -58,21 +58,21 @@ module _ (s : Sheet) (tie : CountedSheet s) (grammar : (n : ℕ) → InGrammar (
     next-is : nextWith (resolved s) s n ≡ nextOf j
     next-is = ap lineNext (makes-it s tie grammar room ok n h g) ∙ at-line s tie grammar room ok n h g .follows .plain (addressAt s)
 
-    named-is : named s n ≡ target (nextOf (at-line s tie grammar room ok n h g .instruction (λ k. k)))
-    named-is =
+    target-line-is : targetLine s n ≡ target (nextOf (at-line s tie grammar room ok n h g .instruction (λ k. k)))
+    target-line-is =
         let l = at-line s tie grammar room ok n h g in
         let f = ofLines (lineCount s) (λ k. k) in
         ap (λ x. target (lineNext x)) (ap (made f) (l .parsed) ∙ line-makes f (l .tokens) (l .instruction (λ k. k)) (l .line (λ k. k) (names-bounded s tie grammar (ok .measured))))
         ∙ ap target (l .follows .plain (λ k. k))
 
-    lands : Goes (upTo (lineCount s)) (at-line s tie grammar room ok n h g .instruction) → Lands (nextOf j) (addressAt s (named s n)) (named s n) (lineCount s)
-    lands (quietly q) = quiet-lands (nextOf j) (q (addressAt s)) (addressAt s (named s n)) (named s n) (lineCount s)
+    lands : Goes (upTo (lineCount s)) (at-line s tie grammar room ok n h g .instruction) → Lands (nextOf j) (addressAt s (targetLine s n)) (targetLine s n) (lineCount s)
+    lands (quietly q) = quiet-lands (nextOf j) (q (addressAt s)) (addressAt s (targetLine s n)) (targetLine s n) (lineCount s)
     lands (aimed (m, p, e)) =
         let u = up-to (lineCount s) m p in
-        subst (λ (k : ℕ). Lands (nextOf j) (addressAt s k) k (lineCount s)) (sym (named-is ∙ e (λ k. k)))
+        subst (λ (k : ℕ). Lands (nextOf j) (addressAt s k) k (lineCount s)) (sym (target-line-is ∙ e (λ k. k)))
         (aimed-lands (nextOf j) (addressAt s m) m (lineCount s) (e (addressAt s)) (address-even m (u .0) (u .1)) (u .0) (u .1))
 
-    landing : Lands (nextOf j) (addressAt s (named s n)) (named s n) (lineCount s)
+    landing : Lands (nextOf j) (addressAt s (targetLine s n)) (targetLine s n) (lineCount s)
     landing = lands (at-line s tie grammar room ok n h g .follows .goes)
 
     line-accepted : reads.Accepted a j
@@ -100,6 +100,6 @@ module _ (s : Sheet) (tie : CountedSheet s) (grammar : (n : ℕ) → InGrammar (
           line = line s tie grammar room ok n h g;
           entry = entry-is s tie grammar room ok n h g;
           reads-back = λ rest. ap (λ (ws : List ℕ). readOf (ws ++ rest) a) words-are ∙ complete a j rest line-accepted ∙ ap (λ (k : ℕ). Read (plain j) (2 * k)) counts-are;
-          aims = subst (λ (x : Next). Aims x (addressAt s (named s n))) (sym next-is) (landing .0);
-          within = subst (λ (x : Next). Within x (lineCount s) (named s n)) (sym next-is) (landing .1);
+          aims = subst (λ (x : Next). Aims x (addressAt s (targetLine s n))) (sym next-is) (landing .0);
+          within = subst (λ (x : Next). Within x (lineCount s) (targetLine s n)) (sym next-is) (landing .1);
         }

@@ -18,7 +18,7 @@ use Rattle.read_spec.specs.Read.{readOf}
 use Rattle.sheet_spec.specs.Line.{Token, says}
 use Rattle.sheet_spec.specs.Made.{Line, made}
 use Rattle.sheet_spec.specs.Sheet.{Sheet, lineCount, total, endOf, lineAt, countAt, addressAt, resolved, encoded, encodedWords, image}
-use Rattle.sheet_spec.specs.Follow.{Next, on, to, either, stop, nextOf, Place, follow, goes, target, lineNext, nextWith, named, comeLine, stepLine, byLines, begins, readingAt, comeWord, stepWord, byWords, Reads, Together, both-ended, both-at}
+use Rattle.sheet_spec.specs.Follow.{Next, on, to, either, stop, nextOf, Place, follow, goes, target, lineNext, nextWith, targetLine, comeLine, stepLine, byLines, begins, readingAt, comeWord, stepWord, byWords, Reads, Together, both-ended, both-at}
 use Rattle.sheet_spec.specs.Promises.{CountedSheet}
 use Rattle.sheet_size_facts.specs.Says.{line-makes}
 use Rattle.sheet_size_facts.specs.Image.{total-suc, total-part, noWords, Counts, words-length, drop-before}
@@ -48,8 +48,8 @@ pub record LineStands (s : Sheet) (n : ℕ) : Type 0 where
   pub line : Line (resolved s) tokens instruction
   pub entry : getD (encoded s) (pred n) noWords ≡ encodeOf instruction (addressAt s n)
   pub reads-back : (rest : List ℕ) → readOf (encodedWords (encodeOf instruction (addressAt s n)) ++ rest) (addressAt s n) ≡ Read (plain instruction) (2 * countAt s n)
-  pub aims : Aims (nextWith (resolved s) s n) (addressAt s (named s n))
-  pub within : Within (nextWith (resolved s) s n) (lineCount s) (named s n)
+  pub aims : Aims (nextWith (resolved s) s n) (addressAt s (targetLine s n))
+  pub within : Within (nextWith (resolved s) s n) (lineCount s) (targetLine s n)
 
 -- ---- the followers of a sheet
 module _ (s : Sheet) (tie : CountedSheet s) (counts : Counts (s .counts) (encoded s)) (stands : (n : ℕ) → 1 ≤ n → n ≤ lineCount s → LineStands s n) where
@@ -116,11 +116,11 @@ module _ (s : Sheet) (tie : CountedSheet s) (counts : Counts (s .counts) (encode
   aside : (n t : ℕ) → t ≡ addressAt s n → 1 ≤ n → n ≤ lineCount s → Together s (image s) (comeLine s n) (comeWord (s .start) (image s) t)
   aside n t e h g = subst (λ (k : ℕ). Together s (image s) (comeLine s n) (comeWord (s .start) (image s) k)) (sym (e ∙ address-is s tie n h g)) (comes n h (omega arith))
 
-  goes-on : (x : Next) (n : ℕ) → 1 ≤ n → n ≤ lineCount s → Aims x (addressAt s (named s n)) → Within x (lineCount s) (named s n) → (c : Bool)
-      → Together s (image s) (goes (comeLine s) x (n + 1) (named s n) c) (goes (comeWord (s .start) (image s)) x (addressAt s n + 2 * countAt s n) (target x) c)
+  goes-on : (x : Next) (n : ℕ) → 1 ≤ n → n ≤ lineCount s → Aims x (addressAt s (targetLine s n)) → Within x (lineCount s) (targetLine s n) → (c : Bool)
+      → Together s (image s) (goes (comeLine s) x (n + 1) (targetLine s n) c) (goes (comeWord (s .start) (image s)) x (addressAt s n + 2 * countAt s n) (target x) c)
   goes-on on n h g a w c = onward n h g
-  goes-on (to t) n h g a w c = aside (named s n) t a (w .0) (w .1)
-  goes-on (either t) n h g a w true = aside (named s n) t a (w .0) (w .1)
+  goes-on (to t) n h g a w c = aside (targetLine s n) t a (w .0) (w .1)
+  goes-on (either t) n h g a w true = aside (targetLine s n) t a (w .0) (w .1)
   goes-on (either t) n h g a w false = onward n h g
   goes-on stop n h g a w c = both-ended
 

@@ -1,16 +1,14 @@
 -- Laws of the passes: how many words a line counts, and when the scratch holds the addresses of the lines.
 use Prim.Native.Nat.{ℕ, suc, _+_, _*_, _%_, _^_, _≤_}
-use mathlib.Core.Path.{_≡_, refl, ap}
-use mathlib.Core.Bool.{Bool, true}
+use mathlib.Core.Path.{_≡_, refl}
+use mathlib.Core.Bool.{true}
 use mathlib.Core.List.{List, [], _∷_, map}
 use native.Mathlib.Omega.{arith}
 use lib.ListN.{length, length-take}
 use borrow.Author.Tests.{eq-eqb}
-use Rattle.isa.specs.declared.Measured.{Measured}
-use Rattle.isa.specs.declared.Encoded.{Encoded}
 use Rattle.sheet_spec.specs.Line.{Parsed}
-use Rattle.sheet_spec.specs.Made.{Made, makes, turnedBack, judged, made, builtAs, namesIn, ofLines}
-use Rattle.sheet_spec.specs.Sheet.{sizedAs, sizedOf, sizesOf, halfOf, total, addressesFrom, encodedLine, encodedWords}
+use Rattle.sheet_spec.specs.Made.{Made, makes, turnedBack, made, namesIn, ofLines}
+use Rattle.sheet_spec.specs.Sheet.{sizedAs, sizedOf, halfOf, total, addressesFrom, encodedLine, encodedWords}
 use Rattle.sheet_spec.specs.Translate.{inOrder, inTurn, sizeOutcome}
 use Rattle.sheet_facts.specs.Listing.{both-in-order, in-order-zero}
 use Rattle.sheet_facts.specs.Made.{made-back}

@@ -1,5 +1,5 @@
 -- Each line of an accepted sheet lays down as many words as it counts, so the image has the words of all lines.
-use Prim.Native.Nat.{ℕ, suc, pred, _*_, _≤_, _<_}
+use Prim.Native.Nat.{ℕ, suc, pred, _≤_}
 use mathlib.Core.Path.{_≡_, sym, ap, _∙_}
 use mathlib.Core.List.{List}
 use native.Mathlib.Omega.{arith}

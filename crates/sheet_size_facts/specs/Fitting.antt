@@ -11,7 +11,7 @@ use Rattle.sheet_spec.specs.declared.Kind.the-variants as kind
 use Rattle.sheet_spec.specs.Line.{Token}
 use Rattle.sheet_spec.specs.Spell.{SuitAll, nextKinds}
 use Rattle.sheet_spec.specs.Made.{numberAs}
-use Rattle.sheet_spec.specs.Told.{Mark, named, numbered, unmarked, field, saying, unaimed}
+use Rattle.sheet_spec.specs.Told.{Mark, labelled, numbered, unmarked, field, saying, unaimed}
 
 -- ---- numbers and types, whatever the kinds
 abbrev Numbered : Entry → Token × Entry → Type 0
@@ -25,7 +25,7 @@ plain-number (signed (negsuc n)) = (refl, λ h. h)
 field-number : (k : Kind) (m : Mark) (e : Entry) → Numbered e (field k m e)
 field-number k m e =
     let p = plain-number e in
-    elim k [ kind.Number ↦ p | kind.Target ↦ elim m [ numbered n ↦ (refl, λ h. refl) | named n ↦ (refl, λ h. refl) ] | kind.Place ↦ elim m [ numbered n ↦ p | named n ↦ (refl, λ h. refl) ] | kind.Size ↦ p | kind.TargetDirection ↦ p | kind.RegisterOperand ↦ p | kind.AddressWidth ↦ p | kind.Condition ↦ p | kind.BranchSize ↦ p | kind.ShiftDirection ↦ p | kind.Sign ↦ p | kind.BitFieldOperation ↦ p | kind.FieldValue ↦ p | kind.TrapOperand ↦ p | kind.RegisterChoice ↦ p | kind.Operand ↦ p | kind.Instruction ↦ p ]
+    elim k [ kind.Number ↦ p | kind.Target ↦ elim m [ numbered n ↦ (refl, λ h. refl) | labelled n ↦ (refl, λ h. refl) ] | kind.Place ↦ elim m [ numbered n ↦ p | labelled n ↦ (refl, λ h. refl) ] | kind.Size ↦ p | kind.TargetDirection ↦ p | kind.RegisterOperand ↦ p | kind.AddressWidth ↦ p | kind.Condition ↦ p | kind.BranchSize ↦ p | kind.ShiftDirection ↦ p | kind.Sign ↦ p | kind.BitFieldOperation ↦ p | kind.FieldValue ↦ p | kind.TrapOperand ↦ p | kind.RegisterChoice ↦ p | kind.Operand ↦ p | kind.Instruction ↦ p ]
 
 pub fields-numbers : (m : ℕ → Mark) (ks : List Kind) (es : List Entry) → Inside es → (map (numberAs (λ n. some 0)) (saying m ks es) ≡ map entryNumber (unaimed m ks es)) × Inside (unaimed m ks es)
 fields-numbers m ks [] h = (refl, tt)
@@ -37,7 +37,7 @@ fields-numbers m (k ∷ ks) (e ∷ es) h =
 
 -- ---- the entries of a value fit their kinds, and are those of a value when they are unaimed
 pub record Fitting {X : Type 0} (form : X → List Entry) (kinds : List Kind) (x : X) (m : ℕ → Mark) (ks : List Kind) : Type 0 where
-  pub bare : X
+  pub untargeted : X
   pub next : ℕ → Mark
-  pub leaves : (es : List Entry) → unaimed m (kinds ++ ks) (form x ++ es) ≡ form bare ++ unaimed next ks es
+  pub leaves : (es : List Entry) → unaimed m (kinds ++ ks) (form x ++ es) ≡ form untargeted ++ unaimed next ks es
   pub fits : (es : List Entry) → Inside (form x ++ es) → (Inside es → SuitAll ks (saying next ks es)) → SuitAll (kinds ++ ks) (saying m (kinds ++ ks) (form x ++ es))

@@ -94,7 +94,7 @@ module _ (d : ℕ → Bool) (i : Instruction) (vs : List Token) (l : Line (given
 
   line-turned : Turn
   unfolding formOf
-  line-turned = instruction-turned i vs (record { fits = l .grammar; named = l .labels; zeros = subst (Spelt (λ k. 0) vs) (sym (append-nil (entries i))) zeros }) (l .inside)
+  line-turned = instruction-turned i vs (record { fits = l .grammar; labels = l .labels; zeros = subst (Spelt (λ k. 0) vs) (sym (append-nil (entries i))) zeros }) (l .inside)
 
   line-again : (g : ℕ → ℕ) → Bounded d g → Line (given d g) vs (line-turned .made (zeroed d g))
   unfolding numbersOf formOf

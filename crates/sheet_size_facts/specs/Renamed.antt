@@ -44,7 +44,7 @@ use Rattle.sheet_size_facts.specs.Sorts.{chosen}
 use Rattle.sheet_size_facts.specs.Rows.{Row, row}
 use Rattle.read_spec.specs.LeftOut.{Ordinary}
 use Rattle.m68k_encode.specs.Sizes as sizes
-use Rattle.m68k_encode.specs.Sizes.{bare-size, aim-size}
+use Rattle.m68k_encode.specs.Sizes.{untargeted-size, aim-size}
 use Rattle.sheet_size_facts.specs.Lawful.{branch-stays, quiet, Goes, quietly, aimed, Follows}
 
 -- what a line's first field says is an instruction's name
@@ -65,7 +65,7 @@ module _ {d : ℕ → Bool} {i : Instruction} (r : Row d i) where
 
   -- their size without targets
   abbrev Kept : Type 0
-  Kept = (w : r .Z) → sizeOf (r .con (r .sort .bare w)) ≡ sizeOf (r .con w)
+  Kept = (w : r .Z) → sizeOf (r .con (r .sort .untargeted w)) ≡ sizeOf (r .con w)
 
   -- where their plain forms go, and that they are read
   abbrev Read : Type 0
@@ -101,38 +101,38 @@ module _ {d : ℕ → Bool} {i : Instruction} (r : Row d i) where
 pub instruction-turned : {d : ℕ → Bool} (i : Instruction) (vs : List Token) → Input d (kind.Instruction ∷ []) vs (entries i ++ []) → Inside (entries i) → Turned d Instruction entries (Follows d i) [] vs []
 instruction-turned (IntoRegister op o r s) =
     still (row (IntoRegister op o r s))
-    (λ l w. elim op [ ADDA ↦ refl | SUBA ↦ refl | CMPA ↦ refl | MOVEA ↦ refl | CMP ↦ refl | CHK2 ↦ refl | CMP2 ↦ refl ]) (λ w. bare-size sizes.into-register _)
-instruction-turned (MOVEM d s v o) = still (row (MOVEM d s v o)) (λ l w. refl) (λ w. bare-size sizes.movem _)
-instruction-turned (Transfer op d s r o) = still (row (Transfer op d s r o)) (λ l w. elim op [ MOVEP ↦ refl | MOVES ↦ refl ]) (λ w. bare-size sizes.transfer _)
+    (λ l w. elim op [ ADDA ↦ refl | SUBA ↦ refl | CMPA ↦ refl | MOVEA ↦ refl | CMP ↦ refl | CHK2 ↦ refl | CMP2 ↦ refl ]) (λ w. untargeted-size sizes.into-register _)
+instruction-turned (MOVEM d s v o) = still (row (MOVEM d s v o)) (λ l w. refl) (λ w. untargeted-size sizes.movem _)
+instruction-turned (Transfer op d s r o) = still (row (Transfer op d s r o)) (λ l w. elim op [ MOVEP ↦ refl | MOVES ↦ refl ]) (λ w. untargeted-size sizes.transfer _)
 instruction-turned (Pair op o d s) =
     still (row (Pair op o d s))
-    (λ l w. elim op [ MOVE ↦ refl | ADD ↦ refl | SUB ↦ refl | ADDX ↦ refl | SUBX ↦ refl | CMPM ↦ refl | OR ↦ refl | AND ↦ refl | EOR ↦ refl ]) (λ w. bare-size sizes.source _ ∙ bare-size sizes.destination _)
-instruction-turned (Quick op v o s) = still (row (Quick op v o s)) (λ l w. elim op [ ADDQ ↦ refl | SUBQ ↦ refl ]) (λ w. bare-size sizes.quick _)
+    (λ l w. elim op [ MOVE ↦ refl | ADD ↦ refl | SUB ↦ refl | ADDX ↦ refl | SUBX ↦ refl | CMPM ↦ refl | OR ↦ refl | AND ↦ refl | EOR ↦ refl ]) (λ w. untargeted-size sizes.source _ ∙ untargeted-size sizes.destination _)
+instruction-turned (Quick op v o s) = still (row (Quick op v o s)) (λ l w. elim op [ ADDQ ↦ refl | SUBQ ↦ refl ]) (λ w. untargeted-size sizes.quick _)
 instruction-turned (MOVEQ v r) = still (row (MOVEQ v r)) (λ l w. refl) (λ w. refl)
 instruction-turned (ImmediateInto op v o s) =
     still (row (ImmediateInto op v o s))
-    (λ l w. elim op [ ADDI ↦ refl | SUBI ↦ refl | ANDI ↦ refl | ORI ↦ refl | EORI ↦ refl | CMPI ↦ refl ]) (λ w. bare-size sizes.immediate-into _)
-instruction-turned (WordIntoData op o r g) = still (row (WordIntoData op o r g)) (λ l w. elim op [ DIVx ↦ refl | MULx ↦ refl ]) (λ w. bare-size sizes.word-into-data _)
+    (λ l w. elim op [ ADDI ↦ refl | SUBI ↦ refl | ANDI ↦ refl | ORI ↦ refl | EORI ↦ refl | CMPI ↦ refl ]) (λ w. untargeted-size sizes.immediate-into _)
+instruction-turned (WordIntoData op o r g) = still (row (WordIntoData op o r g)) (λ l w. elim op [ DIVx ↦ refl | MULx ↦ refl ]) (λ w. untargeted-size sizes.word-into-data _)
 instruction-turned (SWAP r) = still (row (SWAP r)) (λ l w. refl) (λ w. refl)
 instruction-turned (EXG x y) = still (row (EXG x y)) (λ l w. refl) (λ w. refl)
-instruction-turned (UnsizedIntoRegister op o r) = still (row (UnsizedIntoRegister op o r)) (λ l w. elim op [ LEA ↦ refl | CHK ↦ refl | CHKL ↦ refl ]) (λ w. bare-size sizes.unsized-into-register _)
+instruction-turned (UnsizedIntoRegister op o r) = still (row (UnsizedIntoRegister op o r)) (λ l w. elim op [ LEA ↦ refl | CHK ↦ refl | CHKL ↦ refl ]) (λ w. untargeted-size sizes.unsized-into-register _)
 instruction-turned (UnsizedOne op o) =
     still (row (UnsizedOne op o))
-    (λ l w. elim op [ PEA ↦ refl | NBCD ↦ refl | JSR ↦ refl | JMP ↦ refl | TAS ↦ refl | MOVEtoCCR ↦ refl | MOVEfromCCR ↦ refl | MOVEtoSR ↦ refl | MOVEfromSR ↦ refl ]) (λ w. bare-size sizes.unsized-one _)
+    (λ l w. elim op [ PEA ↦ refl | NBCD ↦ refl | JSR ↦ refl | JMP ↦ refl | TAS ↦ refl | MOVEtoCCR ↦ refl | MOVEfromCCR ↦ refl | MOVEtoSR ↦ refl | MOVEfromSR ↦ refl ]) (λ w. untargeted-size sizes.unsized-one _)
 instruction-turned (UnsizedPair op o d) =
     still (row (UnsizedPair op o d))
-    (λ l w. elim op [ ABCD ↦ refl | SBCD ↦ refl | BTST ↦ refl | BCLR ↦ refl | BSET ↦ refl | BCHG ↦ refl ]) (λ w. bare-size sizes.unsized-source _ ∙ bare-size sizes.unsized-destination _)
+    (λ l w. elim op [ ABCD ↦ refl | SBCD ↦ refl | BTST ↦ refl | BCLR ↦ refl | BSET ↦ refl | BCHG ↦ refl ]) (λ w. untargeted-size sizes.unsized-source _ ∙ untargeted-size sizes.unsized-destination _)
 instruction-turned (EXT r s v) = still (row (EXT r s v)) (λ l w. refl) (λ w. refl)
-instruction-turned (OneOperand op o s) = still (row (OneOperand op o s)) (λ l w. elim op [ CLR ↦ refl | NEG ↦ refl | NEGX ↦ refl | NOT ↦ refl | TST ↦ refl ]) (λ w. bare-size sizes.one-operand _)
+instruction-turned (OneOperand op o s) = still (row (OneOperand op o s)) (λ l w. elim op [ CLR ↦ refl | NEG ↦ refl | NEGX ↦ refl | NOT ↦ refl | TST ↦ refl ]) (λ w. untargeted-size sizes.one-operand _)
 instruction-turned (Bcc t c s) = made-row (row (Bcc t c s)) (λ l w. (refl, branch-stays (w .0 .0) (w .1))) (λ l y a. aimed (a .0 .0)) (λ w. aim-size sizes.bcc _)
-instruction-turned (Scc o c) = still (row (Scc o c)) (λ l w. refl) (λ w. bare-size sizes.scc _)
+instruction-turned (Scc o c) = still (row (Scc o c)) (λ l w. refl) (λ w. untargeted-size sizes.scc _)
 instruction-turned (DBcc r t c) = made-row (row (DBcc r t c)) (λ l w. (refl, λ a e t. refl)) (λ l y a. aimed (a .0 .1)) (λ w. aim-size sizes.dbcc _)
 instruction-turned (Branch op t s) = made-row (row (Branch op t s)) (λ l w. (elim op [ BRA ↦ refl | BSR ↦ refl ], branch-stays (w .0) (w .1))) (λ l y a. aimed (a .0)) (λ w. aim-size sizes.branch _)
 instruction-turned (Link op r v) = still (row (Link op r v)) (λ l w. elim op [ LINK ↦ refl | LINKL ↦ refl ]) (λ w. refl)
 instruction-turned (UNLK r) = still (row (UNLK r)) (λ l w. refl) (λ w. refl)
 instruction-turned (Shift op o d g s) =
     still (row (Shift op o d g s))
-    (λ l w. elim op [ ASd ↦ refl | ROd ↦ refl | LSd ↦ refl | ROXd ↦ refl ]) (λ w. bare-size sizes.count _ ∙ bare-size sizes.shifted _)
+    (λ l w. elim op [ ASd ↦ refl | ROd ↦ refl | LSd ↦ refl | ROXd ↦ refl ]) (λ w. untargeted-size sizes.count _ ∙ untargeted-size sizes.shifted _)
 instruction-turned (Vector op v) = still (row (Vector op v)) (λ l w. elim op [ TRAP ↦ refl | BKPT ↦ refl ]) (λ w. refl)
 instruction-turned (Status op v) = still (row (Status op v)) (λ l w. elim op [ ANDItoSR ↦ refl | ORItoSR ↦ refl | EORItoSR ↦ refl | STOP ↦ refl ]) (λ w. refl)
 instruction-turned (ConditionCode op v) = still (row (ConditionCode op v)) (λ l w. elim op [ ANDItoCCR ↦ refl | ORItoCCR ↦ refl | EORItoCCR ↦ refl ]) (λ w. refl)
@@ -144,9 +144,9 @@ instruction-turned (NoOperand op) =
 instruction-turned (RTD v) = still (row (RTD v)) (λ l w. refl) (λ w. refl)
 instruction-turned (MOVEC b v r) = still (row (MOVEC b v r)) (λ l w. refl) (λ w. refl)
 instruction-turned (TRAPcc c x) = still (row (TRAPcc c x)) (λ l w. refl) (λ w. refl)
-instruction-turned (MULL o v c g) = still (row (MULL o v c g)) (λ l w. refl) (λ w. bare-size sizes.mull _)
-instruction-turned (Pack op o d v) = still (row (Pack op o d v)) (λ l w. elim op [ PACK ↦ refl | UNPK ↦ refl ]) (λ w. bare-size sizes.packed _ ∙ bare-size sizes.unpacked _)
-instruction-turned (CAS c v o s) = still (row (CAS c v o s)) (λ l w. refl) (λ w. bare-size sizes.cas _)
+instruction-turned (MULL o v c g) = still (row (MULL o v c g)) (λ l w. refl) (λ w. untargeted-size sizes.mull _)
+instruction-turned (Pack op o d v) = still (row (Pack op o d v)) (λ l w. elim op [ PACK ↦ refl | UNPK ↦ refl ]) (λ w. untargeted-size sizes.packed _ ∙ untargeted-size sizes.unpacked _)
+instruction-turned (CAS c v o s) = still (row (CAS c v o s)) (λ l w. refl) (λ w. untargeted-size sizes.cas _)
 instruction-turned (CAS2 c d u v p q s) = still (row (CAS2 c d u v p q s)) (λ l w. refl) (λ w. refl)
-instruction-turned (BF op o b r) = still (row (BF op o b r)) (λ l w. refl) (λ w. bare-size sizes.bf _)
-instruction-turned (DIVL o q r b g) = still (row (DIVL o q r b g)) (λ l w. refl) (λ w. bare-size sizes.divl _)
+instruction-turned (BF op o b r) = still (row (BF op o b r)) (λ l w. refl) (λ w. untargeted-size sizes.bf _)
+instruction-turned (DIVL o q r b g) = still (row (DIVL o q r b g)) (λ l w. refl) (λ w. untargeted-size sizes.divl _)

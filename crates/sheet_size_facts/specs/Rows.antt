@@ -50,7 +50,7 @@ use Rattle.sheet_spec.specs.declared.Kind.{Kind}
 use Rattle.sheet_spec.specs.declared.Kind.the-variants as kind
 use Rattle.sheet_spec.specs.Grammar.{kindsOf}
 use Rattle.read_spec.specs.LeftOut.{Ordinary}
-use Rattle.m68k_encode.specs.Sizes.{bare}
+use Rattle.m68k_encode.specs.Sizes.{untargeted}
 use Rattle.sheet_size_facts.specs.Says.{entries}
 use Rattle.sheet_size_facts.specs.Sorts.{Sort, none, _⊗_, number, integer, target, place, isNamed, Enum, variant, enum, choice}
 
@@ -92,22 +92,22 @@ action = choice kind.BitFieldOperation (λ m. refl) (λ v q. q) 7 bitFieldOperat
 
 abbrev register : {d : ℕ → Bool} → Sort d RegisterOperand
 register =
-    let e : Enum RegisterOperand = record { form = registerForm; kind = kind.RegisterOperand; suits = λ v q. q; names = λ m. (λ h. h, λ k top. refl); top = 1; bare = λ x. x } in
+    let e : Enum RegisterOperand = record { form = registerForm; kind = kind.RegisterOperand; suits = λ v q. q; names = λ m. (λ h. h, λ k top. refl); top = 1; untargeted = λ x. x } in
     enum e (λ x. elim x [ Address m ↦ variant e 0 (λ h. refl) byte Address m (λ w. refl) | Data m ↦ variant e 1 (λ h. refl) byte Data m (λ w. refl) ])
 
 abbrev extent : {d : ℕ → Bool} → Sort d FieldValue
 extent =
-    let e : Enum FieldValue = record { form = fieldValueForm; kind = kind.FieldValue; suits = λ v q. q; names = λ m. (λ h. h, λ k top. refl); top = 1; bare = λ x. x } in
+    let e : Enum FieldValue = record { form = fieldValueForm; kind = kind.FieldValue; suits = λ v q. q; names = λ m. (λ h. h, λ k top. refl); top = 1; untargeted = λ x. x } in
     enum e (λ x. elim x [ value.Immediate m ↦ variant e 0 (λ h. refl) byte value.Immediate m (λ w. refl) | value.Register m ↦ variant e 1 (λ h. refl) byte value.Register m (λ w. refl) ])
 
 abbrev high : {d : ℕ → Bool} → Sort d RegisterChoice
 high =
-    let e : Enum RegisterChoice = record { form = registerChoiceForm; kind = kind.RegisterChoice; suits = λ v q. q; names = λ m. (λ h. h, λ k top. refl); top = 1; bare = λ x. x } in
+    let e : Enum RegisterChoice = record { form = registerChoiceForm; kind = kind.RegisterChoice; suits = λ v q. q; names = λ m. (λ h. h, λ k top. refl); top = 1; untargeted = λ x. x } in
     enum e (λ x. elim x [ choices.None ↦ variant e 0 (λ h. refl) none (λ w. choices.None) tt (λ w. refl) | choices.Some m ↦ variant e 1 (λ h. refl) byte choices.Some m (λ w. refl) ])
 
 abbrev trapped : {d : ℕ → Bool} → Sort d TrapOperand
 trapped =
-    let e : Enum TrapOperand = record { form = trapOperandForm; kind = kind.TrapOperand; suits = λ v q. q; names = λ m. (λ h. h, λ k top. refl); top = 2; bare = λ x. x } in
+    let e : Enum TrapOperand = record { form = trapOperandForm; kind = kind.TrapOperand; suits = λ v q. q; names = λ m. (λ h. h, λ k top. refl); top = 2; untargeted = λ x. x } in
     enum e (λ x. elim x [ trap.None ↦ variant e 0 (λ h. refl) none (λ w. trap.None) tt (λ w. refl) | trap.Word m ↦ variant e 1 (λ h. refl) word trap.Word m (λ w. refl) | trap.Long m ↦ variant e 2 (λ h. refl) long trap.Long m (λ w. refl) ])
 
 abbrev indexed : RegisterOperand × Size → IndexRegister
@@ -115,7 +115,7 @@ indexed w = record { register = w .0; size = w .1 }
 
 abbrev operand : {d : ℕ → Bool} → Sort d Operand
 operand =
-    let e : Enum Operand = record { form = operandForm; kind = kind.Operand; suits = λ v q. q; names = λ m. (λ h. h, λ k top. refl); top = 10; bare = bare } in
+    let e : Enum Operand = record { form = operandForm; kind = kind.Operand; suits = λ v q. q; names = λ m. (λ h. h, λ k top. refl); top = 10; untargeted = untargeted } in
     enum e (λ x. elim x [
       | Immediate v ↦ variant e 0 (λ h. refl) long Immediate v (λ w. refl)
       | Register r ↦ variant e 1 (λ h. refl) register Register r (λ w. refl)

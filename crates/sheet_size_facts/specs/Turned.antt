@@ -35,7 +35,7 @@ Bounded d f = (k : ℕ) → d k ≡ true → f k < 2 ^ 32
 -- fields in the grammar that name lines, and the entries that they spell where names are 0
 pub record Input (d : ℕ → Bool) (ks : List Kind) (vs : List Token) (es : List Entry) : Type 0 where
   pub fits : SuitAll ks vs
-  pub named : namesAll (given d (λ k. 0)) vs ≡ true
+  pub labels : namesAll (given d (λ k. 0)) vs ≡ true
   pub zeros : Spelt (λ k. 0) vs es
 
 -- a value in front, whatever names are made, and what is left of the fields
@@ -49,6 +49,6 @@ pub record Turned (d : ℕ → Bool) (X : Type 0) (form : X → List Entry) (P :
 
 -- fields of these kinds that spell x make values that are x but for the targets, of which something is known
 abbrev pub Turn : (d : ℕ → Bool) {X : Type 0} → (X → List Entry) → List Kind → (X → X) → (((ℕ → ℕ) → X) → Type 0) → X → Type 0
-Turn d {X} form kinds bare Aims x =
+Turn d {X} form kinds untargeted Aims x =
     (ks : List Kind) (vs : List Token) (es : List Entry) → Input d (kinds ++ ks) vs (form x ++ es) → Inside (form x)
-    → Turned d X form (λ y. ((f : ℕ → ℕ) → bare (y f) ≡ bare x) × Aims y) ks vs es
+    → Turned d X form (λ y. ((f : ℕ → ℕ) → untargeted (y f) ≡ untargeted x) × Aims y) ks vs es

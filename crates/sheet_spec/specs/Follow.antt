@@ -138,15 +138,15 @@ abbrev pub nextWith : (ℕ → Option ℕ) → Sheet → ℕ → Next
 nextWith f s n = lineNext (made f (lineAt s n))
 
 -- the line that its target names
-abbrev pub named : Sheet → ℕ → ℕ
-named s n = target (nextWith (ofLines (lineCount s) (λ k. k)) s n)
+abbrev pub targetLine : Sheet → ℕ → ℕ
+targetLine s n = target (nextWith (ofLines (lineCount s) (λ k. k)) s n)
 
 -- the first follower; passing the last line ends
 abbrev pub comeLine : Sheet → ℕ → Place
 comeLine s n = cond (leb n (lineCount s)) (at n) ended
 
 abbrev pub stepLine : Sheet → Place → Bool → Place
-stepLine s (at n) c = goes (comeLine s) (nextWith (resolved s) s n) (n + 1) (named s n) c
+stepLine s (at n) c = goes (comeLine s) (nextWith (resolved s) s n) (n + 1) (targetLine s n) c
 stepLine s ended c = ended
 stepLine s lost c = lost
 

@@ -17,7 +17,7 @@ use Rattle.isa.specs.declared.Instruction.{Instruction}
 -- the line that a target names; an operand's target may be its number instead
 pub data Mark : Type 0 where
   numbered : ℕ → Mark
-  named : ℕ → Mark
+  labelled : ℕ → Mark
 
 -- what stands for an entry in a field of a kind, and the entry, with 0 for a target that a line's name stands for
 abbrev pub unmarked : Entry → Token × Entry
@@ -30,7 +30,7 @@ aimed n = (label n, unsigned (2 ^ 32 - 1) 0)
 
 abbrev pub field : Kind → Mark → Entry → Token × Entry
 field k m e =
-    byKind k (unmarked e) (elim m [ numbered n ↦ aimed n | named n ↦ aimed n ]) (elim m [ numbered n ↦ unmarked e | named n ↦ aimed n ]) (unmarked e)
+    byKind k (unmarked e) (elim m [ numbered n ↦ aimed n | labelled n ↦ aimed n ]) (elim m [ numbered n ↦ unmarked e | labelled n ↦ aimed n ]) (unmarked e)
 
 -- the fields of entries, by the grammar, with a mark for each
 abbrev pub fieldsBy : (ℕ → Mark) → List Kind → List Entry → List (Token × Entry)
@@ -46,6 +46,6 @@ unaimed m ks es = map (λ w. w .1) (fieldsBy m ks es)
 
 -- a line for an instruction: its entries, with 0 for each target that a line's name stands for
 pub record Told (m : ℕ → Mark) (i : Instruction) : Type 0 where
-  pub bare : Instruction
-  pub form : formOf bare ≡ unaimed m (kind.Instruction ∷ []) (formOf i)
-  pub line : Line (λ k. some 0) (saying m (kind.Instruction ∷ []) (formOf i)) bare
+  pub untargeted : Instruction
+  pub form : formOf untargeted ≡ unaimed m (kind.Instruction ∷ []) (formOf i)
+  pub line : Line (λ k. some 0) (saying m (kind.Instruction ∷ []) (formOf i)) untargeted

@@ -18,7 +18,7 @@ use Rattle.isa.specs.declared.Encoded.{Encoded}
 use Rattle.sheet_spec.specs.Line.{no, lineOf}
 use Rattle.sheet_spec.specs.Made.{namesIn, ofLines}
 use Rattle.sheet_spec.specs.Sheet.{feeds, isSheet, startLine, Start, at, notInForm, startOf, startNumber, sizedOf, sizesOf, halfOf, Sheet, sheetIn, lineCount, total, wordCount, endOf, addresses, addressAt, resolved, encoded, allWords}
-use Rattle.sheet_spec.specs.Translate.{Outcome, inOrder, refused, andThen, require, inTurn, encodeOutcome, asOutcome, startOutcome, opening, sizing, closing, encoding, sheetOutcome, outcomeOf, listedAs, over}
+use Rattle.sheet_spec.specs.Translate.{Outcome, inOrder, refused, andThen, require, asOutcome, startOutcome, opening, sizing, closing, encoding, sheetOutcome, outcomeOf, listedAs, over}
 use Rattle.sheet_spec.specs.Promises.{Translated}
 use Rattle.sheet_facts.specs.Listing.{as-in-order, as-refused, over-length}
 use Rattle.sheet_facts.specs.Lines.{line-grammar}

@@ -1,8 +1,8 @@
 use native.Mathlib.Omega.{arith}
-use Rattle.encode_answers.specs.AnswerLaws.{lent-yes, lent-no, lent-most}
+use Rattle.bytes_answers.specs.BytesLaws.{lent-yes, lent-no, lent-most}
 use borrow.Author.Needs.{needs}
-use Rattle.encode_answers.proofs.bytes.put_numbers.Statement.{statement}
-use Rattle.encode_answers.proofs.bytes.put_numbers.Tie as tie
+use Rattle.bytes_answers.proofs.put_numbers.Statement.{statement}
+use Rattle.bytes_answers.proofs.put_numbers.Tie as tie
 
 put-built-requires : tie.Need-put-built-requires
 put-built-requires c κs = (omega arith, omega (arith, lent-most (c .before .before .before .before .before .before .before .before .args .numbers) (c .before .before .before .before .before .before .lent-in .result) (c .before .before .before .before .before .before .lent-in .ensures) (c .before .before .before .before .before .long-in .result) (c .before .before .before .before .before .long-in .ensures)))

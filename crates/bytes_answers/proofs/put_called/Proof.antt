@@ -1,6 +1,6 @@
 use borrow.Author.Needs.{needs}
-use Rattle.encode_answers.proofs.bytes.put_called.Statement.{statement}
-use Rattle.encode_answers.proofs.bytes.put_called.Tie as tie
+use Rattle.bytes_answers.proofs.put_called.Statement.{statement}
+use Rattle.bytes_answers.proofs.put_called.Tie as tie
 
 returns : tie.Need-returns
 returns c = rw (c .before .before .before .before .before .before .before .encode-bytes .ensures .0, c .before .before .before .before .before .before .before .encode-bytes .ensures .1) at (c .before .before .put-returned .ensures)

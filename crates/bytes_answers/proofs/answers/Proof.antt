@@ -1,5 +1,5 @@
-use Rattle.encode_answers.proofs.bytes.answers.Statement.{statement}
-use Rattle.encode_answers.proofs.bytes.answers.Tie as tie
+use Rattle.bytes_answers.proofs.answers.Statement.{statement}
+use Rattle.bytes_answers.proofs.answers.Tie as tie
 use mathlib.Core.Path.{_≡_, refl}
 use Prim.Native.Nat.{_-_, _≤_}
 use native.Mathlib.Omega.{arith}

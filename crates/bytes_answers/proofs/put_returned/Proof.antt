@@ -2,8 +2,8 @@ use native.Mathlib.Omega.{arith}
 use Rattle.base_text.specs.WroteLaws.{wrote, wrote-then}
 use Rattle.print_spec.specs.BytesAnswer.{bytesText}
 use borrow.Author.Needs.{needs}
-use Rattle.encode_answers.proofs.bytes.put_returned.Statement.{statement}
-use Rattle.encode_answers.proofs.bytes.put_returned.Tie as tie
+use Rattle.bytes_answers.proofs.put_returned.Statement.{statement}
+use Rattle.bytes_answers.proofs.put_returned.Tie as tie
 
 returns : tie.Need-returns
 unfolding bytesText

@@ -1,9 +1,9 @@
-use Rattle.encode_answers.specs.AnswerLaws.{counted-length, lent-first}
+use Rattle.bytes_answers.specs.BytesLaws.{counted-length, lent-first}
 use native.Mathlib.Omega.{arith}
 use lib.ListN.{length-take}
 use borrow.Author.Needs.{needs}
-use Rattle.encode_answers.proofs.bytes.put_built.Statement.{statement}
-use Rattle.encode_answers.proofs.bytes.put_built.Tie as tie
+use Rattle.bytes_answers.proofs.put_built.Statement.{statement}
+use Rattle.bytes_answers.proofs.put_built.Tie as tie
 
 slice-aggregate-put-called : tie.Need-slice-aggregate-put-called
 slice-aggregate-put-called c = simp length-take (omega arith)

@@ -1,5 +1,5 @@
-use Rattle.encode_answers.proofs.bytes.put_lent.Statement.{statement}
-use Rattle.encode_answers.proofs.bytes.put_lent.Tie as tie
+use Rattle.bytes_answers.proofs.put_lent.Statement.{statement}
+use Rattle.bytes_answers.proofs.put_lent.Tie as tie
 use mathlib.Core.Path.{_≡_, refl}
 use Prim.Native.Nat.{_+_, _*_, _-_, _≤_}
 use native.Mathlib.Omega.{arith}
@@ -8,7 +8,7 @@ use lib.Seq.{take-length}
 use Rattle.base_text.specs.Wrote.{Wrote}
 use Rattle.base_text.specs.WroteLaws.{wrote, wrote-none, wrote-then}
 use Rattle.print_spec.specs.BytesAnswer.{listedBytes}
-use Rattle.encode_answers.specs.AnswerLaws.{bytes-next}
+use Rattle.bytes_answers.specs.BytesLaws.{bytes-next}
 
 abbrev Inv-loop : tie.InvT-loop
 Inv-loop out₀ at lent next₀ i₀ out next i =

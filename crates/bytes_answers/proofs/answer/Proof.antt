@@ -1,8 +1,8 @@
 use native.Mathlib.Omega.{arith}
-use Rattle.encode_answers.specs.AnswerLaws.{bytes-yes, bytes-no}
+use Rattle.bytes_answers.specs.BytesLaws.{bytes-yes, bytes-no}
 use borrow.Author.Needs.{needs}
-use Rattle.encode_answers.proofs.bytes.answer.Statement.{statement}
-use Rattle.encode_answers.proofs.bytes.answer.Tie as tie
+use Rattle.bytes_answers.proofs.answer.Statement.{statement}
+use Rattle.bytes_answers.proofs.answer.Tie as tie
 
 returns : tie.Need-returns
 returns c =
