@@ -17,13 +17,13 @@ use Rattle.sheet_spec.specs.Names.{bytes}
 use Rattle.sheet_spec.specs.Line.{lineOf}
 use Rattle.sheet_spec.specs.Made.{made}
 use Rattle.sheet_spec.specs.Sheet.{sizedOf, sheetIn, addresses, image}
-use Rattle.sheet_spec.specs.Translate.{inOrder, refused, outcomeOf}
+use Rattle.sheet_spec.specs.Translate.{inOrder, refused, outcomeAt, outcomeOf}
 
 abbrev countdown : List ℕ
 countdown = bytes "START\t4096\nMOVEQ\t5\tData\t0\nSUBQ\t1\tRegister\tData\t0\tWord\nBcc\t@2\tNotEqual\tShort\nRTS\n"
 
 listed : (outcomeOf countdown 4096 16384 ≡ inOrder) × (image (sheetIn countdown) ≡ 0x7005 ∷ 0x5340 ∷ 0x66FC ∷ 0x4E75 ∷ []) × (addresses (sheetIn countdown) ≡ 4096 ∷ 4098 ∷ 4100 ∷ 4102 ∷ [])
-unfolding outcomeOf sizedOf made lineOf builtOf takeInstruction takeUnsigned registerByPlace takeRegister operandPayloads takeOperand encodeOf sizeOf moveqParts quickParts branchParts bccParts noOperandParts permits byteOfAddress single ranges holds
+unfolding outcomeAt sizedOf made lineOf builtOf takeInstruction takeUnsigned registerByPlace takeRegister operandPayloads takeOperand encodeOf sizeOf moveqParts quickParts branchParts bccParts noOperandParts permits byteOfAddress single ranges holds
 listed = (refl, refl, refl)
 
 -- the last word below 2^32, and one word beyond; an odd start
@@ -31,7 +31,7 @@ starts : (outcomeOf (bytes "START\t4294967294\nNOP\n") 4096 16384 ≡ inOrder)
     × (outcomeOf (bytes "START\t4294967294\nNOP\nNOP\n") 4096 16384 ≡ refused 9 0 0 (pos 0))
     × (outcomeOf (bytes "START\t4097\nNOP\n") 4096 16384 ≡ refused 9 0 0 (pos 0))
     × (outcomeOf (bytes "START\t4294967296\nNOP\n") 4096 16384 ≡ refused 7 0 0 (pos 0))
-unfolding outcomeOf sizedOf made lineOf builtOf takeInstruction takeUnsigned encodeOf sizeOf noOperandParts
+unfolding outcomeAt sizedOf made lineOf builtOf takeInstruction takeUnsigned encodeOf sizeOf noOperandParts
 starts = (refl, refl, refl, refl)
 
 -- scratch and image one short; a branch that names no line, and one by a distance of 0, which a short branch cannot hold
@@ -39,5 +39,5 @@ refusals : (outcomeOf countdown 3 16384 ≡ refused 11 0 0 (pos 0)) × (outcomeO
     × (outcomeOf (bytes "START\t4096\nNOP\nBcc\t@0\tEqual\tShort\n") 4096 16384 ≡ refused 8 2 0 (pos 0))
     × (outcomeOf (bytes "START\t4096\nNOP\nBcc\t@3\tEqual\tShort\nNOP\n") 4096 16384 ≡ refused 2 2 1 (pos 0))
     × (outcomeOf (bytes "START\t4096\nNOP") 4096 16384 ≡ refused 10 0 0 (pos 0))
-unfolding outcomeOf sizedOf made lineOf builtOf takeInstruction takeUnsigned registerByPlace takeRegister operandPayloads takeOperand encodeOf sizeOf moveqParts quickParts branchParts bccParts noOperandParts permits byteOfAddress single ranges holds
+unfolding outcomeAt sizedOf made lineOf builtOf takeInstruction takeUnsigned registerByPlace takeRegister operandPayloads takeOperand encodeOf sizeOf moveqParts quickParts branchParts bccParts noOperandParts permits byteOfAddress single ranges holds
 refusals = (refl, refl, refl, refl, refl)

@@ -56,7 +56,7 @@ pub record Put (t out out′ : List ℕ) (r : Output) : Type 0 where
 -- what is printed for a text, with an image v and a scratch s; where the buffer is not wide, both are as they were
 pub record Printed (text v s out v′ s′ out′ : List ℕ) (r : Output) : Type 0 where
   pub put : Put (printedOf text (length s) (length v)) out out′ r
-  pub image : v′ ≡ cond (isWide out) (imageOf text s v) v
+  pub image : v′ ≡ cond (isWide out) (imageOf text (length s) v) v
   pub scratch : s′ ≡ cond (isWide out) (scratchOf text s v) s
 
 -- what is printed for a text of more than 65,536 bytes

@@ -14,7 +14,7 @@ use Rattle.read_spec.specs.declared.Reading.the-variants.{Read, Short, Nothing}
 use Rattle.read_spec.specs.ReadingRefusal.{readingRefusal}
 use Rattle.read_spec.specs.Read.{readOf}
 use Rattle.print_spec.specs.EncodeAnswer.{measuredText}
-use Rattle.print_spec.specs.Run.{isAddressField, allWords, fieldWords}
+use Rattle.print_spec.specs.Run.{isAddressField, areWords, fieldWords}
 
 -- each number, and a tab
 abbrev pub numbersText : List ℤ → List ℕ
@@ -33,7 +33,7 @@ readingText Nothing = measuredText (readingRefusal Nothing) ++ (10 ∷ [])
 -- for the fields of a line: an address, then words
 abbrev pub answerTo : List (List ℕ) → List ℕ
 answerTo [] = notInForm
-answerTo (f ∷ fs) = cond (isAddressField (numberOf f) && allWords fs) (readingText (readOf (fieldWords fs) (magnitudeOf (numberOf f)))) notInForm
+answerTo (f ∷ fs) = cond (isAddressField (numberOf f) && areWords fs) (readingText (readOf (fieldWords fs) (magnitudeOf (numberOf f)))) notInForm
 
 -- for a line
 unfoldable pub readAnswerOf : List ℕ → List ℕ

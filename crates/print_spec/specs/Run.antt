@@ -30,9 +30,9 @@ isWordField f = eqb (length f) 4 && allHex f
 abbrev pub wordIn : List ℕ → ℕ
 wordIn f = hexFrom 0 f
 
-abbrev pub allWords : List (List ℕ) → Bool
-allWords [] = true
-allWords (f ∷ fs) = isWordField f && allWords fs
+abbrev pub areWords : List (List ℕ) → Bool
+areWords [] = true
+areWords (f ∷ fs) = isWordField f && areWords fs
 
 abbrev pub fieldWords : List (List ℕ) → List ℕ
 fieldWords fs = map wordIn fs

@@ -11,7 +11,7 @@ use Rattle.base_spec.specs.Lines.{answeredOf, stepOf}
 use Rattle.base_spec.specs.Refused.{notInForm}
 use Rattle.read_spec.specs.Read.{readOf}
 use Rattle.read_laws.specs.Kept.{read-kept}
-use Rattle.print_spec.specs.Run.{isAddressField, allWords, fieldWords}
+use Rattle.print_spec.specs.Run.{isAddressField, areWords, fieldWords}
 use Rattle.read_runs.specs.Kept.{keptRun, noRun, runIn, runOf, runText, keptAnswerOf}
 use Rattle.read_runs.specs.RunLaws.{kept-words}
 use Rattle.print_spec.specs.ReadAnswer.{readingText, readAnswerOf, answerTo}
@@ -39,7 +39,7 @@ text-if false a ws = no-text
 
 answer-if : (fs : List (List ℕ)) → cond (runIn fs .ok) (runText (runIn fs)) notInForm ≡ answerTo fs
 answer-if [] = no-text
-answer-if (f ∷ fs) = text-if (isAddressField (numberOf f) && allWords fs) (magnitudeOf (numberOf f)) (fieldWords fs)
+answer-if (f ∷ fs) = text-if (isAddressField (numberOf f) && areWords fs) (magnitudeOf (numberOf f)) (fieldWords fs)
 
 pub answer-whole : (line : List ℕ) → keptAnswerOf line ≡ readAnswerOf line
 unfolding keptAnswerOf runOf readAnswerOf

@@ -8,7 +8,7 @@ use Rattle.base_spec.specs.Number.{numberOf}
 use Rattle.base_spec.specs.Numbers.{magnitudeOf}
 use Rattle.base_spec.specs.Refused.{notInForm}
 use Rattle.read_spec.specs.Read.{readOf}
-use Rattle.print_spec.specs.Run.{isAddressField, allWords, fieldWords}
+use Rattle.print_spec.specs.Run.{isAddressField, areWords, fieldWords}
 use Rattle.print_spec.specs.ReadAnswer.{readingText}
 use Rattle.read_runs.specs.declared.Run.{Run}
 
@@ -24,7 +24,7 @@ noRun = record { ok = false; address = 0; count = 0; words = replicate 16 0 }
 -- the run of fields: the first is the address, the others are the words
 abbrev pub runIn : List (List ℕ) → Run
 runIn [] = noRun
-runIn (f ∷ fs) = cond (isAddressField (numberOf f) && allWords fs) (keptRun (magnitudeOf (numberOf f)) (fieldWords fs)) noRun
+runIn (f ∷ fs) = cond (isAddressField (numberOf f) && areWords fs) (keptRun (magnitudeOf (numberOf f)) (fieldWords fs)) noRun
 
 -- the run of a line
 unfoldable pub runOf : List ℕ → Run

@@ -19,7 +19,7 @@ use Rattle.base_spec.specs.Numbers.{magnitudeOf}
 use Rattle.read_runs.specs.declared.Run.{Run}
 use Rattle.read_runs.specs.declared.Word.{Word}
 use Rattle.read_runs.specs.declared.Word.the-variants.{Is, No}
-use Rattle.print_spec.specs.Run.{within, hexValue, isWordField, wordIn, allWords, fieldWords, isAddressField}
+use Rattle.print_spec.specs.Run.{within, hexValue, isWordField, wordIn, areWords, fieldWords, isAddressField}
 use Rattle.read_runs.specs.Kept.{keptRun, noRun, runIn, runOf}
 use Rattle.read_runs.specs.Step.{fourDigits, wordOf, startAt, startOf, placedWord, withWord}
 use Rattle.base_facts.specs.Tests.{and-true, cond-true, cond-false}
@@ -145,20 +145,20 @@ word-no : (f : List ℕ) → isWordField f ≡ false → wordOf f ≡ No
 unfolding wordOf
 word-no f e = rw e
 
-kept-on : (address : ℕ) (ps : List ℕ) (fs : List (List ℕ)) → runOn (keptRun address ps) (map wordOf fs) ≡ cond (allWords fs) (keptRun address (ps ++ fieldWords fs)) noRun
+kept-on : (address : ℕ) (ps : List ℕ) (fs : List (List ℕ)) → runOn (keptRun address ps) (map wordOf fs) ≡ cond (areWords fs) (keptRun address (ps ++ fieldWords fs)) noRun
 kept-on address ps [] = rw (append-nil ps)
 kept-on address ps (f ∷ fs) = go (isWordField f) refl (kept-on address (ps ++ (wordIn f ∷ [])) fs)
   where
     go : (t : Bool) → isWordField f ≡ t
-        → runOn (keptRun address (ps ++ (wordIn f ∷ []))) (map wordOf fs) ≡ cond (allWords fs) (keptRun address (ps ++ (wordIn f ∷ []) ++ fieldWords fs)) noRun
-        → runOn (withWord (keptRun address ps) (wordOf f)) (map wordOf fs) ≡ cond (t && allWords fs) (keptRun address (ps ++ (wordIn f ∷ fieldWords fs))) noRun
+        → runOn (keptRun address (ps ++ (wordIn f ∷ []))) (map wordOf fs) ≡ cond (areWords fs) (keptRun address (ps ++ (wordIn f ∷ []) ++ fieldWords fs)) noRun
+        → runOn (withWord (keptRun address ps) (wordOf f)) (map wordOf fs) ≡ cond (t && areWords fs) (keptRun address (ps ++ (wordIn f ∷ fieldWords fs))) noRun
     go true e h = rw (word-yes f e, kept-more address ps (wordIn f), sym (append-snoc ps (wordIn f) (fieldWords fs))) h
     go false e h = rw (word-no f e) (on-no (map wordOf fs))
 
 run-on : (f : List ℕ) (fs : List (List ℕ)) → runIn (f ∷ fs) ≡ runOn (startOf (numberOf f)) (map wordOf fs)
 run-on f fs = rw (start-is (numberOf f)) (go (isAddressField (numberOf f)))
   where
-    go : (t : Bool) → cond (t && allWords fs) (keptRun (magnitudeOf (numberOf f)) (fieldWords fs)) noRun
+    go : (t : Bool) → cond (t && areWords fs) (keptRun (magnitudeOf (numberOf f)) (fieldWords fs)) noRun
         ≡ runOn (cond t (keptRun (magnitudeOf (numberOf f)) []) noRun) (map wordOf fs)
     go true = sym (kept-on (magnitudeOf (numberOf f)) [] fs)
     go false = sym (on-no (map wordOf fs))
@@ -197,7 +197,7 @@ room-if false address ws = (omega arith, refl)
 room-in : (fs : List (List ℕ)) → (runIn fs .count ≤ 16) × (length (runIn fs .words) ≡ 16)
 unfolding noRun
 room-in [] = (omega arith, refl)
-room-in (f ∷ fs) = room-if (isAddressField (numberOf f) && allWords fs) (magnitudeOf (numberOf f)) (fieldWords fs)
+room-in (f ∷ fs) = room-if (isAddressField (numberOf f) && areWords fs) (magnitudeOf (numberOf f)) (fieldWords fs)
 
 pub run-count : (line : List ℕ) → runOf line .count ≤ 16
 unfolding runOf

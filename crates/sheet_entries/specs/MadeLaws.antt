@@ -15,7 +15,7 @@ use Rattle.base_spec.specs.Signed.{minus}
 use Rattle.numeric_spec.specs.Build.{builtOf}
 use Rattle.numeric_places.specs.Places.{signedFrom, numbersHeld}
 use Rattle.sheet_spec.specs.Line.{Token, literal, label, invalid, Parsed, says, no}
-use Rattle.sheet_spec.specs.Made.{numberAs, isSome, names, namesAll, namesIn, builtAs, ofLines}
+use Rattle.sheet_spec.specs.Made.{numberAs, isSome, resolves, resolvesAll, resolvesIn, builtAs, ofLines}
 use Rattle.sheet_tokens.specs.Entries.{capped, isLine, negativeIn, magnitudeIn, noEntries, entriesFrom, entriesOf}
 use Rattle.sheet_entries.specs.Made.{namesOne, namesEach, namesLines, addressIn, resolvedNumber, resolvedNumbers, numbersWith, madeWith}
 
@@ -38,18 +38,18 @@ module _ (n : ℕ) (few : n ≤ 4096) (g : ℕ → ℕ) where
       capped-cases (λ x. leb 1 x && leb x n ≡ leb 1 k && leb k n) k refl
       (λ h. rw (lt-leb 4097 n (omega arith), le-leb 1 k (omega arith), lt-leb k n (omega arith)))
 
-  names-token : (v : Token) → namesOne n (isLine v) (magnitudeIn v) ≡ names (ofLines n g) v
+  names-token : (v : Token) → namesOne n (isLine v) (magnitudeIn v) ≡ resolves (ofLines n g) v
   names-token (literal s k) = refl
   names-token (label k) = names-capped k ∙ sym (some-is (leb 1 k && leb k n) (g k))
   names-token invalid = refl
 
-  names-pad : (m : ℕ) (vs : List Token) → length vs ≤ m → namesEach n (pad m false (map isLine vs)) (pad m 0 (map magnitudeIn vs)) ≡ namesAll (ofLines n g) vs
+  names-pad : (m : ℕ) (vs : List Token) → length vs ≤ m → namesEach n (pad m false (map isLine vs)) (pad m 0 (map magnitudeIn vs)) ≡ resolvesAll (ofLines n g) vs
   names-pad zero [] h = refl
   names-pad zero (v ∷ vs) h = absurd (omega arith)
   names-pad (suc m) [] h = names-pad m [] (omega arith)
   names-pad (suc m) (v ∷ vs) h = λ i. names-token v i && names-pad m vs (omega arith) i
 
-  names-lines : (vs : List Token) → length vs ≤ 24 → namesLines (entriesFrom vs) n ≡ namesAll (ofLines n g) vs
+  names-lines : (vs : List Token) → length vs ≤ 24 → namesLines (entriesFrom vs) n ≡ resolvesAll (ofLines n g) vs
   unfolding namesLines entriesFrom
   names-lines vs h = names-pad 24 vs h
 
@@ -57,7 +57,7 @@ module _ (n : ℕ) (few : n ≤ 4096) (g : ℕ → ℕ) where
   unfolding namesLines noEntries
   names-none = refl
 
-  pub names-in : (p : Parsed) → ((vs : List Token) → p ≡ says vs → length vs ≤ 24) → namesLines (entriesOf p) n ≡ namesIn (ofLines n g) p
+  pub names-in : (p : Parsed) → ((vs : List Token) → p ≡ says vs → length vs ≤ 24) → namesLines (entriesOf p) n ≡ resolvesIn (ofLines n g) p
   names-in (says vs) h = names-lines vs (h vs refl)
   names-in no h = names-none
 

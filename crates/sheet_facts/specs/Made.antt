@@ -8,7 +8,7 @@ use Rattle.isa.specs.declared.Instruction.{Instruction}
 use Rattle.numeric_spec.specs.declared.Built.{Built}
 use Rattle.numeric_spec.specs.declared.Built.the-variants as built
 use Rattle.sheet_spec.specs.Line.{Parsed}
-use Rattle.sheet_spec.specs.Made.{namesIn, makes, turnedBack, judged, builtAs, made}
+use Rattle.sheet_spec.specs.Made.{resolvesIn, makes, turnedBack, judged, builtAs, made}
 
 pub turned-not : {C : Type 0} {k : ℕ} {i : Instruction} → turnedBack k ≡ makes i → C
 turned-not e = let z : _≡_ {A = ℕ} 0 1 = cc in absurd (omega arith)
@@ -26,4 +26,4 @@ judged-back built.NotInForm named k e = let q : _≡_ {A = ℕ} 7 k = cc in omeg
 
 pub made-back : (f : ℕ → Option ℕ) (p : Parsed) (k : ℕ) → made f p ≡ turnedBack k → 0 < k
 unfolding made
-made-back f p k e = judged-back (builtAs f p) (namesIn f p) k e
+made-back f p k e = judged-back (builtAs f p) (resolvesIn f p) k e

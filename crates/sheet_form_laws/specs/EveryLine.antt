@@ -18,7 +18,7 @@ use Rattle.sheet_spec.specs.declared.Kind.the-variants as kind
 use Rattle.sheet_spec.specs.Names.{bytes, namesOf}
 use Rattle.sheet_spec.specs.Line.{Token, literal, label, invalid}
 use Rattle.sheet_spec.specs.Spell.{SuitAll}
-use Rattle.sheet_spec.specs.Made.{namesAll, Line}
+use Rattle.sheet_spec.specs.Made.{resolvesAll, Line}
 use Rattle.sheet_size_facts.specs.Says.{entries, place-named}
 use Rattle.sheet_size_facts.specs.Fitting.{fields-numbers, Fitting}
 use Rattle.sheet_spec.specs.Told.{Mark, saying, unaimed, Told}
@@ -34,7 +34,7 @@ fitted i l m =
     (variant-fitting (record { form = entries; kind = kind.Instruction; suits = λ v h. h; names = λ n. (λ h. h, λ k top. refl); top = 98; untargeted = λ x. x })
     (placeOf (r .con (r .z))) (λ h. ap (λ t. t .0) (law (r .z))) (r .sort) (r .con) (λ w. ap (λ t. (t .1, t .2)) (law w)) (r .z) m [])
 
-names-some : (vs : List Token) → namesAll (λ k. some 0) vs ≡ true
+names-some : (vs : List Token) → resolvesAll (λ k. some 0) vs ≡ true
 names-some [] = refl
 names-some (literal s n ∷ vs) = names-some vs
 names-some (label n ∷ vs) = names-some vs

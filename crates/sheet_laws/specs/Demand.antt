@@ -15,9 +15,9 @@ use Rattle.read_laws.specs.ReaderLaws.{complete}
 use Rattle.m68k_encode.specs.Laws.{accepted-fine, accepted-words}
 use Rattle.numeric_spec.specs.Form.{formOf}
 use Rattle.sheet_spec.specs.Made.{made, ofLines}
-use Rattle.sheet_spec.specs.Sheet.{Sheet, lineCount, lineAt, countAt, addressAt, resolved, encodedWords}
+use Rattle.sheet_spec.specs.Sheet.{Sheet, lineCount, lineAt, countOfLine, addressOfLine, resolved, encodedWords}
 use Rattle.sheet_spec.specs.Follow.{Next, on, to, either, stop, nextOf, target, lineNext, nextWith, targetLine}
-use Rattle.sheet_spec.specs.Promises.{CountedSheet, InGrammar, AcceptedSheet}
+use Rattle.sheet_spec.specs.Promises.{InGrammar, AcceptedSheet}
 use Rattle.sheet_size_facts.specs.Says.{line-makes}
 use Rattle.sheet_size_facts.specs.Lawful.{quiet, Goes, quietly, aimed}
 use Rattle.sheet_size_facts.specs.Bounds.{upTo, up-to, address-is, count-some, names-bounded}
@@ -41,65 +41,65 @@ aimed-lands (to u) t k m e h p q = (e, (p, q), rw e h)
 aimed-lands (either u) t k m e h p q = (e, (p, q), rw e h)
 aimed-lands stop t k m e h p q = (tt, tt, refl)
 
-module _ (s : Sheet) (tie : CountedSheet s) (grammar : (n : ℕ) → InGrammar (lineAt s n)) (room : ℕ) (ok : AcceptedSheet s room) (even : s .start % 2 ≡ 0) where
-  address-even : (n : ℕ) → 1 ≤ n → n ≤ lineCount s → addressAt s n % 2 ≡ 0
-  address-even n h g = omega (arith, address-is s tie n h g, even)
+module _ (s : Sheet) (grammar : (n : ℕ) → InGrammar (lineAt s n)) (room : ℕ) (ok : AcceptedSheet s room) (even : s .start % 2 ≡ 0) where
+  address-even : (n : ℕ) → 1 ≤ n → n ≤ lineCount s → addressOfLine s n % 2 ≡ 0
+  address-even n h g = omega (arith, address-is s n h g, even)
 
   module _ (n : ℕ) (h : 1 ≤ n) (g : n ≤ lineCount s) where
     abbrev j : Instruction
-    j = i s tie grammar room ok n h g
+    j = i s grammar room ok n h g
 
     abbrev a : ℕ
-    a = addressAt s n
+    a = addressOfLine s n
 
     number : encodeOf j a .number ≡ 0
-    number = encodes s tie grammar room ok n h g
+    number = encodes s grammar room ok n h g
 
     next-is : nextWith (resolved s) s n ≡ nextOf j
-    next-is = ap lineNext (makes-it s tie grammar room ok n h g) ∙ at-line s tie grammar room ok n h g .follows .plain (addressAt s)
+    next-is = ap lineNext (makes-it s grammar room ok n h g) ∙ at-line s grammar room ok n h g .follows .plain (addressOfLine s)
 
-    target-line-is : targetLine s n ≡ target (nextOf (at-line s tie grammar room ok n h g .instruction (λ k. k)))
+    target-line-is : targetLine s n ≡ target (nextOf (at-line s grammar room ok n h g .instruction (λ k. k)))
     target-line-is =
-        let l = at-line s tie grammar room ok n h g in
+        let l = at-line s grammar room ok n h g in
         let f = ofLines (lineCount s) (λ k. k) in
-        ap (λ x. target (lineNext x)) (ap (made f) (l .parsed) ∙ line-makes f (l .tokens) (l .instruction (λ k. k)) (l .line (λ k. k) (names-bounded s tie grammar (ok .measured))))
+        ap (λ x. target (lineNext x)) (ap (made f) (l .parsed) ∙ line-makes f (l .tokens) (l .instruction (λ k. k)) (l .line (λ k. k) (names-bounded s grammar (ok .measured))))
         ∙ ap target (l .follows .plain (λ k. k))
 
-    lands : Goes (upTo (lineCount s)) (at-line s tie grammar room ok n h g .instruction) → Lands (nextOf j) (addressAt s (targetLine s n)) (targetLine s n) (lineCount s)
-    lands (quietly q) = quiet-lands (nextOf j) (q (addressAt s)) (addressAt s (targetLine s n)) (targetLine s n) (lineCount s)
+    lands : Goes (upTo (lineCount s)) (at-line s grammar room ok n h g .instruction) → Lands (nextOf j) (addressOfLine s (targetLine s n)) (targetLine s n) (lineCount s)
+    lands (quietly q) = quiet-lands (nextOf j) (q (addressOfLine s)) (addressOfLine s (targetLine s n)) (targetLine s n) (lineCount s)
     lands (aimed (m, p, e)) =
         let u = up-to (lineCount s) m p in
-        subst (λ (k : ℕ). Lands (nextOf j) (addressAt s k) k (lineCount s)) (sym (target-line-is ∙ e (λ k. k)))
-        (aimed-lands (nextOf j) (addressAt s m) m (lineCount s) (e (addressAt s)) (address-even m (u .0) (u .1)) (u .0) (u .1))
+        subst (λ (k : ℕ). Lands (nextOf j) (addressOfLine s k) k (lineCount s)) (sym (target-line-is ∙ e (λ k. k)))
+        (aimed-lands (nextOf j) (addressOfLine s m) m (lineCount s) (e (addressOfLine s)) (address-even m (u .0) (u .1)) (u .0) (u .1))
 
-    landing : Lands (nextOf j) (addressAt s (targetLine s n)) (targetLine s n) (lineCount s)
-    landing = lands (at-line s tie grammar room ok n h g .follows .goes)
+    landing : Lands (nextOf j) (addressOfLine s (targetLine s n)) (targetLine s n) (lineCount s)
+    landing = lands (at-line s grammar room ok n h g .follows .goes)
 
     line-accepted : reads.Accepted a j
     unfolding formOf
     line-accepted = (
-      inside-in-types j (line s tie grammar room ok n h g .inside),
+      inside-in-types j (line s grammar room ok n h g .inside),
       accepted-fine j a number,
-      at-line s tie grammar room ok n h g .follows .read (addressAt s) a (address-even n h g) (landing .2),
+      at-line s grammar room ok n h g .follows .read (addressOfLine s) a (address-even n h g) (landing .2),
     )
 
     words-are : encodedWords (encodeOf j a) ≡ wordsOf j a
     words-are = accepted-words j a number
 
-    counts-are : length (wordsOf j a) ≡ countAt s n
-    counts-are = ap length (sym words-are) ∙ words-counted j a ∙ count-of s tie grammar room ok n h g
+    counts-are : length (wordsOf j a) ≡ countOfLine s n
+    counts-are = ap length (sym words-are) ∙ words-counted j a ∙ count-of s grammar room ok n h g
 
     pub line-stands : LineStands s n
     line-stands =
-        let l = at-line s tie grammar room ok n h g in
+        let l = at-line s grammar room ok n h g in
         record {
-          some = count-some s tie grammar (ok .measured) n h g;
+          some = count-some s grammar (ok .measured) n h g;
           tokens = l .tokens;
           instruction = j;
           parsed = l .parsed;
-          line = line s tie grammar room ok n h g;
-          entry = entry-is s tie grammar room ok n h g;
+          line = line s grammar room ok n h g;
+          entry = entry-is s grammar room ok n h g;
           reads-back = λ rest. ap (λ (ws : List ℕ). readOf (ws ++ rest) a) words-are ∙ complete a j rest line-accepted ∙ ap (λ (k : ℕ). Read (plain j) (2 * k)) counts-are;
-          aims = subst (λ (x : Next). Aims x (addressAt s (targetLine s n))) (sym next-is) (landing .0);
+          aims = subst (λ (x : Next). Aims x (addressOfLine s (targetLine s n))) (sym next-is) (landing .0);
           within = subst (λ (x : Next). Within x (lineCount s) (targetLine s n)) (sym next-is) (landing .1);
         }

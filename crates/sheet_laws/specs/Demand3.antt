@@ -5,38 +5,38 @@ use mathlib.Core.List.{List}
 use native.Mathlib.Omega.{arith}
 use lib.ListN.{take, drop}
 use Rattle.encode_spec.specs.Encode.{encodeOf}
-use Rattle.sheet_spec.specs.Sheet.{Sheet, sheetIn, lineCount, lineAt, countAt, addressAt, encoded, encodedWords, image}
-use Rattle.sheet_spec.specs.Translate.{inOrder, sheetOutcome, outcomeOf}
-use Rattle.sheet_spec.specs.Promises.{CountedSheet, InGrammar, AcceptedSheet, Demand3}
+use Rattle.sheet_spec.specs.Sheet.{Sheet, sheetAt, lineCount, counts, lineAt, countOfLine, addressOfLine, encoded, encodedWords, image}
+use Rattle.sheet_spec.specs.Translate.{inOrder, sheetOutcome, outcomeAt}
+use Rattle.sheet_spec.specs.Promises.{InGrammar, AcceptedSheet, Demand3}
 use Rattle.sheet_facts.specs.Lines.{line-grammar}
 use Rattle.sheet_size_facts.specs.Image.{words-stand}
-use Rattle.sheet_size_facts.specs.Outcomes.{counted-text, lines-length, accepted-sheet, accepted}
+use Rattle.sheet_size_facts.specs.Outcomes.{lines-length, accepted-sheet, accepted}
 use Rattle.sheet_size_facts.specs.Bounds.{before, address-is}
-use Rattle.sheet_size_facts.specs.Counted.{counts}
+use Rattle.sheet_size_facts.specs.Counted.{line-counts}
 use Rattle.sheet_laws.specs.Follows.{reads, together}
 use Rattle.sheet_laws.specs.Demand.{line-stands}
 
-module _ (s : Sheet) (tie : CountedSheet s) (grammar : (n : ℕ) → InGrammar (lineAt s n)) (even : s .start % 2 ≡ 0) (room : ℕ) (ok : AcceptedSheet s room) where
-  words-at : (n : ℕ) (h : 1 ≤ n) (g : n ≤ lineCount s) → take (countAt s n) (drop ((addressAt s n - s .start) / 2) (image s)) ≡ encodedWords (encodeOf (line-stands s tie grammar room ok even n h g .instruction) (addressAt s n))
+module _ (s : Sheet) (grammar : (n : ℕ) → InGrammar (lineAt s n)) (even : s .start % 2 ≡ 0) (room : ℕ) (ok : AcceptedSheet s room) where
+  words-at : (n : ℕ) (h : 1 ≤ n) (g : n ≤ lineCount s) → take (countOfLine s n) (drop ((addressOfLine s n - s .start) / 2) (image s)) ≡ encodedWords (encodeOf (line-stands s grammar room ok even n h g .instruction) (addressOfLine s n))
   words-at n h g =
-      let o : (addressAt s n - s .start) / 2 ≡ before s n = omega (arith, address-is s tie n h g) in
-      ap (λ (k : ℕ). take (countAt s n) (drop k (image s))) o
-      ∙ words-stand (s .counts) (encoded s) (counts s tie grammar room ok) (pred n) (omega (arith, lines-length s tie))
-      ∙ ap encodedWords (line-stands s tie grammar room ok even n h g .entry)
+      let o : (addressOfLine s n - s .start) / 2 ≡ before s n = omega (arith, address-is s n h g) in
+      ap (λ (k : ℕ). take (countOfLine s n) (drop k (image s))) o
+      ∙ words-stand (counts s) (encoded s) (line-counts s grammar room ok) (pred n) (omega (arith, lines-length s))
+      ∙ ap encodedWords (line-stands s grammar room ok even n h g .entry)
 
   stands : Demand3 s (image s)
   stands =
       record {
-        together = together s tie (counts s tie grammar room ok) (line-stands s tie grammar room ok even);
-        each = λ n h g. record { read = reads s tie (counts s tie grammar room ok) (line-stands s tie grammar room ok even) n h g; words = words-at n h g };
+        together = together s (line-counts s grammar room ok) (line-stands s grammar room ok even);
+        each = λ n h g. record { read = reads s (line-counts s grammar room ok) (line-stands s grammar room ok even) n h g; words = words-at n h g };
       }
 
--- of any sheet with an even start, lines in the grammar, and the words that these count
-pub demand-3 : (s : Sheet) → CountedSheet s → ((n : ℕ) → InGrammar (lineAt s n)) → s .start % 2 ≡ 0 → (room : ℕ) → sheetOutcome s room ≡ inOrder → Demand3 s (image s)
-demand-3 s tie grammar even room e = stands s tie grammar even room (accepted-sheet s tie room e)
+-- of any sheet with an even start and lines in the grammar
+pub demand-3 : (s : Sheet) → ((n : ℕ) → InGrammar (lineAt s n)) → s .start % 2 ≡ 0 → (room : ℕ) → sheetOutcome s room ≡ inOrder → Demand3 s (image s)
+demand-3 s grammar even room e = stands s grammar even room (accepted-sheet s room e)
 
--- of a text
-pub demand-3-text : (text : List ℕ) (places room : ℕ) → outcomeOf text places room ≡ inOrder → Demand3 (sheetIn text) (image (sheetIn text))
-demand-3-text text places room e =
-    let a = accepted text places room e in
-    stands (sheetIn text) (counted-text text) (line-grammar text) (a .even) room (a .lines)
+-- of a text at a start
+pub demand-3-text : (text : List ℕ) (start places room : ℕ) → outcomeAt text start places room ≡ inOrder → Demand3 (sheetAt start text) (image (sheetAt start text))
+demand-3-text text start places room e =
+    let a = accepted text start places room e in
+    stands (sheetAt start text) (line-grammar text) (a .even) room (a .lines)

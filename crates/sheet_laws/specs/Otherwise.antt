@@ -10,12 +10,12 @@ use borrow.Author.Tests.{eq-eqb, le-leb}
 use Rattle.isa.specs.declared.Measured.{Measured}
 use Rattle.isa.specs.declared.Encoded.{Encoded}
 use Rattle.sheet_spec.specs.Line.{Parsed, no}
-use Rattle.sheet_spec.specs.Sheet.{isSheet, startLine, startOf, sizedOf, sizesOf, Sheet, sheetIn, lineCount, wordCount, endOf, addresses, resolved, encoded}
-use Rattle.sheet_spec.specs.Translate.{Outcome, inOrder, andThen, require, inTurn, sizeOutcome, encodeOutcome, startOutcome, opening, sizing, closing, encoding, sheetOutcome, outcomeOf}
-use Rattle.sheet_spec.specs.Promises.{CountedSheet, AcceptedSheet, AcceptedText}
+use Rattle.sheet_spec.specs.Sheet.{isSheet, startLine, startOf, sizedOf, sizesOf, Sheet, sheetAt, lineCount, wordCount, endOf, addresses, resolved, encoded}
+use Rattle.sheet_spec.specs.Translate.{Outcome, inOrder, andThen, require, inTurn, sizeOutcome, encodeOutcome, isStart, opening, sizing, closing, encoding, sheetOutcome, outcomeAt}
+use Rattle.sheet_spec.specs.Promises.{AcceptedSheet, AcceptedText}
 use Rattle.sheet_facts.specs.Listing.{as-in-order}
 use Rattle.sheet_size_facts.specs.Image.{noWords, encoded-is}
-use Rattle.sheet_size_facts.specs.Outcomes.{map-at, counted-text, places-length, lines-length}
+use Rattle.sheet_size_facts.specs.Outcomes.{map-at, places-length, lines-length}
 
 require-is : (b : Bool) (k : ℕ) → b ≡ true → require b k ≡ inOrder
 require-is true k e = refl
@@ -37,29 +37,30 @@ all-sized ps ok =
     let r : j < length ps = omega (arith, length-map ps (sizedOf (length ps))) in
     as-in-order n (m .number) (m .detail) (m .value) (ap (λ (x : Measured). x .number) (map-at (sizedOf (length ps)) ps j no d r) ∙ ok (suc j) (omega arith) (omega arith)))
 
-all-encoded : (s : Sheet) → CountedSheet s → (room : ℕ) → AcceptedSheet s room → encoding (encoded s) ≡ inOrder
-all-encoded s tie room ok =
+all-encoded : (s : Sheet) (room : ℕ) → AcceptedSheet s room → encoding (encoded s) ≡ inOrder
+all-encoded s room ok =
     all-in-order encodeOutcome noWords 1 (encoded s) (λ j q n.
     let e = getD (encoded s) j noWords in
-    let r : j < lineCount s = omega (arith, lines-length s tie) in
+    let r : j < lineCount s = omega (arith, lines-length s) in
     as-in-order n (e .number) (e .detail) (e .value)
-    (ap (λ (x : Encoded). x .number) (encoded-is (resolved s) (addresses s) (s .lines) (places-length s tie) j r) ∙ ok .encoded (suc j) (omega arith) (omega arith)))
+    (ap (λ (x : Encoded). x .number) (encoded-is (resolved s) (addresses s) (s .lines) (places-length s) j r) ∙ ok .encoded (suc j) (omega arith) (omega arith)))
 
-pub sheet-not-otherwise : (s : Sheet) → CountedSheet s → (room : ℕ) → AcceptedSheet s room → sheetOutcome s room ≡ inOrder
-sheet-not-otherwise s tie room ok =
+pub sheet-not-otherwise : (s : Sheet) (room : ℕ) → AcceptedSheet s room → sheetOutcome s room ≡ inOrder
+sheet-not-otherwise s room ok =
     let stop = endOf (s .start) (wordCount s) in
     and-fine (sizing (s .lines)) _ (all-sized (s .lines) (ok .measured .sized))
     (and-fine (closing (s .start) (wordCount s) room) _
     (and-fine (require (leb stop (2 ^ 32)) 9) _ (require-is _ 9 (le-leb stop (2 ^ 32) (ok .measured .ends))) (require-is _ 11 (le-leb (wordCount s) room (ok .image))))
-    (all-encoded s tie room ok))
+    (all-encoded s room ok))
 
--- of a text
-pub not-otherwise : (text : List ℕ) (places room : ℕ) → AcceptedText text places room → outcomeOf text places room ≡ inOrder
-unfolding outcomeOf
-not-otherwise text places room ok =
-    let s = sheetIn text in
-    and-fine (opening text places) _
+-- of a text at a start
+pub not-otherwise : (text : List ℕ) (start places room : ℕ) → AcceptedText text start places room → outcomeAt text start places room ≡ inOrder
+unfolding outcomeAt
+not-otherwise text start places room ok =
+    let s = sheetAt start text in
+    and-fine (opening text start places) _
     (and-fine (require (isSheet text) 10) _ (require-is (isSheet text) 10 (ok .sheet))
-    (and-fine (startOutcome (startOf (startLine text))) _ (ap startOutcome (ok .start) ∙ require-is (eqb (s .start % 2) 0) 9 (eq-eqb (s .start % 2) 0 (ok .even)))
-    (require-is _ 11 (le-leb (lineCount s) places (ok .scratch)))))
-    (sheet-not-otherwise s (counted-text text) room (ok .lines))
+    (and-fine (require (isStart (startOf (startLine text))) 7) _ (require-is _ 7 (ap isStart (ok .form)))
+    (and-fine (require (eqb (start % 2) 0) 9) _ (require-is _ 9 (eq-eqb (start % 2) 0 (ok .even)))
+    (require-is _ 11 (le-leb (lineCount s) places (ok .scratch))))))
+    (sheet-not-otherwise s room (ok .lines))

@@ -23,7 +23,7 @@ use Rattle.sheet_kinds.specs.Few.{few}
 use Rattle.sheet_entries.specs.Made.{madeWith, namesLines}
 use Rattle.sheet_entries.specs.MadeLaws.{made-listed, made-zero, names-in}
 use Rattle.base_text.specs.LinesLaws.{lines-next}
-use Rattle.sheet_spec.specs.Made.{namesIn, judged, made}
+use Rattle.sheet_spec.specs.Made.{resolvesIn, judged, made}
 use Rattle.sheet_spec.specs.Sheet.{sizedAs, sizedOf, sizesOf, halfOf, total, encodedLine, encodedFrom, encodedWords, allWords}
 use Rattle.sheet_spec.specs.Translate.{andThen, inTurn, sizeOutcome, encodeOutcome, sizing, encoding, over}
 use Rattle.sheet_facts.specs.Listing.{over-length}
@@ -164,7 +164,7 @@ module _ (text : List ℕ) (from : ℕ) (addresses : List ℕ) where
 
   pub record Going (next k : ℕ) : Type 0 where
     pub left : length addresses ≡ k + length (parsedAt text next)
-    pub named : (j : ℕ) → j < length (parsedAt text next) → namesIn (listed addresses) (getD (parsedAt text next) j no) ≡ true
+    pub named : (j : ℕ) → j < length (parsedAt text next) → resolvesIn (listed addresses) (getD (parsedAt text next) j no) ≡ true
 
   going : Placed addresses (parsedAt text from) → Going from 0
   going p = record { left = omega (arith, p .lines); named = p .named }
@@ -184,7 +184,7 @@ module _ (text : List ℕ) (from : ℕ) (addresses : List ℕ) where
         }
 
     module _ (r : Encoded) (is : r ≡ lineEncoded addresses (lineOf (lineTo text next e)) (getD addresses k 0)) where
-      name-here : namesIn (listed addresses) (lineOf (lineTo text next e)) ≡ true
+      name-here : resolvesIn (listed addresses) (lineOf (lineTo text next e)) ≡ true
       name-here = (rw lines-here at (s .named)) 0 (omega arith)
 
       pub encoded-here : r ≡ encodedLine (getD addresses k 0) (made (listed addresses) (lineOf (lineTo text next e)))

@@ -7,7 +7,7 @@ use native.Mathlib.Omega.{arith}
 use lib.ListN.{length, length-take}
 use borrow.Author.Tests.{eq-eqb}
 use Rattle.sheet_spec.specs.Line.{Parsed}
-use Rattle.sheet_spec.specs.Made.{Made, makes, turnedBack, made, namesIn, ofLines}
+use Rattle.sheet_spec.specs.Made.{Made, makes, turnedBack, made, resolvesIn, ofLines}
 use Rattle.sheet_spec.specs.Sheet.{sizedAs, sizedOf, halfOf, total, addressesFrom, encodedLine, encodedWords}
 use Rattle.sheet_spec.specs.Translate.{inOrder, inTurn, sizeOutcome}
 use Rattle.sheet_facts.specs.Listing.{both-in-order, in-order-zero}
@@ -29,7 +29,7 @@ pub as-words : (m : Made) (a : ℕ) → length (encodedWords (encodedLine a m)) 
 as-words m a = omega (arith, as-places m a, as-most m a, length-take (encodedLine a m .count) (encodedLine a m .words))
 
 -- where its names have been looked at, it is the line encoded
-pub line-is : (addresses : List ℕ) (p : Parsed) (a : ℕ) → namesIn (listed addresses) p ≡ true → lineEncoded addresses p a ≡ encodedLine a (made (listed addresses) p)
+pub line-is : (addresses : List ℕ) (p : Parsed) (a : ℕ) → resolvesIn (listed addresses) p ≡ true → lineEncoded addresses p a ≡ encodedLine a (made (listed addresses) p)
 unfolding lineEncoded made
 line-is addresses p a h = rw h
 

@@ -11,7 +11,7 @@ use Rattle.isa.specs.declared.Measured.{Measured}
 use Rattle.isa.specs.declared.Encoded.{Encoded}
 use Rattle.base_spec.specs.Lines.{linesOf}
 use Rattle.sheet_spec.specs.Line.{Parsed, no, lineOf}
-use Rattle.sheet_spec.specs.Made.{namesIn, judged, builtAs, ofLines}
+use Rattle.sheet_spec.specs.Made.{resolvesIn, judged, builtAs, ofLines}
 use Rattle.sheet_spec.specs.Sheet.{halfOf, encodedLine, encodedFrom}
 use Rattle.sheet_spec.specs.Translate.{Outcome, inOrder, refused}
 use Rattle.sheet_passes.specs.declared.Passed.{Passed}
@@ -42,7 +42,7 @@ lineEncoded addresses p a = encodedLine a (judged (builtAs (listed addresses) p)
 pub record Placed (addresses : List ℕ) (ps : List Parsed) : Type 0 where
   pub few : length addresses ≤ 4096
   pub lines : length addresses ≡ length ps
-  pub named : (k : ℕ) → k < length ps → namesIn (listed addresses) (getD ps k no) ≡ true
+  pub named : (k : ℕ) → k < length ps → resolvesIn (listed addresses) (getD ps k no) ≡ true
 
 -- the lines encoded at these addresses
 abbrev pub encodedAt : List ℕ → List Parsed → List Encoded

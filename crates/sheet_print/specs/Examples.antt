@@ -4,7 +4,7 @@ use mathlib.Core.List.{[], _∷_}
 use lib.IntN.{negsuc}
 use Rattle.base_spec.specs.Written.{decimalOf}
 use Rattle.sheet_spec.specs.Names.{bytes}
-use Rattle.sheet_spec.specs.Translate.{outcomeOf}
+use Rattle.sheet_spec.specs.Translate.{outcomeAt}
 use Rattle.print_spec.specs.Printed.{lineText, sheetRefusal, printedOf}
 
 -- a line of one word, and one of two
@@ -18,5 +18,5 @@ refusal = refl
 
 -- START 4097 (01)
 odd : printedOf (bytes "START\t4097\nNOP\n") 4096 16384 ≡ bytes "refused\t9\t0\t0\t0\n"
-unfolding printedOf outcomeOf sheetRefusal decimalOf
+unfolding printedOf outcomeAt sheetRefusal decimalOf
 odd = refl

@@ -11,11 +11,11 @@ use borrow.Author.Tests.{le-leb, lt-leb}
 use Rattle.base_spec.specs.Written.{placed}
 use Rattle.base_text.specs.Wrote.{Wrote}
 use Rattle.sheet_spec.specs.declared.Listed.{Listed}
-use Rattle.sheet_spec.specs.Sheet.{isSheet, feeds, last, Sheet, sheetIn, lineCount, wordCount, lineAt, addresses, encoded, image}
-use Rattle.sheet_spec.specs.Translate.{Outcome, inOrder, refused, outcomeOf, listedOf, over, imageOf, scratchOf}
+use Rattle.sheet_spec.specs.Sheet.{isSheet, feeds, last, Sheet, startIn, sheetIn, lineCount, counts, wordCount, lineAt, addresses, encoded, image}
+use Rattle.sheet_spec.specs.Translate.{Outcome, inOrder, refused, outcomeAt, outcomeOf, listedOf, over, imageOf, scratchOf}
 use Rattle.sheet_size_facts.specs.Image.{Counts}
-use Rattle.sheet_size_facts.specs.Outcomes.{counted-text, accepted}
-use Rattle.sheet_size_facts.specs.Counted.{counts, image-counts}
+use Rattle.sheet_size_facts.specs.Outcomes.{counts-length, count-half, accepted}
+use Rattle.sheet_size_facts.specs.Counted.{line-counts, image-counts}
 use Rattle.sheet_facts.specs.SheetLaws.{count-most}
 use Rattle.sheet_facts.specs.Lines.{line-grammar}
 use Rattle.sheet_passes.specs.PassLaws.{counted-most}
@@ -31,20 +31,20 @@ module _ (text : List ℕ) (places room : ℕ) (e : outcomeOf text places room �
   abbrev S : Sheet
   S = sheetIn text
 
-  counted-words : Counts (S .counts) (encoded S)
-  counted-words = counts S (counted-text text) (line-grammar text) room (accepted text places room e .lines)
+  counted-words : Counts (counts S) (encoded S)
+  counted-words = line-counts S (line-grammar text) room (accepted text (startIn text) places room e .lines)
 
-  few-words : (k : ℕ) → k < length (S .counts) → getD (S .counts) k 0 ≤ 11
+  few-words : (k : ℕ) → k < length (counts S) → getD (counts S) k 0 ≤ 11
   few-words k h =
-      let q : suc k ≤ lineCount S = omega (arith, counted-text text .lines) in
-      omega (arith, counted-text text .each (suc k) (omega arith) q, counted-most (lineCount S) (lineAt S (suc k)))
+      let q : suc k ≤ lineCount S = omega (arith, counts-length S) in
+      omega (arith, count-half S (suc k) (omega arith) q, counted-most (lineCount S) (lineAt S (suc k)))
 
   listing-laid : Laid (addresses S) (image S)
-  listing-laid = laid (S .start) (S .counts) (encoded S) counted-words few-words
+  listing-laid = laid (S .start) (counts S) (encoded S) counted-words few-words
 
   listing-text : linesText 1 (addresses S) (image S) ≡ printedOf text places room
   unfolding printedOf listingOf
-  listing-text = rw e (listing-is 1 (S .start) (S .counts) (encoded S) counted-words)
+  listing-text = rw e (listing-is 1 (S .start) (counts S) (encoded S) counted-words)
 
 -- what is printed of an accepted sheet, from the scratch and the image that the translator leaves
 pub record Listable (scratch image : List ℕ) (lines words : ℕ) (printed : List ℕ) : Type 0 where
@@ -57,9 +57,9 @@ pub record Listable (scratch image : List ℕ) (lines words : ℕ) (printed : Li
 accepted-listable : (text v s : List ℕ) → outcomeOf text (length s) (length v) ≡ inOrder
     → Listable (over (addresses (sheetIn text)) s) (over (image (sheetIn text)) v) (lineCount (sheetIn text)) (wordCount (sheetIn text)) (printedOf text (length s) (length v))
 accepted-listable text v s e =
-    let a = accepted text (length s) (length v) e in
+    let a = accepted text (startIn text) (length s) (length v) e in
     let n = sheet-places text in
-    let m = image-counts text (length s) (length v) e in
+    let m = image-counts text (startIn text) (length s) (length v) e in
     let scratch = take-at (addresses (sheetIn text)) (drop (length (addresses (sheetIn text))) s) (lineCount (sheetIn text)) n in
     let image = take-at (image (sheetIn text)) (drop (length (image (sheetIn text))) v) (wordCount (sheetIn text)) m in
     record {
@@ -73,7 +73,7 @@ accepted-listable text v s e =
 module _ {text v s v′ s′ : List ℕ} {r : Listed} (t : Translated text v s v′ s′ r) where
   pub listable : r .number ≡ 0 → Listable s′ v′ (r .lines) (r .words) (printedOf text (length s) (length v))
   unfolding listedOf imageOf scratchOf
-  listable h = go (outcomeOf text (length s) (length v)) refl (outcome-sound text (length s) (length v))
+  listable h = go (outcomeOf text (length s) (length v)) refl (outcome-sound text (startIn text) (length s) (length v))
     where
       go : (w : Outcome) → outcomeOf text (length s) (length v) ≡ w → Sound w
           → Listable s′ v′ (r .lines) (r .words) (printedOf text (length s) (length v))
@@ -101,7 +101,7 @@ pub put-nothing : (t out : List ℕ) → length out < 282624 → Put t out out n
 put-nothing t out h = let e = lt-leb 282624 (length out) h in record { answer = rw e; buffer = rw e }
 
 pub printed-wide : (text v s out v′ s′ out′ : List ℕ) (n : ℕ) → 282624 ≤ length out
-    → (n ≡ length (printedOf text (length s) (length v))) × (out′ ≡ placed out 0 (printedOf text (length s) (length v))) → v′ ≡ imageOf text s v → s′ ≡ scratchOf text s v
+    → (n ≡ length (printedOf text (length s) (length v))) × (out′ ≡ placed out 0 (printedOf text (length s) (length v))) → v′ ≡ imageOf text (length s) v → s′ ≡ scratchOf text s v
     → Printed text v s out v′ s′ out′ (wideBy n)
 printed-wide text v s out v′ s′ out′ n h p i q =
     let e = le-leb 282624 (length out) h in
@@ -121,5 +121,5 @@ sheet-long text h = rw (lt-leb (length text) 65536 h) (long (leb 1 (length text)
     long false = refl
 
 pub long-refused : (text : List ℕ) (places room : ℕ) → 65536 < length text → printedOf text places room ≡ tooLongSheet
-unfolding printedOf outcomeOf
+unfolding printedOf outcomeAt
 long-refused text places room h = rw (sheet-long text h)

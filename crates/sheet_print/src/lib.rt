@@ -88,7 +88,7 @@ fn put_refusal(out: &mut [u8], number: u8, line: usize, detail: u8, value: i64) 
 fn print_wide(text: &[u8], image: &mut [u16], scratch: &mut [u32], out: &mut [u8]) -> usize
     requires { ⌜ 282624 ≤ length (now out) ⌝ }
     ensures { λ r. ⌜ (r ≡ length (printedOf (now (text .entry)) (length (now (scratch .entry))) (length (now (image .entry))))) × (now (out .exit) ≡ placed (now (out .entry)) 0 (printedOf (now (text .entry)) (length (now (scratch .entry))) (length (now (image .entry))))) × (r ≤ 282624) ⌝ }
-    ensures { λ r. ⌜ (now (image .exit) ≡ imageOf (now (text .entry)) (now (scratch .entry)) (now (image .entry))) × (now (scratch .exit) ≡ scratchOf (now (text .entry)) (now (scratch .entry)) (now (image .entry))) ⌝ }
+    ensures { λ r. ⌜ (now (image .exit) ≡ imageOf (now (text .entry)) (length (now (scratch .entry))) (now (image .entry))) × (now (scratch .exit) ≡ scratchOf (now (text .entry)) (now (scratch .entry)) (now (image .entry))) ⌝ }
 {
     let r = sheet_translate::translate(text, image, scratch);
     if r.number == 0 {

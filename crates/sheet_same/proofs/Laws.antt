@@ -9,9 +9,9 @@ use lib.ListN.{length, take, getD, length-take}
 use borrow.Author.Tests.{eqb-true, ne-eqb}
 use Rattle.sheet_spec.specs.Line.{equal}
 use Rattle.sheet_spec.specs.declared.Listed.{Listed}
-use Rattle.sheet_spec.specs.Sheet.{sheetIn, lineCount, wordCount, image}
-use Rattle.sheet_spec.specs.Translate.{Outcome, inOrder, refused, outcomeOf, listedAs, listedOf, imageAs, imageOf, scratchOf, isInOrder, same}
-use Rattle.sheet_size_facts.specs.Outcomes.{counted-text, accepted}
+use Rattle.sheet_spec.specs.Sheet.{startIn, sheetIn, lineCount, wordCount, image}
+use Rattle.sheet_spec.specs.Translate.{Outcome, inOrder, refused, outcomeOf, listedAs, listedOf, imageOf, scratchOf, isInOrder, sameAt, same}
+use Rattle.sheet_size_facts.specs.Outcomes.{accepted}
 use Rattle.sheet_facts.specs.SheetLaws.{count-some}
 use Rattle.sheet_size_facts.specs.Bounds.{address-is}
 use Rattle.sheet_spec.specs.Promises.{Translated}
@@ -27,7 +27,7 @@ fine-number (refused number line detail value) s lines words = ne-eqb number 0 s
 -- ---- one sheet translated with room enough
 module _ (text v s v′ s′ : List ℕ) (r : Listed) (t : Translated text v s v′ s′ r) where
   pub fits : r .words ≤ length v′
-  fits = omega (arith, ap (λ (x : Listed). x .words) (t .listed), words-fit text (length s) (length v), ap length (t .image), image-length text s v)
+  fits = omega (arith, ap (λ (x : Listed). x .words) (t .listed), words-fit text (length s) (length v), ap length (t .image), image-length text (length s) v)
 
   pub lent : r .words ≡ length (take (r .words) v′)
   lent = rw length-take (omega (arith, fits))
@@ -38,14 +38,14 @@ module _ (text v s v′ s′ : List ℕ) (r : Listed) (t : Translated text v s v
   start-left : r .number ≡ 0 → getD s′ 0 0 ≡ sheetIn text .start
   start-left h =
       let l = left text v s v′ s′ r t h in
-      let some = count-some text (accepted text (length s) (length v) (l .accepts) .sheet) in
-      omega (arith, l .addresses 1 (omega arith) (omega arith), address-is (sheetIn text) (counted-text text) 1 (omega arith) some)
+      let some = count-some text (accepted text (startIn text) (length s) (length v) (l .accepts) .sheet) in
+      omega (arith, l .addresses 1 (omega arith) (omega arith), address-is (sheetIn text) 1 (omega arith) some)
 
   judged : 4096 ≡ length s → 45056 ≡ length v → eqb (r .number) 0 ≡ isInOrder (outcomeOf text 4096 45056)
   unfolding listedOf
   judged h g =
       ap (λ (x : Listed). eqb (x .number) 0) (t .listed)
-      ∙ fine-number (outcomeOf text (length s) (length v)) (outcome-sound text (length s) (length v)) (lineCount (sheetIn text)) (wordCount (sheetIn text))
+      ∙ fine-number (outcomeOf text (length s) (length v)) (outcome-sound text (startIn text) (length s) (length v)) (lineCount (sheetIn text)) (wordCount (sheetIn text))
       ∙ ap (λ (k : ℕ). isInOrder (outcomeOf text k (length v))) (sym h)
       ∙ ap (λ (k : ℕ). isInOrder (outcomeOf text 4096 k)) (sym g)
 
@@ -58,7 +58,7 @@ both false y a b c d f = refl
 module _ (f g v w s : List ℕ) (h : (4096 ≡ length s) × (45056 ≡ length v) × (45056 ≡ length w))
     (v′ s₁ : List ℕ) (a : Listed) (t : Translated f v s v′ s₁ a) (w′ s₂ : List ℕ) (b : Listed) (u : Translated g w s₁ w′ s₂ b) where
   compared : eqb (a .number) 0 && eqb (b .number) 0 && eqb (getD s₁ 0 0) (getD s₂ 0 0) && equal (take (a .words) v′) (take (b .words) w′) ≡ same f g
-  unfolding same
+  unfolding sameAt
   compared =
       let x = judged f v s v′ s₁ a t (h .0) (h .1) in
       let y = judged g w s₁ w′ s₂ b u (h .0 ∙ sym (keeps f v s v′ s₁ a t)) (h .2) in
@@ -76,12 +76,11 @@ module _ (f g v w s : List ℕ) (h : (4096 ≡ length s) × (45056 ≡ length v)
           )
 
   pub comparison : (q : Bool) → q ≡ equal (take (a .words) v′) (take (b .words) w′)
-      → (eqb (a .number) 0 && eqb (b .number) 0 && eqb (getD s₁ 0 0) (getD s₂ 0 0) && q ≡ same f g) × (v′ ≡ imageOf f s v) × (w′ ≡ imageOf g s w)
+      → (eqb (a .number) 0 && eqb (b .number) 0 && eqb (getD s₁ 0 0) (getD s₂ 0 0) && q ≡ same f g) × (v′ ≡ imageOf f (length s) v) × (w′ ≡ imageOf g (length s) w)
       × (s₂ ≡ scratchOf g (scratchOf f s v) w)
-  unfolding imageOf
   comparison q e = (
     rw e compared,
     t .image,
-    u .image ∙ ap (λ (k : ℕ). imageAs (outcomeOf g k (length w)) (image (sheetIn g)) w) (keeps f v s v′ s₁ a t),
+    u .image ∙ ap (λ (k : ℕ). imageOf g k w) (keeps f v s v′ s₁ a t),
     u .scratch ∙ ap (λ (l : List ℕ). scratchOf g l w) (t .scratch),
   )

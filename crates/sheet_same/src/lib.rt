@@ -31,8 +31,8 @@ fn compare(
 ) -> bool
     requires { ⌜ (4096 ≡ length (now scratch)) × (45056 ≡ length (now «first_image»)) × (45056 ≡ length (now «second_image»)) ⌝ }
     ensures { λ r. ⌜ (r ≡ sheets.same (now (first .entry)) (now (second .entry)))
-        × (now («first_image» .exit) ≡ imageOf (now (first .entry)) (now (scratch .entry)) (now («first_image» .entry)))
-        × (now («second_image» .exit) ≡ imageOf (now (second .entry)) (now (scratch .entry)) (now («second_image» .entry)))
+        × (now («first_image» .exit) ≡ imageOf (now (first .entry)) (length (now (scratch .entry))) (now («first_image» .entry)))
+        × (now («second_image» .exit) ≡ imageOf (now (second .entry)) (length (now (scratch .entry))) (now («second_image» .entry)))
         × (now (scratch .exit) ≡ scratchOf (now (second .entry)) (scratchOf (now (first .entry)) (now (scratch .entry)) (now («first_image» .entry))) (now («second_image» .entry))) ⌝ }
 {
     let a = sheet_translate::translate(first, first_image, scratch);

@@ -8,9 +8,10 @@ use lib.ListN.{take}
 use borrow.Author.Tests.{leb-true}
 use Rattle.encode_spec.specs.Encode.{sizeOf}
 use Rattle.base_facts.specs.Tests.{and-true}
-use Rattle.sheet_spec.specs.Sheet.{total, sizedOf, halfOf, Sheet, lineCount, lineAt, countAt, addressAt}
-use Rattle.sheet_spec.specs.Promises.{CountedSheet, InGrammar, MeasuredSheet}
+use Rattle.sheet_spec.specs.Sheet.{total, sizedOf, halfOf, Sheet, lineCount, counts, lineAt, countOfLine, addressOfLine}
+use Rattle.sheet_spec.specs.Promises.{InGrammar, MeasuredSheet}
 use Rattle.sheet_size_facts.specs.Image.{addresses-are, total-part, total-some}
+use Rattle.sheet_size_facts.specs.Outcomes.{counts-length, count-half}
 use Rattle.sheet_size_facts.specs.Turned.{Bounded}
 use Rattle.sheet_size_facts.specs.Made.{LineMade, line-made}
 use Rattle.m68k_encode.specs.Sizes.{size-least}
@@ -24,32 +25,32 @@ up-to n k e = let b = and-true (leb 1 k) (leb k n) e in (leb-true 1 k (b .0), le
 
 -- the words before line n
 abbrev pub before : Sheet → ℕ → ℕ
-before s n = total (take (pred n) (s .counts))
+before s n = total (take (pred n) (counts s))
 
-module _ (s : Sheet) (tie : CountedSheet s) where
-  pub address-is : (n : ℕ) → 1 ≤ n → n ≤ lineCount s → addressAt s n ≡ s .start + 2 * before s n
-  address-is n h g = addresses-are (s .start) (s .counts) (pred n) (omega (arith, tie .lines))
+module _ (s : Sheet) where
+  pub address-is : (n : ℕ) → 1 ≤ n → n ≤ lineCount s → addressOfLine s n ≡ s .start + 2 * before s n
+  address-is n h g = addresses-are (s .start) (counts s) (pred n) (omega (arith, counts-length s))
 
   module _ (grammar : (n : ℕ) → InGrammar (lineAt s n)) (ok : MeasuredSheet s) where
     pub line-at : (n : ℕ) → 1 ≤ n → n ≤ lineCount s → LineMade (upTo (lineCount s)) (lineAt s n)
     unfolding sizedOf
     line-at n h g = line-made (upTo (lineCount s)) (lineAt s n) (grammar n) (ok .sized n h g)
 
-    pub count-size : (n : ℕ) (h : 1 ≤ n) (g : n ≤ lineCount s) → countAt s n ≡ halfOf (sizeOf (line-at n h g .first))
+    pub count-size : (n : ℕ) (h : 1 ≤ n) (g : n ≤ lineCount s) → countOfLine s n ≡ halfOf (sizeOf (line-at n h g .first))
     unfolding sizedOf
-    count-size n h g = tie .each n h g ∙ ap halfOf (line-at n h g .measured)
+    count-size n h g = count-half s n h g ∙ ap halfOf (line-at n h g .measured)
 
-    pub count-some : (n : ℕ) → 1 ≤ n → n ≤ lineCount s → 1 ≤ countAt s n
+    pub count-some : (n : ℕ) → 1 ≤ n → n ≤ lineCount s → 1 ≤ countOfLine s n
     count-some n h g = omega (arith, count-size n h g, size-least (line-at n h g .first) (line-at n h g .number))
 
     -- names are made numbers of 32 bits
     pub names-bounded : Bounded (upTo (lineCount s)) (λ k. k)
     names-bounded k e =
         let u = up-to (lineCount s) k e in
-        omega (arith, u .0, u .1, ok .ends, tie .lines, total-some (s .counts) (λ j q. count-some (suc j) (omega arith) (omega (arith, tie .lines))))
+        omega (arith, u .0, u .1, ok .ends, counts-length s, total-some (counts s) (λ j q. count-some (suc j) (omega arith) (omega (arith, counts-length s))))
 
-    pub address-low : (n : ℕ) → 1 ≤ n → n ≤ lineCount s → addressAt s n < 2 ^ 32
-    address-low n h g = omega (arith, ok .ends, count-some n h g, address-is n h g, total-part (s .counts) (pred n) (omega (arith, tie .lines)))
+    pub address-low : (n : ℕ) → 1 ≤ n → n ≤ lineCount s → addressOfLine s n < 2 ^ 32
+    address-low n h g = omega (arith, ok .ends, count-some n h g, address-is n h g, total-part (counts s) (pred n) (omega (arith, counts-length s)))
 
-    pub addresses-bounded : Bounded (upTo (lineCount s)) (addressAt s)
+    pub addresses-bounded : Bounded (upTo (lineCount s)) (addressOfLine s)
     addresses-bounded k e = let u = up-to (lineCount s) k e in address-low k (u .0) (u .1)

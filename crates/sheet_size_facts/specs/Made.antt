@@ -10,7 +10,7 @@ use Rattle.encode_spec.specs.Encode.{sizeOf}
 use Rattle.numeric_spec.specs.Form.{formOf, numbersOf}
 use Rattle.sheet_spec.specs.Line.{Token, literal, label, invalid, Parsed, says}
 use Rattle.sheet_spec.specs.Spell.{SuitAll}
-use Rattle.sheet_spec.specs.Made.{numberAs, isSome, names, namesAll, Line, Made, makes, turnedBack, made}
+use Rattle.sheet_spec.specs.Made.{numberAs, isSome, resolves, resolvesAll, Line, Made, makes, turnedBack, made}
 use Rattle.sheet_spec.specs.Sheet.{sizedAs}
 use Rattle.sheet_spec.specs.Promises.{InGrammar}
 use Rattle.sheet_facts.specs.Made.{made-back}
@@ -37,12 +37,12 @@ some-either : (b : Bool) (m n : ℕ) → isSome (cond b (some m) none) ≡ isSom
 some-either true m n = refl
 some-either false m n = refl
 
-names-either : (d : ℕ → Bool) (f g : ℕ → ℕ) (v : Token) → names (given d f) v ≡ names (given d g) v
+names-either : (d : ℕ → Bool) (f g : ℕ → ℕ) (v : Token) → resolves (given d f) v ≡ resolves (given d g) v
 names-either d f g (literal s n) = refl
 names-either d f g (label n) = some-either (d n) (f n) (g n)
 names-either d f g invalid = refl
 
-pub names-all : (d : ℕ → Bool) (f g : ℕ → ℕ) (vs : List Token) → namesAll (given d f) vs ≡ namesAll (given d g) vs
+pub names-all : (d : ℕ → Bool) (f g : ℕ → ℕ) (vs : List Token) → resolvesAll (given d f) vs ≡ resolvesAll (given d g) vs
 names-all d f g [] = refl
 names-all d f g (v ∷ vs) = λ i. names-either d f g v i && names-all d f g vs i
 

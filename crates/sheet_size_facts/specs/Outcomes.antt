@@ -1,6 +1,7 @@
 -- What an accepted sheet is: every place of 01's table in order.
 use Prim.Native.Nat.{ℕ, zero, suc, pred, _+_, _%_, _^_, _≤_, _<_}
 use mathlib.Core.Path.{_≡_, refl, sym, ap, _∙_}
+use mathlib.Core.Bool.{true, false≢true}
 use mathlib.Core.List.{List, [], _∷_, map}
 use native.Mathlib.Omega.{arith}
 use lib.Dec.{leb, eqb}
@@ -9,16 +10,16 @@ use borrow.Author.Tests.{eqb-true, leb-true}
 use Rattle.isa.specs.declared.Measured.{Measured}
 use Rattle.isa.specs.declared.Encoded.{Encoded}
 use Rattle.sheet_spec.specs.Line.{Parsed, no}
-use Rattle.sheet_spec.specs.Sheet.{isSheet, startLine, Start, at, notInForm, startOf, startNumber, sizedOf, sizesOf, halfOf, Sheet, sheetAt, sheetIn, lineCount, wordCount, endOf, addresses, resolved, encoded}
-use Rattle.sheet_spec.specs.Translate.{Outcome, inOrder, require, inTurn, sizeOutcome, encodeOutcome, startOutcome, opening, sizing, closing, encoding, sheetOutcome, outcomeOf}
-use Rattle.sheet_spec.specs.Promises.{CountedSheet, AcceptedSheet, AcceptedText}
-use Rattle.sheet_facts.specs.Listing.{refused-not, both-in-order, require-true, in-order-zero}
+use Rattle.sheet_spec.specs.Sheet.{isSheet, startLine, Start, at, notInForm, startOf, startNumber, sizedOf, sizesOf, halfOf, Sheet, sheetAt, lineCount, counts, wordCount, endOf, addresses, lineAt, countOfLine, resolved, encoded}
+use Rattle.sheet_spec.specs.Translate.{Outcome, inOrder, require, inTurn, sizeOutcome, encodeOutcome, isStart, opening, sizing, closing, encoding, sheetOutcome, outcomeAt}
+use Rattle.sheet_spec.specs.Promises.{AcceptedSheet, AcceptedText}
+use Rattle.sheet_facts.specs.Listing.{both-in-order, require-true, in-order-zero}
 use Rattle.sheet_size_facts.specs.Image.{addresses-length, noWords, encoded-length, encoded-is}
 
 -- ---- START
-start-even : (s : Start) → startOutcome s ≡ inOrder → (s ≡ at (startNumber s)) × (startNumber s % 2 ≡ 0)
-start-even (at n) e = (refl, eqb-true (n % 2) 0 (require-true (eqb (n % 2) 0) 9 e))
-start-even notInForm e = refused-not e
+start-form : (s : Start) → isStart s ≡ true → s ≡ at (startNumber s)
+start-form (at n) e = refl
+start-form notInForm e = absurd (false≢true e)
 
 -- ---- each line in turn
 pub each-in-order : {A : Type 0} (says : ℕ → A → Outcome) (k : ℕ) (xs : List A) → inTurn says k xs ≡ inOrder → (d : A) (j : ℕ) → j < length xs → says (k + j) (getD xs j d) ≡ inOrder
@@ -35,22 +36,19 @@ map-at f [] k a b h = absurd (omega arith)
 map-at f (x ∷ xs) zero a b h = refl
 map-at f (x ∷ xs) (suc k) a b h = map-at f xs k a b (omega arith)
 
--- ---- a sheet whose lines count half of their sizes
-pub counted-sheet : (start : ℕ) (ps : List Parsed) → CountedSheet (sheetAt start ps)
-counted-sheet start ps =
-    let d = sizedOf (length ps) no in
-    let l = length-map ps (sizedOf (length ps)) in
-    record {
-      lines = length-map (sizesOf ps) halfOf ∙ l;
-      each = λ n h g. map-at halfOf (sizesOf ps) (pred n) d 0 (omega (arith, l)) ∙ ap halfOf (map-at (sizedOf (length ps)) ps (pred n) no d (omega arith));
-    }
+-- ---- what the lines count
+module _ (s : Sheet) where
+  pub counts-length : length (counts s) ≡ lineCount s
+  counts-length = length-map (sizesOf (s .lines)) halfOf ∙ length-map (s .lines) (sizedOf (lineCount s))
 
-pub counted-text : (text : List ℕ) → CountedSheet (sheetIn text)
-counted-text text = counted-sheet (sheetIn text .start) (sheetIn text .lines)
+  pub count-half : (n : ℕ) → 1 ≤ n → n ≤ lineCount s → countOfLine s n ≡ halfOf (sizedOf (lineCount s) (lineAt s n))
+  count-half n h g =
+      let d = sizedOf (lineCount s) no in
+      map-at halfOf (sizesOf (s .lines)) (pred n) d 0 (omega (arith, length-map (s .lines) (sizedOf (lineCount s))))
+      ∙ ap halfOf (map-at (sizedOf (lineCount s)) (s .lines) (pred n) no d (omega arith))
 
-module _ (s : Sheet) (tie : CountedSheet s) where
   pub places-length : length (addresses s) ≡ lineCount s
-  places-length = addresses-length (s .start) (s .counts) ∙ tie .lines
+  places-length = addresses-length (s .start) (counts s) ∙ counts-length
 
   pub lines-length : length (encoded s) ≡ lineCount s
   lines-length = encoded-length (resolved s) (addresses s) (s .lines) places-length
@@ -64,29 +62,29 @@ sizing-each ps e n h g =
     let z = in-order-zero _ (getD (sizesOf ps) (pred n) (sizedOf (length ps) no) .number) _ _ m in
     sym (ap (λ (x : Measured). x .number) (map-at (sizedOf (length ps)) ps (pred n) no (sizedOf (length ps) no) (omega arith))) ∙ z
 
-pub accepted-sheet : (s : Sheet) → CountedSheet s → (room : ℕ) → sheetOutcome s room ≡ inOrder → AcceptedSheet s room
-accepted-sheet s tie room e =
+pub accepted-sheet : (s : Sheet) (room : ℕ) → sheetOutcome s room ≡ inOrder → AcceptedSheet s room
+accepted-sheet s room e =
     let a = both-in-order (sizing (s .lines)) _ e in
     let b = both-in-order (closing (s .start) (wordCount s) room) _ (a .1) in
     let c = both-in-order (require (leb (endOf (s .start) (wordCount s)) (2 ^ 32)) 9) _ (b .0) in
     record {
       measured = record { sized = sizing-each (s .lines) (a .0); ends = leb-true (endOf (s .start) (wordCount s)) (2 ^ 32) (require-true _ 9 (c .0)) };
       image = leb-true (wordCount s) room (require-true _ 11 (c .1));
-      encoded = λ n h g. sym (ap (λ (x : Encoded). x .number) (encoded-is (resolved s) (addresses s) (s .lines) (places-length s tie) (pred n) (omega arith))) ∙ encoding-each s tie (b .1) n h g;
+      encoded = λ n h g. sym (ap (λ (x : Encoded). x .number) (encoded-is (resolved s) (addresses s) (s .lines) (places-length s) (pred n) (omega arith))) ∙ encoding-each s (b .1) n h g;
     }
 
 -- ---- a text
-pub accepted : (text : List ℕ) (places room : ℕ) → outcomeOf text places room ≡ inOrder → AcceptedText text places room
-unfolding outcomeOf
-accepted text places room e =
-    let o = both-in-order (opening text places) _ e in
+pub accepted : (text : List ℕ) (start places room : ℕ) → outcomeAt text start places room ≡ inOrder → AcceptedText text start places room
+unfolding outcomeAt
+accepted text start places room e =
+    let o = both-in-order (opening text start places) _ e in
     let a = both-in-order (require (isSheet text) 10) _ (o .0) in
-    let b = both-in-order (startOutcome (startOf (startLine text))) _ (a .1) in
-    let t = start-even (startOf (startLine text)) (b .0) in
+    let b = both-in-order (require (isStart (startOf (startLine text))) 7) _ (a .1) in
+    let c = both-in-order (require (eqb (start % 2) 0) 9) _ (b .1) in
     record {
       sheet = require-true (isSheet text) 10 (a .0);
-      start = t .0;
-      even = t .1;
-      scratch = leb-true (lineCount (sheetIn text)) places (require-true _ 11 (b .1));
-      lines = accepted-sheet (sheetIn text) (counted-text text) room (o .1);
+      form = start-form (startOf (startLine text)) (require-true _ 7 (b .0));
+      even = eqb-true (start % 2) 0 (require-true _ 9 (c .0));
+      scratch = leb-true (lineCount (sheetAt start text)) places (require-true _ 11 (c .1));
+      lines = accepted-sheet (sheetAt start text) room (o .1);
     }

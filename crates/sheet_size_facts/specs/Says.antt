@@ -16,7 +16,7 @@ use Rattle.sheet_spec.specs.declared.Kind.the-variants as kind
 use Rattle.sheet_spec.specs.Names.{bytes, namesOf}
 use Rattle.sheet_spec.specs.Line.{Token, literal, label, invalid, Parsed, says, no}
 use Rattle.sheet_spec.specs.Spell.{Variant}
-use Rattle.sheet_spec.specs.Made.{numberAs, namesAll, Line, makes, judged, made}
+use Rattle.sheet_spec.specs.Made.{numberAs, resolvesAll, Line, makes, judged, made}
 use Rattle.sheet_spec.specs.Promises.{InGrammar}
 use Rattle.sheet_facts.specs.Made.{turned-not, judged-makes}
 
@@ -28,7 +28,7 @@ entries i = unsigned 98 (placeOf i) ∷ payloadOf i
 pub line-says : (f : ℕ → Option ℕ) (p : Parsed) (i : Instruction) → InGrammar p → made f p ≡ makes i → (vs : List Token) × (p ≡ says vs) × Line f vs i
 unfolding made
 line-says f (says vs) i g e =
-    let j = judged-makes (builtOf (map (numberAs f) vs)) (namesAll f vs) i e in
+    let j = judged-makes (builtOf (map (numberAs f) vs)) (resolvesAll f vs) i e in
     let b = build-sound (map (numberAs f) vs) i (j .0) in
     (vs, refl, record { grammar = g; labels = j .1; numbers = b .0; inside = b .1 })
 line-says f no i g e = turned-not e

@@ -18,7 +18,7 @@ use Rattle.sheet_spec.specs.Names.{bytes, namesOf}
 use Rattle.sheet_spec.specs.Grammar.{kindsOf}
 use Rattle.sheet_spec.specs.Line.{Token, literal, label, invalid}
 use Rattle.sheet_spec.specs.Spell.{Suits, Variant, nextKinds}
-use Rattle.sheet_spec.specs.Made.{numberAs, isSome, names, namesAll}
+use Rattle.sheet_spec.specs.Made.{numberAs, isSome, resolves, resolvesAll}
 use Rattle.sheet_size_facts.specs.Turned.{every, given, Input, Turned, Turn, head-is, tail-is}
 use Rattle.numeric_facts.specs.Exact.{inside-both, inside-parts}
 use Rattle.sheet_size_facts.specs.Fitting.{Fitting}
@@ -91,7 +91,7 @@ token-turned : {d : ℕ → Bool} {X : Type 0} {P : ((ℕ → ℕ) → X) → Ty
 token-turned e x p k b m c ks vs es h i =
     record {
       rest = vs;
-      left = record { fits = rw c at (h .fits .1); labels = and-true true (namesAll _ vs) (h .labels) .1; zeros = tail-is (h .zeros) };
+      left = record { fits = rw c at (h .fits .1); labels = and-true true (resolvesAll _ vs) (h .labels) .1; zeros = tail-is (h .zeros) };
       made = λ f. x;
       good = p;
       spells = λ f l us q. ap₂ _∷_ (same-number f b m ∙ head-is (h .zeros)) q;
@@ -150,7 +150,7 @@ pub aim-turned : {d : ℕ → Bool} {A : ((ℕ → ℕ) → ℕ) → Type 0} (k 
 aim-turned k s t x p q ks [] es h i = absurd (h .fits)
 aim-turned k s t x p q ks (literal b m ∷ vs) es h i = token-turned (λ z. unsigned (2 ^ 32 - 1) z) x (λ f. refl, p b m (h .fits .0)) k b m (s m) ks vs es h i
 aim-turned {d} k s t x p q ks (label m ∷ vs) es h i =
-    let g = and-true (names (given d (λ k. 0)) (label m)) (namesAll (given d (λ k. 0)) vs) (h .labels) in
+    let g = and-true (resolves (given d (λ k. 0)) (label m)) (resolvesAll (given d (λ k. 0)) vs) (h .labels) in
     let l = given-some (d m) 0 (g .0) in
     record {
       rest = vs;
@@ -207,7 +207,7 @@ chosen {d} k v top p s con z l ks (literal false m ∷ vs) es h i =
     let e = h .zeros in
     let q : m ≡ p = cc in
     let t = l (rw q at (v (literal false m) (h .fits .0))) in
-    let a = s .turn z ks vs es (record { fits = rw (q, t .0) at (h .fits .1); labels = and-true true (namesAll (given d (λ k. 0)) vs) (h .labels) .1; zeros = tail-is e }) (i .1) in
+    let a = s .turn z ks vs es (record { fits = rw (q, t .0) at (h .fits .1); labels = and-true true (resolvesAll (given d (λ k. 0)) vs) (h .labels) .1; zeros = tail-is e }) (i .1) in
     record {
       rest = a .rest;
       left = a .left;

@@ -9,7 +9,7 @@ use Rattle.numeric_spec.specs.Entry.{Entry, entryNumber, Inside}
 use Rattle.sheet_spec.specs.declared.Kind.{Kind}
 use Rattle.sheet_spec.specs.Line.{Token}
 use Rattle.sheet_spec.specs.Spell.{SuitAll}
-use Rattle.sheet_spec.specs.Made.{numberAs, namesAll}
+use Rattle.sheet_spec.specs.Made.{numberAs, resolvesAll}
 
 -- every name made what f says, and the names of d alone
 abbrev pub every : (ℕ → ℕ) → ℕ → Option ℕ
@@ -35,7 +35,7 @@ Bounded d f = (k : ℕ) → d k ≡ true → f k < 2 ^ 32
 -- fields in the grammar that name lines, and the entries that they spell where names are 0
 pub record Input (d : ℕ → Bool) (ks : List Kind) (vs : List Token) (es : List Entry) : Type 0 where
   pub fits : SuitAll ks vs
-  pub labels : namesAll (given d (λ k. 0)) vs ≡ true
+  pub labels : resolvesAll (given d (λ k. 0)) vs ≡ true
   pub zeros : Spelt (λ k. 0) vs es
 
 -- a value in front, whatever names are made, and what is left of the fields

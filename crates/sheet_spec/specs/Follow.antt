@@ -22,7 +22,7 @@ use Rattle.read_spec.specs.Plain.{plain}
 use Rattle.read_spec.specs.Read.{readOf}
 use Rattle.sheet_spec.specs.Line.{Token, says}
 use Rattle.sheet_spec.specs.Made.{Line, Made, makes, turnedBack, made, ofLines}
-use Rattle.sheet_spec.specs.Sheet.{Sheet, lineCount, endOf, lineAt, countAt, addressAt, resolved}
+use Rattle.sheet_spec.specs.Sheet.{Sheet, lineCount, endOf, lineAt, countOfLine, addressOfLine, resolved}
 
 -- where an instruction in plain form goes: on to what stands after it, to a target, to a target if taken and else on, or nowhere
 pub data Next : Type 0 where
@@ -189,9 +189,9 @@ pub record Reads (s : Sheet) (v : List ℕ) (n : ℕ) : Type 0 where
   pub instruction : Instruction
   pub parsed : lineAt s n ≡ says tokens
   pub line : Line (resolved s) tokens instruction
-  pub reads : readingAt (s .start) v (addressAt s n) ≡ Read (plain instruction) (2 * countAt s n)
+  pub reads : readingAt (s .start) v (addressOfLine s n) ≡ Read (plain instruction) (2 * countOfLine s n)
 
 -- both have ended; or the image is at the address of the line where the sheet is, and reads there as that line's plain form
 pub data Together (s : Sheet) (v : List ℕ) : Place → Place → Type 0 where
   both-ended : Together s v ended ended
-  both-at : (n : ℕ) → 1 ≤ n → n ≤ lineCount s → Reads s v n → Together s v (at n) (at (addressAt s n))
+  both-at : (n : ℕ) → 1 ≤ n → n ≤ lineCount s → Reads s v n → Together s v (at n) (at (addressOfLine s n))

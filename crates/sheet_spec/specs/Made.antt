@@ -28,19 +28,19 @@ abbrev pub isSome : Option ℕ → Bool
 isSome none = false
 isSome (some n) = true
 
-abbrev pub names : (ℕ → Option ℕ) → Token → Bool
-names f (literal negative n) = true
-names f (label n) = isSome (f n)
-names f invalid = true
+abbrev pub resolves : (ℕ → Option ℕ) → Token → Bool
+resolves f (literal negative n) = true
+resolves f (label n) = isSome (f n)
+resolves f invalid = true
 
-abbrev pub namesAll : (ℕ → Option ℕ) → List Token → Bool
-namesAll f [] = true
-namesAll f (v ∷ vs) = names f v && namesAll f vs
+abbrev pub resolvesAll : (ℕ → Option ℕ) → List Token → Bool
+resolvesAll f [] = true
+resolvesAll f (v ∷ vs) = resolves f v && resolvesAll f vs
 
 -- a line of an instruction: the tokens are in the grammar, their labels name lines, and their numbers, inside their types, are the instruction's
 pub record Line (f : ℕ → Option ℕ) (vs : List Token) (i : Instruction) : Type 0 where
   pub grammar : SuitAll (kind.Instruction ∷ []) vs
-  pub labels : namesAll f vs ≡ true
+  pub labels : resolvesAll f vs ≡ true
   pub numbers : map (numberAs f) vs ≡ numbersOf i
   pub inside : Inside (formOf i)
 
@@ -58,12 +58,12 @@ abbrev pub builtAs : (ℕ → Option ℕ) → Parsed → Built
 builtAs f (says vs) = builtOf (map (numberAs f) vs)
 builtAs f no = built.NotInForm
 
-abbrev pub namesIn : (ℕ → Option ℕ) → Parsed → Bool
-namesIn f (says vs) = namesAll f vs
-namesIn f no = true
+abbrev pub resolvesIn : (ℕ → Option ℕ) → Parsed → Bool
+resolvesIn f (says vs) = resolvesAll f vs
+resolvesIn f no = true
 
 unfoldable pub made : (ℕ → Option ℕ) → Parsed → Made
-made f p = judged (builtAs f p) (namesIn f p)
+made f p = judged (builtAs f p) (resolvesIn f p)
 
 -- each of n lines made what g says, and no other
 abbrev pub ofLines : ℕ → (ℕ → ℕ) → ℕ → Option ℕ

@@ -12,8 +12,8 @@ use Rattle.sheet_spec.specs.declared.Kind.the-variants as kind
 use Rattle.sheet_spec.specs.Line.{Parsed, says, no}
 use Rattle.sheet_spec.specs.Spell.{SuitAll, spell}
 use Rattle.sheet_spec.specs.Made.{made}
-use Rattle.sheet_spec.specs.Sheet.{isSheet, startLine, instructionLines, at, startOf, sizedOf, halfOf, Sheet, sheetIn, lineCount, wordCount, endOf, lineAt, countAt, addressAt, resolved, encodedLine, encodedWords, image}
-use Rattle.sheet_spec.specs.Translate.{inOrder, outcomeOf, listedOf, imageOf, scratchOf}
+use Rattle.sheet_spec.specs.Sheet.{isSheet, startLine, instructionLines, at, startOf, sizedOf, Sheet, sheetAt, startIn, sheetIn, lineCount, wordCount, endOf, lineAt, countOfLine, addressOfLine, resolved, encodedLine, encodedWords, image}
+use Rattle.sheet_spec.specs.Translate.{inOrder, outcomeAt, listedOf, imageOf, scratchOf}
 use Rattle.sheet_spec.specs.Follow.{Reads, Together, byLines, byWords}
 
 -- a START line in the form
@@ -25,46 +25,41 @@ abbrev pub InGrammar : Parsed → Type 0
 InGrammar (says vs) = SuitAll (kind.Instruction ∷ []) vs
 InGrammar no = Unit {0}
 
--- each line counts half of its size (01)
-pub record CountedSheet (s : Sheet) : Type 0 where
-  pub lines : length (s .counts) ≡ lineCount s
-  pub each : (n : ℕ) → 1 ≤ n → n ≤ lineCount s → countAt s n ≡ halfOf (sizedOf (lineCount s) (lineAt s n))
-
 -- each line is measured, and the end is at most 2^32
 pub record MeasuredSheet (s : Sheet) : Type 0 where
   pub sized : (n : ℕ) → 1 ≤ n → n ≤ lineCount s → sizedOf (lineCount s) (lineAt s n) .number ≡ 0
   pub ends : endOf (s .start) (wordCount s) ≤ 2 ^ 32
 
--- every place of 01's table is in order: of a start and lines, and of a text
+-- every place of 01's table is in order: of a sheet, and of a text at a start
 pub record AcceptedSheet (s : Sheet) (room : ℕ) : Type 0 where
   pub measured : MeasuredSheet s
   pub image : wordCount s ≤ room
-  pub encoded : (n : ℕ) → 1 ≤ n → n ≤ lineCount s → encodedLine (addressAt s n) (made (resolved s) (lineAt s n)) .number ≡ 0
+  pub encoded : (n : ℕ) → 1 ≤ n → n ≤ lineCount s → encodedLine (addressOfLine s n) (made (resolved s) (lineAt s n)) .number ≡ 0
 
-pub record AcceptedText (text : List ℕ) (places room : ℕ) : Type 0 where
+pub record AcceptedText (text : List ℕ) (start places room : ℕ) : Type 0 where
   pub sheet : isSheet text ≡ true
-  pub start : startOf (startLine text) ≡ at (sheetIn text .start)
-  pub even : sheetIn text .start % 2 ≡ 0
-  pub scratch : lineCount (sheetIn text) ≤ places
-  pub lines : AcceptedSheet (sheetIn text) room
+  pub form : startOf (startLine text) ≡ at (startIn text)
+  pub even : start % 2 ≡ 0
+  pub scratch : lineCount (sheetAt start text) ≤ places
+  pub lines : AcceptedSheet (sheetAt start text) room
 
 -- from a text, an image v and a scratch s: the answer r, the image v′ and the scratch s′
 pub record Translated (text v s v′ s′ : List ℕ) (r : Listed) : Type 0 where
   pub listed : r ≡ listedOf text (length s) (length v)
-  pub image : v′ ≡ imageOf text s v
+  pub image : v′ ≡ imageOf text (length s) v
   pub scratch : s′ ≡ scratchOf text s v
 
--- two sheets are the same (01)
-pub record Same (f g : List ℕ) : Type 0 where
-  pub first : outcomeOf f 4096 45056 ≡ inOrder
-  pub second : outcomeOf g 4096 45056 ≡ inOrder
-  pub starts : sheetIn f .start ≡ sheetIn g .start
-  pub images : image (sheetIn f) ≡ image (sheetIn g)
+-- two sheets, at starts a and b, are the same (01)
+pub record SameAt (a b : ℕ) (f g : List ℕ) : Type 0 where
+  pub first : outcomeAt f a 4096 45056 ≡ inOrder
+  pub second : outcomeAt g b 4096 45056 ≡ inOrder
+  pub starts : a ≡ b
+  pub images : image (sheetAt a f) ≡ image (sheetAt b g)
 
 -- line n of a sheet: its tokens and instruction, read from the words v at its address as its plain form; its words stand at its place
 pub record Stands (s : Sheet) (v : List ℕ) (n : ℕ) : Type 0 where
   pub read : Reads s v n
-  pub words : take (countAt s n) (drop ((addressAt s n - s .start) / 2) v) ≡ encodedWords (encodeOf (read .instruction) (addressAt s n))
+  pub words : take (countOfLine s n) (drop ((addressOfLine s n - s .start) / 2) v) ≡ encodedWords (encodeOf (read .instruction) (addressOfLine s n))
 
 -- demand 3 of a sheet and its words v: the followers stay together after any choices; each line stands, reached or not
 pub record Demand3 (s : Sheet) (v : List ℕ) : Type 0 where
@@ -78,6 +73,6 @@ pub record Followed (text v s v′ s′ : List ℕ) (r : Listed) : Type 0 where
   pub words : take (r .words) v′ ≡ image (sheetIn text)
   pub demand-3 : Demand3 (sheetIn text) (take (r .words) v′)
   pub spelled : (n : ℕ) (h : 1 ≤ n) (g : n ≤ lineCount (sheetIn text)) → getD (instructionLines text) (pred n) [] ≡ spell (demand-3 .each n h g .read .tokens)
-  pub addresses : (n : ℕ) → 1 ≤ n → n ≤ r .lines → getD s′ (pred n) 0 ≡ addressAt (sheetIn text) n
+  pub addresses : (n : ℕ) → 1 ≤ n → n ≤ r .lines → getD s′ (pred n) 0 ≡ addressOfLine (sheetIn text) n
   pub later-words : drop (r .words) v′ ≡ drop (r .words) v
   pub later-places : drop (r .lines) s′ ≡ drop (r .lines) s

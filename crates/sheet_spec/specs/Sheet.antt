@@ -80,28 +80,34 @@ sizesOf ps = map (sizedOf (length ps)) ps
 abbrev pub halfOf : Measured → ℕ
 halfOf m = m .size / 2
 
--- what is translated and followed: a start, lines, and the words that each counts
+-- what is translated and followed
 pub record Sheet : Type 0 where
   pub start : ℕ
   pub lines : List Parsed
-  pub counts : List ℕ
 
-abbrev pub sheetAt : ℕ → List Parsed → Sheet
-sheetAt start ps = record { start = start; lines = ps; counts = map halfOf (sizesOf ps) }
+-- a text's sheet at a start, and at its own
+abbrev pub sheetAt : ℕ → List ℕ → Sheet
+sheetAt start text = record { start = start; lines = map lineOf (instructionLines text) }
+
+abbrev pub startIn : List ℕ → ℕ
+startIn text = startNumber (startOf (startLine text))
 
 abbrev pub sheetIn : List ℕ → Sheet
-sheetIn text = sheetAt (startNumber (startOf (startLine text))) (map lineOf (instructionLines text))
+sheetIn text = sheetAt (startIn text) text
 
 abbrev pub lineCount : Sheet → ℕ
 lineCount s = length (s .lines)
 
--- the words of all lines
+-- the words that each line counts, and those of all lines
+abbrev pub counts : Sheet → List ℕ
+counts s = map halfOf (sizesOf (s .lines))
+
 abbrev pub total : List ℕ → ℕ
 total [] = 0
 total (c ∷ cs) = c + total cs
 
 abbrev pub wordCount : Sheet → ℕ
-wordCount s = total (s .counts)
+wordCount s = total (counts s)
 
 -- the end: the start plus twice the words of all lines
 abbrev pub endOf : ℕ → ℕ → ℕ
@@ -113,21 +119,21 @@ addressesFrom a [] = []
 addressesFrom a (c ∷ cs) = a ∷ addressesFrom (a + 2 * c) cs
 
 abbrev pub addresses : Sheet → List ℕ
-addresses s = addressesFrom (s .start) (s .counts)
+addresses s = addressesFrom (s .start) (counts s)
 
 -- of line n; the first is line 1
 abbrev pub lineAt : Sheet → ℕ → Parsed
 lineAt s n = getD (s .lines) (pred n) no
 
-abbrev pub countAt : Sheet → ℕ → ℕ
-countAt s n = getD (s .counts) (pred n) 0
+abbrev pub countOfLine : Sheet → ℕ → ℕ
+countOfLine s n = getD (counts s) (pred n) 0
 
-abbrev pub addressAt : Sheet → ℕ → ℕ
-addressAt s n = getD (addresses s) (pred n) 0
+abbrev pub addressOfLine : Sheet → ℕ → ℕ
+addressOfLine s n = getD (addresses s) (pred n) 0
 
 -- each `@` replaced by the named line's address
 abbrev pub resolved : Sheet → ℕ → Option ℕ
-resolved s = ofLines (lineCount s) (addressAt s)
+resolved s = ofLines (lineCount s) (addressOfLine s)
 
 -- each line encoded at its address
 abbrev pub encodedLine : ℕ → Made → Encoded

@@ -9,7 +9,7 @@ use Rattle.isa.specs.declared.Measured.{Measured}
 use Rattle.isa.specs.declared.Encoded.{Encoded}
 use Rattle.sheet_spec.specs.Line.{equal, Parsed}
 use Rattle.sheet_spec.specs.declared.Listed.{Listed}
-use Rattle.sheet_spec.specs.Sheet.{isSheet, startLine, Start, at, notInForm, startOf, Sheet, sheetIn, sizesOf, lineCount, wordCount, endOf, addresses, encoded, image}
+use Rattle.sheet_spec.specs.Sheet.{isSheet, startLine, Start, at, notInForm, startOf, Sheet, sheetAt, startIn, sheetIn, sizesOf, lineCount, wordCount, endOf, addresses, encoded, image}
 
 -- what a place of 01's table says: in order, or a refusal with its line
 pub data Outcome : Type 0 where
@@ -38,17 +38,17 @@ sizeOutcome k m = asOutcome k (m .number) (m .detail) (m .value)
 abbrev pub encodeOutcome : ℕ → Encoded → Outcome
 encodeOutcome k e = asOutcome k (e .number) (e .detail) (e .value)
 
--- START: 7, then 9 where it is odd
-abbrev pub startOutcome : Start → Outcome
-startOutcome (at n) = require (eqb (n % 2) 0) 9
-startOutcome notInForm = refused 7 0 0 (pos 0)
+abbrev pub isStart : Start → Bool
+isStart (at n) = true
+isStart notInForm = false
 
--- 01's table, place by place: before the lines
-abbrev pub opening : List ℕ → ℕ → Outcome
-opening text places =
+-- 01's table, place by place, of a text at a start: before the lines
+abbrev pub opening : List ℕ → ℕ → ℕ → Outcome
+opening text start places =
     andThen (require (isSheet text) 10)
-    (andThen (startOutcome (startOf (startLine text)))
-    (require (leb (lineCount (sheetIn text)) places) 11))
+    (andThen (require (isStart (startOf (startLine text))) 7)
+    (andThen (require (eqb (start % 2) 0) 9)
+    (require (leb (lineCount (sheetAt start text)) places) 11)))
 
 -- each line in turn
 abbrev pub sizing : List Parsed → Outcome
@@ -65,8 +65,11 @@ encoding es = inTurn encodeOutcome 1 es
 abbrev pub sheetOutcome : Sheet → ℕ → Outcome
 sheetOutcome s room = andThen (sizing (s .lines)) (andThen (closing (s .start) (wordCount s) room) (encoding (encoded s)))
 
-unfoldable pub outcomeOf : List ℕ → ℕ → ℕ → Outcome
-outcomeOf text places room = andThen (opening text places) (sheetOutcome (sheetIn text) room)
+unfoldable pub outcomeAt : List ℕ → ℕ → ℕ → ℕ → Outcome
+outcomeAt text start places room = andThen (opening text start places) (sheetOutcome (sheetAt start text) room)
+
+abbrev pub outcomeOf : List ℕ → ℕ → ℕ → Outcome
+outcomeOf text places room = outcomeAt text (startIn text) places room
 
 abbrev pub listedAs : Outcome → ℕ → ℕ → Listed
 listedAs inOrder lines words = record { lines = lines; words = words; number = 0; line = 0; detail = 0; value = pos 0 }
@@ -88,18 +91,20 @@ abbrev pub scratchAs : Outcome → List ℕ → List ℕ → List ℕ
 scratchAs inOrder held lent = over held lent
 scratchAs (refused number line detail value) held lent = replicate (length lent) 0
 
-unfoldable pub imageOf : List ℕ → List ℕ → List ℕ → List ℕ
-imageOf text scratch lent = imageAs (outcomeOf text (length scratch) (length lent)) (image (sheetIn text)) lent
+unfoldable pub imageOf : List ℕ → ℕ → List ℕ → List ℕ
+imageOf text places lent = imageAs (outcomeOf text places (length lent)) (image (sheetIn text)) lent
 
 unfoldable pub scratchOf : List ℕ → List ℕ → List ℕ → List ℕ
 scratchOf text scratch lent = scratchAs (outcomeOf text (length scratch) (length lent)) (addresses (sheetIn text)) scratch
 
--- two sheets are the same (01): both are accepted with 4,096 places and 45,056 words, their starts and their images are equal
+-- two sheets are the same (01): both are accepted with 4,096 places and 45,056 words, their starts and their images are equal; at starts a and b, and at their own
 abbrev pub isInOrder : Outcome → Bool
 isInOrder inOrder = true
 isInOrder (refused number line detail value) = false
 
-unfoldable pub same : List ℕ → List ℕ → Bool
-same f g =
-    isInOrder (outcomeOf f 4096 45056) && isInOrder (outcomeOf g 4096 45056) && eqb (sheetIn f .start) (sheetIn g .start)
-    && equal (image (sheetIn f)) (image (sheetIn g))
+unfoldable pub sameAt : ℕ → ℕ → List ℕ → List ℕ → Bool
+sameAt a b f g =
+    isInOrder (outcomeAt f a 4096 45056) && isInOrder (outcomeAt g b 4096 45056) && eqb a b && equal (image (sheetAt a f)) (image (sheetAt b g))
+
+abbrev pub same : List ℕ → List ℕ → Bool
+same f g = sameAt (startIn f) (startIn g) f g

@@ -1,11 +1,11 @@
 -- Laws of the translator's steps. Assumes nothing.
 use mathlib.Core.Path.{_≡_, refl, sym, ap, _∙_}
-use mathlib.Core.Bool.{Bool, true, false, true≢false, false≢true}
+use mathlib.Core.Bool.{Bool, true, false}
 use mathlib.Core.List.{List, _∷_, _++_, map}
 use Prim.Native.Nat.{ℕ, zero, suc, _+_, _-_, _%_, _^_, _≤_, _<_}
 use native.Mathlib.Omega.{arith}
 use native.Mathlib.Numerals.{add-one}
-use lib.Dec.{leb}
+use lib.Dec.{eqb, leb}
 use lib.IntN.{pos}
 use lib.ListN.{length, take, drop, getD, set, replicate, length-replicate, length-take, length-map}
 use lib.Seq.{drop-cons, set-at}
@@ -16,13 +16,13 @@ use Rattle.sheet_facts.specs.SheetLaws.{outline, count-feeds, count-most, lines
 use Rattle.sheet_spec.specs.declared.Listed.{Listed}
 use Rattle.isa.specs.declared.Encoded.{Encoded}
 use Rattle.sheet_spec.specs.Line.{no, lineOf}
-use Rattle.sheet_spec.specs.Made.{namesIn, ofLines}
-use Rattle.sheet_spec.specs.Sheet.{feeds, isSheet, startLine, Start, at, notInForm, startOf, startNumber, sizedOf, sizesOf, halfOf, Sheet, sheetIn, lineCount, total, wordCount, endOf, addresses, addressAt, resolved, encoded, allWords}
-use Rattle.sheet_spec.specs.Translate.{Outcome, inOrder, refused, andThen, require, asOutcome, startOutcome, opening, sizing, closing, encoding, sheetOutcome, outcomeOf, listedAs, over}
+use Rattle.sheet_spec.specs.Made.{resolvesIn, ofLines}
+use Rattle.sheet_spec.specs.Sheet.{feeds, isSheet, startLine, Start, at, notInForm, startOf, startNumber, sizedOf, sizesOf, halfOf, Sheet, startIn, sheetIn, lineCount, total, wordCount, endOf, addresses, addressOfLine, resolved, encoded, allWords}
+use Rattle.sheet_spec.specs.Translate.{Outcome, inOrder, refused, andThen, require, asOutcome, isStart, opening, sizing, closing, encoding, sheetOutcome, outcomeAt, outcomeOf, listedAs, over}
 use Rattle.sheet_spec.specs.Promises.{Translated}
 use Rattle.sheet_facts.specs.Listing.{as-in-order, as-refused, over-length}
 use Rattle.sheet_facts.specs.Lines.{line-grammar}
-use Rattle.sheet_size_facts.specs.Outcomes.{counted-text, sizing-each, accepted}
+use Rattle.sheet_size_facts.specs.Outcomes.{sizing-each, accepted}
 use Rattle.sheet_size_facts.specs.Bounds.{line-at, addresses-bounded}
 use Rattle.sheet_size_facts.specs.Counted.{image-counts}
 use Rattle.sheet_passes.specs.declared.Passed.{Passed}
@@ -42,62 +42,61 @@ zero-more p i g = rw (add-one, drop-cons p i 0 g, set-at (replicate i 0) (getD p
     rep (suc n) l = ap (λ (x : List ℕ). 0 ∷ x) (rep n l)
 
 -- ---- the opening
-start-no : (t : Start) (v : Outcome) → startAt t .ok ≡ false → outcomeNumber (andThen (startOutcome t) v) ≡ 7
-start-no (at n) v e = absurd (true≢false e)
-start-no notInForm v e = refl
+start-ok : (t : Start) → startAt t .ok ≡ isStart t
+start-ok (at n) = refl
+start-ok notInForm = refl
 
-start-odd : (t : Start) (v : Outcome) → startAt t .ok ≡ true → (startAt t .address % 2 ≡ 0 → ⊥) → outcomeNumber (andThen (startOutcome t) v) ≡ 9
-start-odd (at n) v e h = rw (ne-eqb (n % 2) 0 h)
-start-odd notInForm v e h = absurd (false≢true e)
-
-start-even : (t : Start) (v : Outcome) → startAt t .ok ≡ true → startAt t .address % 2 ≡ 0 → andThen (startOutcome t) v ≡ v
-start-even (at n) v e h = rw (eq-eqb (n % 2) 0 h)
-start-even notInForm v e h = absurd (false≢true e)
+start-address : (t : Start) → startAt t .address ≡ startNumber t
+start-address (at n) = refl
+start-address notInForm = refl
 
 module _ (text : List ℕ) (places : ℕ) where
   abbrev start : Start
   start = startOf (startLine text)
 
-  abbrev scratch : Outcome
-  scratch = require (leb (lineCount (sheetIn text)) places) 11
+  abbrev staged : Bool → Bool → Bool → Outcome
+  staged outline form even = andThen (require outline 10) (andThen (require form 7) (andThen (require even 9) (require (leb (lineCount (sheetIn text)) places) 11)))
 
-  by-outline : (b : Bool) → isSheet text ≡ b → opening text places ≡ andThen (require b 10) (andThen (startOutcome start) scratch)
-  by-outline b e = ap (λ (t : Bool). andThen (require t 10) (andThen (startOutcome start) scratch)) e
-
-  pub open-10 : isSheet text ≡ false → outcomeNumber (opening text places) ≡ 10
-  open-10 e = ap outcomeNumber (by-outline false e)
+  pub open-10 : isSheet text ≡ false → outcomeNumber (opening text (startIn text) places) ≡ 10
+  open-10 e = ap (λ (b : Bool). outcomeNumber (staged b (isStart start) (eqb (startIn text % 2) 0))) e
 
   module _ (e : isSheet text ≡ true) (s : StartAt) (f : s ≡ startAt start) where
-    pub open-7 : s .ok ≡ false → outcomeNumber (opening text places) ≡ 7
-    open-7 g = ap outcomeNumber (by-outline true e) ∙ start-no start scratch (ap (λ (t : StartAt). t .ok) (sym f) ∙ g)
+    form : (b : Bool) → s .ok ≡ b → isStart start ≡ b
+    form b g = sym (start-ok start) ∙ ap (λ (t : StartAt). t .ok) (sym f) ∙ g
+
+    address : startIn text ≡ s .address
+    address = sym (start-address start) ∙ ap (λ (t : StartAt). t .address) (sym f)
+
+    pub open-7 : s .ok ≡ false → outcomeNumber (opening text (startIn text) places) ≡ 7
+    open-7 g = λ i. outcomeNumber (staged (e i) (form false g i) (eqb (startIn text % 2) 0))
 
     module _ (g : s .ok ≡ true) where
-      ok : startAt start .ok ≡ true
-      ok = ap (λ (t : StartAt). t .ok) (sym f) ∙ g
+      even : (b : Bool) → eqb (s .address % 2) 0 ≡ b → opening text (startIn text) places ≡ staged true true b
+      even b h = λ i. staged (e i) (form true g i) ((ap (λ (n : ℕ). eqb (n % 2) 0) address ∙ h) i)
 
-      pub open-9 : (s .address % 2 ≡ 0 → ⊥) → outcomeNumber (opening text places) ≡ 9
-      open-9 h = ap outcomeNumber (by-outline true e) ∙ start-odd start scratch ok (λ z. h (ap (λ (t : StartAt). t .address % 2) f ∙ z))
+      pub open-9 : (s .address % 2 ≡ 0 → ⊥) → outcomeNumber (opening text (startIn text) places) ≡ 9
+      open-9 h = ap outcomeNumber (even false (ne-eqb (s .address % 2) 0 h))
 
       module _ (h : s .address % 2 ≡ 0) where
-        rest : opening text places ≡ scratch
-        rest = by-outline true e ∙ start-even start scratch ok (ap (λ (t : StartAt). t .address % 2) (sym f) ∙ h)
+        rest : opening text (startIn text) places ≡ require (leb (lineCount (sheetIn text)) places) 11
+        rest = even true (eq-eqb (s .address % 2) 0 h)
 
-        pub open-11 : places < feeds text - 1 → outcomeNumber (opening text places) ≡ 11
+        pub open-11 : places < feeds text - 1 → outcomeNumber (opening text (startIn text) places) ≡ 11
         open-11 k = ap outcomeNumber rest ∙ rw (lt-leb (lineCount (sheetIn text)) places (omega (arith, count-feeds text e)))
 
-        pub open-0 : feeds text - 1 ≤ places → outcomeNumber (opening text places) ≡ 0
+        pub open-0 : feeds text - 1 ≤ places → outcomeNumber (opening text (startIn text) places) ≡ 0
         open-0 k = ap outcomeNumber rest ∙ rw (le-leb (lineCount (sheetIn text)) places (omega (arith, count-feeds text e)))
 
-module _ (text : List ℕ) (places k : ℕ) (e : k ≡ outcomeNumber (opening text places)) where
-  opening-is : opening text places ≡ asOutcome 0 k 0 (pos 0)
-  opening-is = opening-outside text places ∙ ap (λ (x : ℕ). asOutcome 0 x 0 (pos 0)) (sym e)
+module _ (text : List ℕ) (places k : ℕ) (e : k ≡ outcomeNumber (opening text (startIn text) places)) where
+  opening-is : opening text (startIn text) places ≡ asOutcome 0 k 0 (pos 0)
+  opening-is = opening-outside text (startIn text) places ∙ ap (λ (x : ℕ). asOutcome 0 x 0 (pos 0)) (sym e)
 
-  pub opening-fine : k ≡ 0 → opening text places ≡ inOrder
+  pub opening-fine : k ≡ 0 → opening text (startIn text) places ≡ inOrder
   opening-fine h = opening-is ∙ as-in-order 0 k 0 (pos 0) h
 
-pub refused-opening : (text v s : List ℕ) (k : ℕ) → k ≡ outcomeNumber (opening text (length s)) → (k ≡ 0 → ⊥)
+pub refused-opening : (text v s : List ℕ) (k : ℕ) → k ≡ outcomeNumber (opening text (startIn text) (length s)) → (k ≡ 0 → ⊥)
     → (s′ : List ℕ) (r : Listed) → r ≡ listedAs (refused k 0 0 (pos 0)) 0 0 → s′ ≡ replicate (length s) 0 → Translated text v s v s′ r
-unfolding outcomeOf
+unfolding outcomeAt
 refused-opening text v s k e h s′ r f g =
     turned-away text v s k 0 0 (pos 0)
     (ap (λ (x : Outcome). andThen x (sheetOutcome (sheetIn text) (length v))) (opening-is text (length s) k e ∙ as-refused 0 k 0 (pos 0) h)) s′ r f g
@@ -130,12 +129,12 @@ module _ {text : List ℕ} {from lines words : ℕ} {v s : List ℕ} (z : SizedS
   lent = rw length-take (omega (arith, z .places))
 
   resolved-is : listed (addresses S) ≡ resolved S
-  resolved-is = ap (λ (n : ℕ). ofLines n (addressAt S)) (sheet-places text)
+  resolved-is = ap (λ (n : ℕ). ofLines n (addressOfLine S)) (sheet-places text)
 
-  named : (k : ℕ) → k < lineCount S → namesIn (resolved S) (getD (S .lines) k no) ≡ true
+  named : (k : ℕ) → k < lineCount S → resolvesIn (resolved S) (getD (S .lines) k no) ≡ true
   named k h =
-      let l = line-at S (counted-text text) (line-grammar text) (z .measured) (suc k) (omega arith) (omega arith) in
-      ap (namesIn (resolved S)) (l .parsed) ∙ l .line (addressAt S) (addresses-bounded S (counted-text text) (line-grammar text) (z .measured)) .labels
+      let l = line-at S (line-grammar text) (z .measured) (suc k) (omega arith) (omega arith) in
+      ap (resolvesIn (resolved S)) (l .parsed) ∙ l .line (addressOfLine S) (addresses-bounded S (line-grammar text) (z .measured)) .labels
 
   pub placed : Placed (take lines s) (parsedAt text from)
   placed =
@@ -153,19 +152,19 @@ module _ {text : List ℕ} {from lines words : ℕ} {v s : List ℕ} (z : SizedS
         → s′ ≡ replicate (length s) 0 → Translated text v s v s′ r
     refused-range h s′ r f g =
         turned-away text v s (p .number) (p .line) (p .detail) (p .value)
-        (z .verdict ∙ ranged ∙ as-refused (p .line) (p .number) (p .detail) (p .value) h) s′ r f g
+        (z .outcome ∙ ranged ∙ as-refused (p .line) (p .number) (p .detail) (p .value) h) s′ r f g
 
     module _ (h : p .number ≡ 0) where
       is-in-order : outcomeOf text (length s) (length v) ≡ inOrder
-      is-in-order = z .verdict ∙ ranged ∙ as-in-order (p .line) (p .number) (p .detail) (p .value) h
+      is-in-order = z .outcome ∙ ranged ∙ as-in-order (p .line) (p .number) (p .detail) (p .value) h
 
       pub image-fits : length (allWords (encodedAt (take lines s) (parsedAt text from))) ≤ length v
       image-fits =
           omega (
             arith,
             ap (λ (es : List Encoded). length (allWords es)) encoded-is,
-            image-counts text (length s) (length v) is-in-order,
-            accepted text (length s) (length v) is-in-order .lines .image,
+            image-counts text (startIn text) (length s) (length v) is-in-order,
+            accepted text (startIn text) (length s) (length v) is-in-order .lines .image,
           )
 
       pub laid : (v′ : List ℕ) → v′ ≡ over (allWords (encodedAt (take lines s) (parsedAt text from))) v → Translated text v s v′ s (listedAs inOrder lines words)
@@ -174,16 +173,12 @@ module _ {text : List ℕ} {from lines words : ℕ} {v s : List ℕ} (z : SizedS
           (f ∙ ap (λ (es : List Encoded). over (allWords es) v) encoded-is) (sym (over-same lines (addresses S) s (z .addresses) (z .places)))
 
 -- ---- the lines of a sheet whose opening is in order
-start-address : (t : Start) → startAt t .address ≡ startNumber t
-start-address (at n) = refl
-start-address notInForm = refl
-
-module _ (text v s : List ℕ) (o : opening text (length s) ≡ inOrder) (n : ℕ) (en : n ≡ feeds text) where
+module _ (text v s : List ℕ) (o : opening text (startIn text) (length s) ≡ inOrder) (n : ℕ) (en : n ≡ feeds text) where
   abbrev T : Sheet
   T = sheetIn text
 
   begun : Opened text (length s)
-  begun = opened text (length s) o
+  begun = opened text (startIn text) (length s) o
 
   pub feeds-some : 1 ≤ n
   feeds-some = omega (arith, outline text (begun .sheet) .least)
@@ -224,7 +219,7 @@ module _ (text v s : List ℕ) (o : opening text (length s) ≡ inOrder) (n : �
         measured = as-passed (sizing (T .lines)) (sizes-sound 1 (sizesOf (T .lines))) (wordCount T) p pass-is
 
         after : (w : Outcome) → sizing (T .lines) ≡ w → outcomeOf text (length s) (length v) ≡ andThen w (andThen (closing (T .start) (wordCount T) (length v)) (encoding (encoded T)))
-        unfolding outcomeOf
+        unfolding outcomeAt
         after w e =
             ap (λ (x : Outcome). andThen x (sheetOutcome T (length v))) o
             ∙ ap (λ (x : Outcome). andThen x (andThen (closing (T .start) (wordCount T) (length v)) (encoding (encoded T)))) e
@@ -277,7 +272,7 @@ module _ (text v s : List ℕ) (o : opening text (length s) ≡ inOrder) (n : �
                     places = omega (arith, kept, counted, begun .scratch);
                     addresses = rw addressed (over-take (addresses T) s (n - 1) (sheet-places text ∙ sym counted));
                     measured = record { sized = sizing-each (T .lines) sizes-in-order; ends = close .ends };
-                    verdict = ap (λ (x : ℕ). outcomeOf text x (length v)) kept ∙ after inOrder sizes-in-order
+                    outcome = ap (λ (x : ℕ). outcomeOf text x (length v)) kept ∙ after inOrder sizes-in-order
                         ∙ ap (λ (x : Outcome). andThen x (encoding (encoded T))) (ended ∙ as-in-order 0 k 0 (pos 0) m);
                   }
 

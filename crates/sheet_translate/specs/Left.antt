@@ -5,7 +5,7 @@ use mathlib.Core.List.{List}
 use native.Mathlib.Omega.{arith}
 use lib.ListN.{length, take, drop, getD, List·getD-append}
 use Rattle.sheet_spec.specs.declared.Listed.{Listed}
-use Rattle.sheet_spec.specs.Sheet.{sheetIn, lineCount, wordCount, addresses, addressAt, image}
+use Rattle.sheet_spec.specs.Sheet.{startIn, sheetIn, lineCount, wordCount, addresses, addressOfLine, image}
 use Rattle.sheet_spec.specs.Translate.{Outcome, inOrder, refused, over, outcomeOf, listedAs, listedOf, imageAs, imageOf, scratchAs, scratchOf}
 use Rattle.sheet_size_facts.specs.Counted.{image-counts}
 use Rattle.sheet_spec.specs.Promises.{Translated}
@@ -20,7 +20,7 @@ listed-fine (refused number line detail value) s lines words e = absurd (s e)
 number-fine : (text : List ℕ) (places room : ℕ) (r : Listed) → r ≡ listedOf text places room → r .number ≡ 0 → outcomeOf text places room ≡ inOrder
 unfolding listedOf
 number-fine text places room r e h =
-    listed-fine (outcomeOf text places room) (outcome-sound text places room) (lineCount (sheetIn text)) (wordCount (sheetIn text)) (ap (λ (x : Listed). x .number) (sym e) ∙ h)
+    listed-fine (outcomeOf text places room) (outcome-sound text (startIn text) places room) (lineCount (sheetIn text)) (wordCount (sheetIn text)) (ap (λ (x : Listed). x .number) (sym e) ∙ h)
 
 pub record Left (text v s v′ s′ : List ℕ) (r : Listed) : Type 0 where
   pub accepts : outcomeOf text (length s) (length v) ≡ inOrder
@@ -29,9 +29,9 @@ pub record Left (text v s v′ s′ : List ℕ) (r : Listed) : Type 0 where
   pub words : take (r .words) v′ ≡ image (sheetIn text)
   pub image : v′ ≡ over (image (sheetIn text)) v
   pub scratch : s′ ≡ over (addresses (sheetIn text)) s
-  pub addresses : (n : ℕ) → 1 ≤ n → n ≤ lineCount (sheetIn text) → getD s′ (pred n) 0 ≡ addressAt (sheetIn text) n
+  pub addresses : (n : ℕ) → 1 ≤ n → n ≤ lineCount (sheetIn text) → getD s′ (pred n) 0 ≡ addressOfLine (sheetIn text) n
 
-address-at : (text s : List ℕ) (n : ℕ) → 1 ≤ n → n ≤ lineCount (sheetIn text) → getD (over (addresses (sheetIn text)) s) (pred n) 0 ≡ addressAt (sheetIn text) n
+address-at : (text s : List ℕ) (n : ℕ) → 1 ≤ n → n ≤ lineCount (sheetIn text) → getD (over (addresses (sheetIn text)) s) (pred n) 0 ≡ addressOfLine (sheetIn text) n
 address-at text s n g k = List·getD-append (addresses (sheetIn text)) (drop (length (addresses (sheetIn text))) s) 0 (pred n) (omega (arith, sheet-places text))
 
 pub left : (text v s v′ s′ : List ℕ) (r : Listed) → Translated text v s v′ s′ r → r .number ≡ 0 → Left text v s v′ s′ r
@@ -48,6 +48,6 @@ left text v s v′ s′ r t h =
       counted = counted;
       image = written;
       scratch = scratch;
-      words = rw written (over-take (image (sheetIn text)) v (r .words) (image-counts text (length s) (length v) e ∙ sym counted));
+      words = rw written (over-take (image (sheetIn text)) v (r .words) (image-counts text (startIn text) (length s) (length v) e ∙ sym counted));
       addresses = λ n g k. rw scratch (address-at text s n g k);
     }

@@ -9,8 +9,8 @@ use lib.IntN.{ℤ}
 use borrow.Author.Tests.{eqb-false}
 use Rattle.isa.specs.declared.Measured.{Measured}
 use Rattle.isa.specs.declared.Encoded.{Encoded}
-use Rattle.sheet_spec.specs.Sheet.{isSheet, startLine, Start, at, notInForm, startOf, sizesOf, sheetIn, lineCount, wordCount, endOf, encoded}
-use Rattle.sheet_spec.specs.Translate.{Outcome, inOrder, refused, andThen, require, inTurn, sizeOutcome, encodeOutcome, asOutcome, startOutcome, opening, sizing, closing, outcomeOf}
+use Rattle.sheet_spec.specs.Sheet.{isSheet, startLine, startOf, sizesOf, sheetAt, lineCount, wordCount, endOf, encoded}
+use Rattle.sheet_spec.specs.Translate.{Outcome, inOrder, refused, andThen, require, inTurn, sizeOutcome, encodeOutcome, asOutcome, isStart, opening, sizing, closing, outcomeAt}
 
 abbrev pub Sound : Outcome → Type 0
 Sound inOrder = Unit {0}
@@ -23,10 +23,6 @@ or-sound (refused number line detail value) v a b = a
 unless-sound : (b : Bool) (k : ℕ) → (k ≡ 0 → ⊥) → Sound (require b k)
 unless-sound true k h = tt
 unless-sound false k h = h
-
-opening-sound : (s : Start) → Sound (startOutcome s)
-opening-sound (at n) = unless-sound (eqb (n % 2) 0) 9 (λ e. omega arith)
-opening-sound notInForm = λ e. omega arith
 
 line-sound : (k number detail : ℕ) (value : ℤ) → Sound (asOutcome k number detail value)
 line-sound k number detail value = go (eqb number 0) refl
@@ -45,14 +41,15 @@ sizes-sound k ms = turn-sound sizeOutcome (λ j m. line-sound j (m .number) (m .
 pub encoded-sound : (k : ℕ) (es : List Encoded) → Sound (inTurn encodeOutcome k es)
 encoded-sound k es = turn-sound encodeOutcome (λ j e. line-sound j (e .number) (e .detail) (e .value)) k es
 
-pub outcome-sound : (text : List ℕ) (places room : ℕ) → Sound (outcomeOf text places room)
-unfolding outcomeOf
-outcome-sound text places room =
-    let s = sheetIn text in
-    or-sound (opening text places) _
+pub outcome-sound : (text : List ℕ) (start places room : ℕ) → Sound (outcomeAt text start places room)
+unfolding outcomeAt
+outcome-sound text start places room =
+    let s = sheetAt start text in
+    or-sound (opening text start places) _
     (or-sound (require (isSheet text) 10) _ (unless-sound (isSheet text) 10 (λ e. omega arith))
-    (or-sound (startOutcome (startOf (startLine text))) _ (opening-sound (startOf (startLine text)))
-    (unless-sound (leb (lineCount s) places) 11 (λ e. omega arith))))
+    (or-sound (require (isStart (startOf (startLine text))) 7) _ (unless-sound (isStart (startOf (startLine text))) 7 (λ e. omega arith))
+    (or-sound (require (eqb (start % 2) 0) 9) _ (unless-sound (eqb (start % 2) 0) 9 (λ e. omega arith))
+    (unless-sound (leb (lineCount s) places) 11 (λ e. omega arith)))))
     (or-sound (sizing (s .lines)) _ (sizes-sound 1 (sizesOf (s .lines)))
     (or-sound (closing (s .start) (wordCount s) room) _
     (or-sound (require (leb (endOf (s .start) (wordCount s)) (2 ^ 32)) 9) _ (unless-sound (leb (endOf (s .start) (wordCount s)) (2 ^ 32)) 9 (λ e. omega arith)) (unless-sound (leb (wordCount s) room) 11 (λ e. omega arith)))

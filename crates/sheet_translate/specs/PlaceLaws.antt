@@ -9,10 +9,10 @@ use lib.ListN.{length, take, drop, replicate, length-replicate}
 use lib.Seq.{drop-append-seam, take-at, drop-at}
 use Rattle.sheet_spec.specs.declared.Listed.{Listed}
 use Rattle.isa.specs.declared.Measured.{Measured}
-use Rattle.sheet_spec.specs.Sheet.{halfOf, sheetIn, lineCount, wordCount, addresses, image}
+use Rattle.sheet_spec.specs.Sheet.{halfOf, startIn, sheetIn, lineCount, wordCount, addresses, image}
 use Rattle.sheet_spec.specs.Translate.{Outcome, inOrder, refused, over, outcomeOf, listedAs, listedOf, imageAs, imageOf, scratchAs, scratchOf}
 use Rattle.sheet_facts.specs.Listing.{over-length}
-use Rattle.sheet_size_facts.specs.Outcomes.{counted-text, places-length, accepted}
+use Rattle.sheet_size_facts.specs.Outcomes.{places-length, accepted}
 use Rattle.sheet_size_facts.specs.Counted.{image-counts}
 use Rattle.sheet_passes.specs.Passes.{filledOf}
 use Rattle.sheet_spec.specs.Promises.{Translated}
@@ -34,7 +34,7 @@ over-same (suc n) x (b ∷ bs) e h = rw (sym e) (ap (λ (w : List ℕ). b ∷ w)
 
 -- as many addresses as lines
 pub sheet-places : (text : List ℕ) → length (addresses (sheetIn text)) ≡ lineCount (sheetIn text)
-sheet-places text = places-length (sheetIn text) (counted-text text)
+sheet-places text = places-length (sheetIn text)
 
 -- no more places are filled than there are lines
 pub filled-length : (a : ℕ) (ms : List Measured) → length (filledOf a ms) ≤ length ms
@@ -52,16 +52,16 @@ scratch-length text s v = go (outcomeOf text (length s) (length v)) refl
   where
     go : (w : Outcome) → outcomeOf text (length s) (length v) ≡ w → length (scratchAs w (addresses (sheetIn text)) s) ≡ length s
     go inOrder e =
-        over-length (addresses (sheetIn text)) s (omega (arith, sheet-places text, accepted text (length s) (length v) e .scratch))
+        over-length (addresses (sheetIn text)) s (omega (arith, sheet-places text, accepted text (startIn text) (length s) (length v) e .scratch))
     go (refused number line detail value) e = length-replicate (length s) 0
 
-pub image-length : (text s v : List ℕ) → length (imageOf text s v) ≡ length v
+pub image-length : (text : List ℕ) (places : ℕ) (v : List ℕ) → length (imageOf text places v) ≡ length v
 unfolding imageOf
-image-length text s v = go (outcomeOf text (length s) (length v)) refl
+image-length text places v = go (outcomeOf text places (length v)) refl
   where
-    go : (w : Outcome) → outcomeOf text (length s) (length v) ≡ w → length (imageAs w (image (sheetIn text)) v) ≡ length v
+    go : (w : Outcome) → outcomeOf text places (length v) ≡ w → length (imageAs w (image (sheetIn text)) v) ≡ length v
     go inOrder e =
-        over-length (image (sheetIn text)) v (omega (arith, image-counts text (length s) (length v) e, accepted text (length s) (length v) e .lines .image))
+        over-length (image (sheetIn text)) v (omega (arith, image-counts text (startIn text) places (length v) e, accepted text (startIn text) places (length v) e .lines .image))
     go (refused number line detail value) e = refl
 
 -- no more words are counted than there is room
@@ -70,18 +70,18 @@ unfolding listedOf
 words-fit text places room = go (outcomeOf text places room) refl
   where
     go : (w : Outcome) → outcomeOf text places room ≡ w → listedAs w (lineCount (sheetIn text)) (wordCount (sheetIn text)) .words ≤ room
-    go inOrder e = accepted text places room e .lines .image
+    go inOrder e = accepted text (startIn text) places room e .lines .image
     go (refused number line detail value) e = omega arith
 
 -- a scratch that holds the addresses already is left as the one before would be
 pub from-over : (text v s v′ s′ : List ℕ) (r : Listed) → length (addresses (sheetIn text)) ≤ length s
     → Translated text v (over (addresses (sheetIn text)) s) v′ s′ r → Translated text v s v′ s′ r
-unfolding imageOf scratchOf
+unfolding scratchOf
 from-over text v s v′ s′ r h t =
     let n = over-length (addresses (sheetIn text)) s h in
     record {
       listed = t .listed ∙ ap (λ (k : ℕ). listedOf text k (length v)) n;
-      image = t .image ∙ ap (λ (k : ℕ). imageAs (outcomeOf text k (length v)) (image (sheetIn text)) v) n;
+      image = t .image ∙ ap (λ (k : ℕ). imageOf text k v) n;
       scratch = t .scratch ∙ ap (λ (k : ℕ). scratchAs (outcomeOf text k (length v)) (addresses (sheetIn text)) (over (addresses (sheetIn text)) s)) n ∙ go (outcomeOf text (length s) (length v));
     }
   where

@@ -22,4 +22,4 @@ pub record SizedSheet (text : List ℕ) (from lines words : ℕ) (v s : List ℕ
   pub places : lines ≤ length s
   pub addresses : take lines s ≡ addresses (sheetIn text)
   pub measured : MeasuredSheet (sheetIn text)
-  pub verdict : outcomeOf text (length s) (length v) ≡ encoding (encoded (sheetIn text))
+  pub outcome : outcomeOf text (length s) (length v) ≡ encoding (encoded (sheetIn text))

@@ -2,6 +2,7 @@
 ghost use mathlib.Core.Path.{_≡_};
 ghost use Prim.Native.Nat.{_≤_};
 ghost use lib.ListN.{length, replicate};
+ghost use Rattle.sheet_spec.specs.Sheet.{startIn};
 ghost use Rattle.sheet_spec.specs.Translate as stage;
 ghost use Rattle.sheet_spec.specs.Translate.{inOrder, refused, listedAs};
 ghost use Rattle.sheet_translate.specs.Translated.{outcomeNumber, SizedSheet};
@@ -35,7 +36,7 @@ fn refuse(scratch: &mut [u32], number: u8, line: usize, detail: u8, value: i64) 
 
 // Before the lines: the sheet's outline, START, the scratch. 0 where all are in order.
 fn opening(text: &[u8], places: usize) -> u8
-    ensures { λ r. ⌜ r ≡ outcomeNumber (stage.opening (now (text .entry)) places) ⌝ }
+    ensures { λ r. ⌜ r ≡ outcomeNumber (stage.opening (now (text .entry)) (startIn (now (text .entry))) places) ⌝ }
 {
     if !sheet_start::is_sheet(text) {
         return 10;
@@ -96,7 +97,7 @@ fn lay_down(
 
 // The lines of a sheet whose opening is in order.
 fn translate_lines(text: &[u8], image: &mut [u16], scratch: &mut [u32]) -> Listed
-    requires { ⌜ stage.opening (now text) (length (now scratch)) ≡ inOrder ⌝ }
+    requires { ⌜ stage.opening (now text) (startIn (now text)) (length (now scratch)) ≡ inOrder ⌝ }
     ensures { λ r. ⌜ Translated (now (text .entry)) (now (image .entry)) (now (scratch .entry)) (now (image .exit)) (now (scratch .exit)) r ⌝ }
 {
     let lines = sheet_start::feeds(text) - 1;

@@ -7,7 +7,7 @@ use lib.ListN.{length, take, getD, length-map}
 use Rattle.sheet_spec.specs.declared.Listed.{Listed}
 use Rattle.sheet_spec.specs.Line.{Token, says, no, lineOf}
 use Rattle.sheet_spec.specs.Spell.{spell}
-use Rattle.sheet_spec.specs.Sheet.{instructionLines, sheetIn, lineCount, lineAt, addresses, image}
+use Rattle.sheet_spec.specs.Sheet.{instructionLines, startIn, sheetIn, lineCount, lineAt, addresses, image}
 use Rattle.sheet_spec.specs.Promises.{Translated, Demand3, Followed}
 use Rattle.sheet_size_facts.specs.Outcomes.{map-at}
 use Rattle.sheet_size_facts.specs.Counted.{image-counts}
@@ -26,7 +26,7 @@ spelling text n h g vs e =
 pub translated-stands : (text v s v′ s′ : List ℕ) (r : Listed) → Translated text v s v′ s′ r → r .number ≡ 0 → Followed text v s v′ s′ r
 translated-stands text v s v′ s′ r t h =
     let l = left text v s v′ s′ r t h in
-    let d : Demand3 (sheetIn text) (take (r .words) v′) = rw (l .words) (demand-3-text text (length s) (length v) (l .accepts)) in
+    let d : Demand3 (sheetIn text) (take (r .words) v′) = rw (l .words) (demand-3-text text (startIn text) (length s) (length v) (l .accepts)) in
     record {
       lines = l .lines;
       counted = l .counted;
@@ -34,6 +34,6 @@ translated-stands text v s v′ s′ r t h =
       demand-3 = d;
       spelled = λ n g k. spelling text n g k (d .each n g k .read .tokens) (d .each n g k .read .parsed);
       addresses = λ n g k. l .addresses n g (omega (arith, l .lines));
-      later-words = rw (l .image) (over-drop (image (sheetIn text)) v (r .words) (image-counts text (length s) (length v) (l .accepts) ∙ sym (l .counted)));
+      later-words = rw (l .image) (over-drop (image (sheetIn text)) v (r .words) (image-counts text (startIn text) (length s) (length v) (l .accepts) ∙ sym (l .counted)));
       later-places = rw (l .scratch) (over-drop (addresses (sheetIn text)) s (r .lines) (sheet-places text ∙ sym (l .lines)));
     }
