@@ -3,6 +3,7 @@ use Prim.Native.Nat.{ℕ, zero, suc, pred, _+_, _%_, _^_, _≤_, _<_}
 use mathlib.Core.Path.{_≡_, refl, sym, ap, _∙_}
 use mathlib.Core.Bool.{true, false≢true}
 use mathlib.Core.List.{List, [], _∷_, map}
+use mathlib.Core.Option.{Option, none, some, Option·getD}
 use native.Mathlib.Omega.{arith}
 use lib.Dec.{leb, eqb}
 use lib.ListN.{length, getD, length-map}
@@ -10,16 +11,17 @@ use borrow.Author.Tests.{eqb-true, leb-true}
 use Rattle.isa.specs.declared.Measured.{Measured}
 use Rattle.isa.specs.declared.Encoded.{Encoded}
 use Rattle.sheet_spec.specs.Line.{Parsed, no}
-use Rattle.sheet_spec.specs.Sheet.{isSheet, startLine, Start, at, notInForm, startOf, startNumber, sizedOf, sizesOf, halfOf, Sheet, sheetAt, lineCount, counts, wordCount, endOf, addresses, lineAt, countOfLine, resolved, encoded}
-use Rattle.sheet_spec.specs.Translate.{Outcome, inOrder, require, inTurn, sizeOutcome, encodeOutcome, isStart, opening, sizing, closing, encoding, sheetOutcome, outcomeAt}
+use Rattle.sheet_spec.specs.Made.{isSome}
+use Rattle.sheet_spec.specs.Sheet.{isSheet, startLine, startOf, sizedOf, sizesOf, halfOf, Sheet, sheetAt, lineCount, counts, wordCount, endOf, addresses, lineAt, countOfLine, resolved, encoded}
+use Rattle.sheet_spec.specs.Translate.{Outcome, inOrder, require, inTurn, sizeOutcome, encodeOutcome, opening, sizing, closing, encoding, sheetOutcome, outcomeAt}
 use Rattle.sheet_spec.specs.Promises.{AcceptedSheet, AcceptedText}
 use Rattle.sheet_facts.specs.Listing.{both-in-order, require-true, in-order-zero}
 use Rattle.sheet_size_facts.specs.Image.{addresses-length, noWords, encoded-length, encoded-is}
 
 -- ---- START
-start-form : (s : Start) → isStart s ≡ true → s ≡ at (startNumber s)
-start-form (at n) e = refl
-start-form notInForm e = absurd (false≢true e)
+start-form : (s : Option ℕ) → isSome s ≡ true → s ≡ some (Option·getD s 0)
+start-form (some n) e = refl
+start-form none e = absurd (false≢true e)
 
 -- ---- each line in turn
 pub each-in-order : {A : Type 0} (says : ℕ → A → Outcome) (k : ℕ) (xs : List A) → inTurn says k xs ≡ inOrder → (d : A) (j : ℕ) → j < length xs → says (k + j) (getD xs j d) ≡ inOrder
@@ -79,7 +81,7 @@ unfolding outcomeAt
 accepted text start places room e =
     let o = both-in-order (opening text start places) _ e in
     let a = both-in-order (require (isSheet text) 10) _ (o .0) in
-    let b = both-in-order (require (isStart (startOf (startLine text))) 7) _ (a .1) in
+    let b = both-in-order (require (isSome (startOf (startLine text))) 7) _ (a .1) in
     let c = both-in-order (require (eqb (start % 2) 0) 9) _ (b .1) in
     record {
       sheet = require-true (isSheet text) 10 (a .0);

@@ -3,6 +3,7 @@ use Prim.Native.Nat.{ℕ, pred, _-_, _/_, _%_, _^_, _≤_}
 use mathlib.Core.Path.{_≡_}
 use mathlib.Core.Bool.{Bool, true}
 use mathlib.Core.List.{List, [], _∷_, _++_}
+use mathlib.Core.Option.{some}
 use lib.ListN.{length, take, drop, getD}
 use Rattle.encode_spec.specs.Encode.{encodeOf}
 use Rattle.base_spec.specs.Written.{decimalOf}
@@ -12,7 +13,7 @@ use Rattle.sheet_spec.specs.declared.Kind.the-variants as kind
 use Rattle.sheet_spec.specs.Line.{Parsed, says, no}
 use Rattle.sheet_spec.specs.Spell.{SuitAll, spell}
 use Rattle.sheet_spec.specs.Made.{made}
-use Rattle.sheet_spec.specs.Sheet.{isSheet, startLine, instructionLines, at, startOf, sizedOf, Sheet, sheetAt, startIn, sheetIn, lineCount, wordCount, endOf, lineAt, countOfLine, addressOfLine, resolved, encodedLine, encodedWords, image}
+use Rattle.sheet_spec.specs.Sheet.{isSheet, startLine, instructionLines, startOf, sizedOf, Sheet, sheetAt, startIn, sheetIn, lineCount, wordCount, endOf, lineAt, countOfLine, addressOfLine, resolved, encodedLine, encodedWords, image}
 use Rattle.sheet_spec.specs.Translate.{inOrder, outcomeAt, listedOf, imageOf, scratchOf}
 use Rattle.sheet_spec.specs.Follow.{Reads, Together, byLines, byWords}
 
@@ -38,7 +39,7 @@ pub record AcceptedSheet (s : Sheet) (room : ℕ) : Type 0 where
 
 pub record AcceptedText (text : List ℕ) (start places room : ℕ) : Type 0 where
   pub sheet : isSheet text ≡ true
-  pub form : startOf (startLine text) ≡ at (startIn text)
+  pub form : startOf (startLine text) ≡ some (startIn text)
   pub even : start % 2 ≡ 0
   pub scratch : lineCount (sheetAt start text) ≤ places
   pub lines : AcceptedSheet (sheetAt start text) room

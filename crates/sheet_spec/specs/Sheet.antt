@@ -2,7 +2,7 @@
 use Prim.Native.Nat.{ℕ, suc, pred, _+_, _*_, _/_, _^_}
 use mathlib.Core.Bool.{Bool, cond, not, _&&_}
 use mathlib.Core.List.{List, [], _∷_, _++_, map}
-use mathlib.Core.Option.{Option}
+use mathlib.Core.Option.{Option, none, some, Option·getD}
 use lib.Dec.{eqb, leb, ltb}
 use lib.ListN.{length, drop, take, getD, replicate}
 use lib.IntN.{pos}
@@ -41,27 +41,19 @@ startLine text = getD (linesOf text) 0 []
 abbrev pub instructionLines : List ℕ → List (List ℕ)
 instructionLines text = drop 1 (linesOf text)
 
--- START and a 32-bit decimal address
-pub data Start : Type 0 where
-  at : ℕ → Start
-  notInForm : Start
+-- START and a 32-bit decimal address; none where it is not in the form
+abbrev pub startAs : Number → Option ℕ
+startAs (number.Is negative n) = cond (not negative && ltb n (2 ^ 32)) (some n) none
+startAs number.No = none
 
-abbrev pub startAs : Number → Start
-startAs (number.Is negative n) = cond (not negative && ltb n (2 ^ 32)) (at n) notInForm
-startAs number.No = notInForm
+abbrev pub startFields : List (List ℕ) → Option ℕ
+startFields [] = none
+startFields (f ∷ []) = none
+startFields (f ∷ (g ∷ [])) = cond (equal f (bytes "START")) (startAs (numberOf g)) none
+startFields (f ∷ (g ∷ (h ∷ fs))) = none
 
-abbrev pub startFields : List (List ℕ) → Start
-startFields [] = notInForm
-startFields (f ∷ []) = notInForm
-startFields (f ∷ (g ∷ [])) = cond (equal f (bytes "START")) (startAs (numberOf g)) notInForm
-startFields (f ∷ (g ∷ (h ∷ fs))) = notInForm
-
-abbrev pub startOf : List ℕ → Start
+abbrev pub startOf : List ℕ → Option ℕ
 startOf line = startFields (fields line)
-
-abbrev pub startNumber : Start → ℕ
-startNumber (at n) = n
-startNumber notInForm = 0
 
 -- ---- a start and parsed lines
 
@@ -90,7 +82,7 @@ abbrev pub sheetAt : ℕ → List ℕ → Sheet
 sheetAt start text = record { start = start; lines = map lineOf (instructionLines text) }
 
 abbrev pub startIn : List ℕ → ℕ
-startIn text = startNumber (startOf (startLine text))
+startIn text = Option·getD (startOf (startLine text)) 0
 
 abbrev pub sheetIn : List ℕ → Sheet
 sheetIn text = sheetAt (startIn text) text

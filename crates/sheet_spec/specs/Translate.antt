@@ -8,8 +8,9 @@ use lib.IntN.{ℤ, pos}
 use Rattle.isa.specs.declared.Measured.{Measured}
 use Rattle.isa.specs.declared.Encoded.{Encoded}
 use Rattle.sheet_spec.specs.Line.{equal, Parsed}
+use Rattle.sheet_spec.specs.Made.{isSome}
 use Rattle.sheet_spec.specs.declared.Listed.{Listed}
-use Rattle.sheet_spec.specs.Sheet.{isSheet, startLine, Start, at, notInForm, startOf, Sheet, sheetAt, startIn, sheetIn, sizesOf, lineCount, wordCount, endOf, addresses, encoded, image}
+use Rattle.sheet_spec.specs.Sheet.{isSheet, startLine, startOf, Sheet, sheetAt, startIn, sheetIn, sizesOf, lineCount, wordCount, endOf, addresses, encoded, image}
 
 -- what a place of 01's table says: in order, or a refusal with its line
 pub data Outcome : Type 0 where
@@ -38,15 +39,11 @@ sizeOutcome k m = asOutcome k (m .number) (m .detail) (m .value)
 abbrev pub encodeOutcome : ℕ → Encoded → Outcome
 encodeOutcome k e = asOutcome k (e .number) (e .detail) (e .value)
 
-abbrev pub isStart : Start → Bool
-isStart (at n) = true
-isStart notInForm = false
-
 -- 01's table, place by place, of a text at a start: before the lines
 abbrev pub opening : List ℕ → ℕ → ℕ → Outcome
 opening text start places =
     andThen (require (isSheet text) 10)
-    (andThen (require (isStart (startOf (startLine text))) 7)
+    (andThen (require (isSome (startOf (startLine text))) 7)
     (andThen (require (eqb (start % 2) 0) 9)
     (require (leb (lineCount (sheetAt start text)) places) 11)))
 

@@ -2,6 +2,7 @@
 use mathlib.Core.Path.{_≡_, refl, sym, ap, _∙_}
 use mathlib.Core.Bool.{cond}
 use mathlib.Core.List.{List, [], _∷_}
+use mathlib.Core.Option.{none}
 use Prim.Native.Nat.{ℕ, suc, _+_, _-_, _≤_, _<_}
 use native.Mathlib.Omega.{arith}
 use native.Mathlib.Numerals.{add-one}
@@ -14,7 +15,7 @@ use Rattle.base_text.specs.PartLaws.{partsFrom, parts-at, parts-start, parts-pa
 use Rattle.base_spec.specs.Number.{numberOf}
 use Rattle.sheet_spec.specs.Names.{bytes}
 use Rattle.sheet_spec.specs.Line.{equal}
-use Rattle.sheet_spec.specs.Sheet.{feeds, last, notInForm, startAs, startFields, startOf}
+use Rattle.sheet_spec.specs.Sheet.{feeds, last, startAs, startFields, startOf}
 
 -- ---- line feeds
 module _ (s : List ℕ) (i : ℕ) (h : i < length s) where
@@ -48,19 +49,19 @@ module _ (line : List ℕ) (e : ℕ) (g : e ≡ partEnd 9 line 0) where
       let t : take e line ≡ before 9 line = rw q at (part-is 9 line 0 e g) in
       sym (parts-start 9 line) ∙ parts-at 9 line 0 (omega arith) ∙ rw (t, g)
 
-  pub one-field : e ≡ length line → startOf line ≡ notInForm
+  pub one-field : e ≡ length line → startOf line ≡ none
   one-field h = ap startFields (first ∙ ap (λ (ps : List (List ℕ)). take e line ∷ ps) (parts-past 9 line (e + 1) (omega arith)))
 
   module _ (h : e + 1 ≤ length line) (f : ℕ) (k : f ≡ partEnd 9 line (e + 1)) where
     second : fields line ≡ take e line ∷ (take (f - (e + 1)) (drop (e + 1) line) ∷ partsFrom 9 line (f + 1))
     second = first ∙ ap (λ (ps : List (List ℕ)). take e line ∷ ps) (parts-at 9 line (e + 1) h ∙ rw (part-is 9 line (e + 1) f k, k))
 
-    pub more-fields : f < length line → startOf line ≡ notInForm
+    pub more-fields : f < length line → startOf line ≡ none
     more-fields m =
         ap startFields (second ∙ ap (λ (ps : List (List ℕ)). take e line ∷ (take (f - (e + 1)) (drop (e + 1) line) ∷ ps)) (parts-at 9 line (f + 1) (omega arith)))
 
     pub two-fields : f ≡ length line
-        → startOf line ≡ cond (equal (take e line) (bytes "START")) (startAs (numberOf (take (length line - (e + 1)) (drop (e + 1) line)))) notInForm
+        → startOf line ≡ cond (equal (take e line) (bytes "START")) (startAs (numberOf (take (length line - (e + 1)) (drop (e + 1) line)))) none
     two-fields m =
         ap startFields (second ∙ ap (λ (ps : List (List ℕ)). take e line ∷ (take (f - (e + 1)) (drop (e + 1) line) ∷ ps)) (parts-past 9 line (f + 1) (omega arith)))
-        ∙ ap (λ (n : ℕ). cond (equal (take e line) (bytes "START")) (startAs (numberOf (take (n - (e + 1)) (drop (e + 1) line)))) notInForm) m
+        ∙ ap (λ (n : ℕ). cond (equal (take e line) (bytes "START")) (startAs (numberOf (take (n - (e + 1)) (drop (e + 1) line)))) none) m

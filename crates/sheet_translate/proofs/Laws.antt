@@ -2,6 +2,7 @@
 use mathlib.Core.Path.{_≡_, refl, sym, ap, _∙_}
 use mathlib.Core.Bool.{Bool, true, false}
 use mathlib.Core.List.{List, _∷_, _++_, map}
+use mathlib.Core.Option.{Option, none, some, Option·getD}
 use Prim.Native.Nat.{ℕ, zero, suc, _+_, _-_, _%_, _^_, _≤_, _<_}
 use native.Mathlib.Omega.{arith}
 use native.Mathlib.Numerals.{add-one}
@@ -16,9 +17,9 @@ use Rattle.sheet_facts.specs.SheetLaws.{outline, count-feeds, count-most, lines
 use Rattle.sheet_spec.specs.declared.Listed.{Listed}
 use Rattle.isa.specs.declared.Encoded.{Encoded}
 use Rattle.sheet_spec.specs.Line.{no, lineOf}
-use Rattle.sheet_spec.specs.Made.{resolvesIn, ofLines}
-use Rattle.sheet_spec.specs.Sheet.{feeds, isSheet, startLine, Start, at, notInForm, startOf, startNumber, sizedOf, sizesOf, halfOf, Sheet, startIn, sheetIn, lineCount, total, wordCount, endOf, addresses, addressOfLine, resolved, encoded, allWords}
-use Rattle.sheet_spec.specs.Translate.{Outcome, inOrder, refused, andThen, require, asOutcome, isStart, opening, sizing, closing, encoding, sheetOutcome, outcomeAt, outcomeOf, listedAs, over}
+use Rattle.sheet_spec.specs.Made.{isSome, resolvesIn, ofLines}
+use Rattle.sheet_spec.specs.Sheet.{feeds, isSheet, startLine, startOf, sizedOf, sizesOf, halfOf, Sheet, startIn, sheetIn, lineCount, total, wordCount, endOf, addresses, addressOfLine, resolved, encoded, allWords}
+use Rattle.sheet_spec.specs.Translate.{Outcome, inOrder, refused, andThen, require, asOutcome, opening, sizing, closing, encoding, sheetOutcome, outcomeAt, outcomeOf, listedAs, over}
 use Rattle.sheet_spec.specs.Promises.{Translated}
 use Rattle.sheet_facts.specs.Listing.{as-in-order, as-refused, over-length}
 use Rattle.sheet_facts.specs.Lines.{line-grammar}
@@ -42,26 +43,26 @@ zero-more p i g = rw (add-one, drop-cons p i 0 g, set-at (replicate i 0) (getD p
     rep (suc n) l = ap (λ (x : List ℕ). 0 ∷ x) (rep n l)
 
 -- ---- the opening
-start-ok : (t : Start) → startAt t .ok ≡ isStart t
-start-ok (at n) = refl
-start-ok notInForm = refl
+start-ok : (t : Option ℕ) → startAt t .ok ≡ isSome t
+start-ok (some n) = refl
+start-ok none = refl
 
-start-address : (t : Start) → startAt t .address ≡ startNumber t
-start-address (at n) = refl
-start-address notInForm = refl
+start-address : (t : Option ℕ) → startAt t .address ≡ Option·getD t 0
+start-address (some n) = refl
+start-address none = refl
 
 module _ (text : List ℕ) (places : ℕ) where
-  abbrev start : Start
+  abbrev start : Option ℕ
   start = startOf (startLine text)
 
   abbrev staged : Bool → Bool → Bool → Outcome
   staged outline form even = andThen (require outline 10) (andThen (require form 7) (andThen (require even 9) (require (leb (lineCount (sheetIn text)) places) 11)))
 
   pub open-10 : isSheet text ≡ false → outcomeNumber (opening text (startIn text) places) ≡ 10
-  open-10 e = ap (λ (b : Bool). outcomeNumber (staged b (isStart start) (eqb (startIn text % 2) 0))) e
+  open-10 e = ap (λ (b : Bool). outcomeNumber (staged b (isSome start) (eqb (startIn text % 2) 0))) e
 
   module _ (e : isSheet text ≡ true) (s : StartAt) (f : s ≡ startAt start) where
-    form : (b : Bool) → s .ok ≡ b → isStart start ≡ b
+    form : (b : Bool) → s .ok ≡ b → isSome start ≡ b
     form b g = sym (start-ok start) ∙ ap (λ (t : StartAt). t .ok) (sym f) ∙ g
 
     address : startIn text ≡ s .address

@@ -9,8 +9,9 @@ use lib.IntN.{ℤ}
 use borrow.Author.Tests.{eqb-false}
 use Rattle.isa.specs.declared.Measured.{Measured}
 use Rattle.isa.specs.declared.Encoded.{Encoded}
+use Rattle.sheet_spec.specs.Made.{isSome}
 use Rattle.sheet_spec.specs.Sheet.{isSheet, startLine, startOf, sizesOf, sheetAt, lineCount, wordCount, endOf, encoded}
-use Rattle.sheet_spec.specs.Translate.{Outcome, inOrder, refused, andThen, require, inTurn, sizeOutcome, encodeOutcome, asOutcome, isStart, opening, sizing, closing, outcomeAt}
+use Rattle.sheet_spec.specs.Translate.{Outcome, inOrder, refused, andThen, require, inTurn, sizeOutcome, encodeOutcome, asOutcome, opening, sizing, closing, outcomeAt}
 
 abbrev pub Sound : Outcome → Type 0
 Sound inOrder = Unit {0}
@@ -47,7 +48,7 @@ outcome-sound text start places room =
     let s = sheetAt start text in
     or-sound (opening text start places) _
     (or-sound (require (isSheet text) 10) _ (unless-sound (isSheet text) 10 (λ e. omega arith))
-    (or-sound (require (isStart (startOf (startLine text))) 7) _ (unless-sound (isStart (startOf (startLine text))) 7 (λ e. omega arith))
+    (or-sound (require (isSome (startOf (startLine text))) 7) _ (unless-sound (isSome (startOf (startLine text))) 7 (λ e. omega arith))
     (or-sound (require (eqb (start % 2) 0) 9) _ (unless-sound (eqb (start % 2) 0) 9 (λ e. omega arith))
     (unless-sound (leb (lineCount s) places) 11 (λ e. omega arith)))))
     (or-sound (sizing (s .lines)) _ (sizes-sound 1 (sizesOf (s .lines)))

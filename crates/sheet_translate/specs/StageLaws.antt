@@ -9,8 +9,9 @@ use lib.IntN.{ℤ, pos}
 use lib.ListN.{length, replicate}
 use borrow.Author.Tests.{ne-eqb, leb-true}
 use Rattle.sheet_spec.specs.declared.Listed.{Listed}
+use Rattle.sheet_spec.specs.Made.{isSome}
 use Rattle.sheet_spec.specs.Sheet.{isSheet, startLine, startOf, sheetAt, sheetIn, lineCount, wordCount, endOf, addresses, image}
-use Rattle.sheet_spec.specs.Translate.{Outcome, inOrder, refused, andThen, require, asOutcome, isStart, opening, closing, outcomeOf, listedAs, listedOf, imageAs, imageOf, scratchAs, scratchOf}
+use Rattle.sheet_spec.specs.Translate.{Outcome, inOrder, refused, andThen, require, asOutcome, opening, closing, outcomeOf, listedAs, listedOf, imageAs, imageOf, scratchAs, scratchOf}
 use Rattle.sheet_facts.specs.Listing.{both-in-order, require-true}
 use Rattle.sheet_translate.specs.Translated.{outcomeNumber}
 use Rattle.sheet_spec.specs.Promises.{Translated}
@@ -30,7 +31,7 @@ unless-outside false k h = rw (ne-eqb k 0 h)
 pub opening-outside : (text : List ℕ) (start places : ℕ) → Outside (opening text start places)
 opening-outside text start places =
     or-outside (require (isSheet text) 10) _ (unless-outside (isSheet text) 10 (λ e. omega arith))
-    (or-outside (require (isStart (startOf (startLine text))) 7) _ (unless-outside (isStart (startOf (startLine text))) 7 (λ e. omega arith))
+    (or-outside (require (isSome (startOf (startLine text))) 7) _ (unless-outside (isSome (startOf (startLine text))) 7 (λ e. omega arith))
     (or-outside (require (eqb (start % 2) 0) 9) _ (unless-outside (eqb (start % 2) 0) 9 (λ e. omega arith))
     (unless-outside (leb (lineCount (sheetAt start text)) places) 11 (λ e. omega arith))))
 
@@ -47,7 +48,7 @@ pub record Opened (text : List ℕ) (places : ℕ) : Type 0 where
 pub opened : (text : List ℕ) (start places : ℕ) → opening text start places ≡ inOrder → Opened text places
 opened text start places e =
     let a = both-in-order (require (isSheet text) 10) _ e in
-    let b = both-in-order (require (isStart (startOf (startLine text))) 7) _ (a .1) in
+    let b = both-in-order (require (isSome (startOf (startLine text))) 7) _ (a .1) in
     let c = both-in-order (require (eqb (start % 2) 0) 9) _ (b .1) in
     record {
       sheet = require-true (isSheet text) 10 (a .0);

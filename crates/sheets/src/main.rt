@@ -1,15 +1,16 @@
 // Prints what `sheet` would for each sheet of a list: a line with the sheet's bytes, and the scratch places and image words to
-// lend, then the sheet. An empty line follows each answer; a list not in this form ends with the line `list`.
+// lend, then the sheet. An empty line follows each answer; a list not in this form ends with the line `list`, which is all for one of more than 1 MiB.
 
 ghost use mathlib.Core.Path.{_≡_};
 ghost use Prim.Native.Nat.{_+_, _^_, _≤_, _<_};
 ghost use lib.ListN.{length, replicate};
 ghost use Rattle.sheets.specs.Headers.{noHeader, headerOf, headerIn, Within};
 
-fn list_places() -> [u8; 1048576]
-    ensures { λ r. ⌜ (r ≡ replicate 1048576 0) × (1048576 ≡ length r) ⌝ }
+// 1 MiB, and a place to see that there is more.
+fn list_places() -> [u8; 1048577]
+    ensures { λ r. ⌜ (r ≡ replicate 1048577 0) × (1048577 ≡ length r) ⌝ }
 {
-    [0; 1048576]
+    [0; 1048577]
 }
 
 fn image_places() -> [u16; 45056]
@@ -131,5 +132,9 @@ fn print_sheets(list: &[u8]) {
 fn main() {
     let mut list = list_places();
     let n = io::read_full(0, &mut list);
-    print_sheets(&list[..n]);
+    if n <= 1048576 {
+        print_sheets(&list[..n]);
+    } else {
+        io::write_all(1, b"list\n");
+    }
 }

@@ -5,7 +5,7 @@ use Rattle.sheets.proofs.list_places.Statement.{statement}
 use Rattle.sheets.proofs.list_places.Tie as tie
 
 returns : tie.Need-returns
-returns c = (refl, sym (length-replicate {A = ℕ} 1048576 0))
+returns c = (refl, sym (length-replicate {A = ℕ} 1048577 0))
 
 pub list-places-spec : {M : Type 1} → statement M
 list-places-spec = tie.close (tie.spec returns)
