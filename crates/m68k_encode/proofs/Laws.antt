@@ -7,7 +7,7 @@ use native.Mathlib.Numerals.{add-one}
 use lib.ListN.{length, take, drop, getD, set, length-take, length-append}
 use lib.Seq.{take-suc, drop-cons, set-at}
 use Rattle.encode_spec.specs.Encode.{bytesIn}
-use Rattle.m68k_encode.specs.Laws.{bytes-length}
+use Rattle.m68k_facts.specs.Laws.{bytes-length}
 
 bytes-append : (ws : List ℕ) (w : ℕ) → bytesIn (ws ++ (w ∷ [])) ≡ bytesIn ws ++ (w / 256 ∷ w % 256 ∷ [])
 bytes-append [] w = refl

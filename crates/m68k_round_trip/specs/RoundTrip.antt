@@ -15,7 +15,7 @@ use Rattle.read_spec.specs.declared.Reading.{Reading}
 use Rattle.read_spec.specs.declared.Reading.the-variants.{Read}
 use Rattle.read_spec.specs.Plain.{plain}
 use Rattle.read_spec.specs.Read.{readOf}
-use Rattle.m68k_encode.specs.Laws.{size-law}
+use Rattle.m68k_facts.specs.Laws.{size-law}
 use Rattle.read_spec.specs.Accepted.{InstructionInTypes, Accepted, Words}
 use Rattle.read_spec.specs.RoundTrip.{readBackOf, ReadsBack, writtenBack, WritesBack}
 use Rattle.read_laws.specs.ReaderLaws.{complete, sound}

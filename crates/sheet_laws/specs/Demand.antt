@@ -12,7 +12,7 @@ use Rattle.read_spec.specs.Plain.{plain}
 use Rattle.read_spec.specs.Read.{readOf}
 use Rattle.read_spec.specs.Accepted as reads
 use Rattle.read_laws.specs.ReaderLaws.{complete}
-use Rattle.m68k_encode.specs.Laws.{accepted-fine, accepted-words}
+use Rattle.m68k_facts.specs.Laws.{accepted-fine, accepted-words}
 use Rattle.numeric_spec.specs.Form.{formOf}
 use Rattle.sheet_spec.specs.Made.{made, ofLines}
 use Rattle.sheet_spec.specs.Sheet.{Sheet, lineCount, lineAt, countOfLine, addressOfLine, resolved, encodedWords}

@@ -4,7 +4,7 @@ use mathlib.Core.Path.{sym, ap, _∙_, subst}
 use mathlib.Core.List.{List}
 use Rattle.isa.specs.declared.Measured.{Measured}
 use Rattle.encode_spec.specs.Promises.{OnlyOutOfRange}
-use Rattle.m68k_encode.specs.Laws.{range-law}
+use Rattle.m68k_facts.specs.Laws.{range-law}
 use Rattle.sheet_spec.specs.Made.{Made, made}
 use Rattle.sheet_spec.specs.Sheet.{Sheet, sheetAt, lineCount, lineAt, addressOfLine, resolved, encodedLine}
 use Rattle.sheet_spec.specs.Promises.{InGrammar, MeasuredSheet}

@@ -12,8 +12,8 @@ use Rattle.sheet_spec.specs.Sheet.{sizedAs, sizedOf, halfOf, total, addressesFr
 use Rattle.sheet_spec.specs.Translate.{inOrder, inTurn, sizeOutcome}
 use Rattle.sheet_facts.specs.Listing.{both-in-order, in-order-zero}
 use Rattle.sheet_facts.specs.Made.{made-back}
-use Rattle.m68k_encode.specs.Sizes.{size-least, size-most}
-use Rattle.m68k_encode.specs.Laws.{places-law, encode-most}
+use Rattle.m68k_facts.specs.Sizes.{size-least, size-most}
+use Rattle.m68k_facts.specs.Laws.{places-law, encode-most}
 use Rattle.sheet_passes.specs.Passes.{filledOf, listed, lineEncoded}
 
 -- ---- an encoded line has eleven places, and so many words count

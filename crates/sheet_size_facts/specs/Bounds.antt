@@ -14,7 +14,7 @@ use Rattle.sheet_size_facts.specs.Image.{addresses-are, total-part, tota
 use Rattle.sheet_size_facts.specs.Outcomes.{counts-length, count-half}
 use Rattle.sheet_size_facts.specs.Turned.{Bounded}
 use Rattle.sheet_size_facts.specs.Made.{LineMade, line-made}
-use Rattle.m68k_encode.specs.Sizes.{size-least}
+use Rattle.m68k_facts.specs.Sizes.{size-least}
 
 -- the names of n lines
 abbrev pub upTo : ℕ → ℕ → Bool

@@ -18,7 +18,7 @@ use Rattle.sheet_size_facts.specs.Made.{LineMade}
 use Rattle.sheet_size_facts.specs.Image.{noWords, encoded-is, Counts, words-length}
 use Rattle.sheet_size_facts.specs.Outcomes.{counts-length, places-length, lines-length, accepted}
 use Rattle.sheet_size_facts.specs.Bounds.{upTo, line-at, count-size, addresses-bounded}
-use Rattle.m68k_encode.specs.Laws.{size-law, places-law, encode-most}
+use Rattle.m68k_facts.specs.Laws.{size-law, places-law, encode-most}
 
 -- the words that count are as many as they say
 pub words-counted : (i : Instruction) (a : ℕ) → length (encodedWords (encodeOf i a)) ≡ encodeOf i a .count

@@ -43,8 +43,8 @@ use Rattle.sheet_size_facts.specs.Turned.{Input, Turned}
 use Rattle.sheet_size_facts.specs.Sorts.{chosen}
 use Rattle.sheet_size_facts.specs.Rows.{Row, row}
 use Rattle.read_spec.specs.LeftOut.{Ordinary}
-use Rattle.m68k_encode.specs.Sizes as sizes
-use Rattle.m68k_encode.specs.Sizes.{untargeted-size, aim-size}
+use Rattle.m68k_facts.specs.Sizes as sizes
+use Rattle.m68k_facts.specs.Sizes.{untargeted-size, aim-size}
 use Rattle.sheet_size_facts.specs.Lawful.{branch-stays, quiet, Goes, quietly, aimed, Follows}
 
 -- what a line's first field says is an instruction's name

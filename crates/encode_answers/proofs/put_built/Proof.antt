@@ -2,7 +2,7 @@ use borrow.Author.Needs.{needs}
 use Rattle.encode_answers.proofs.put_built.Statement.{statement}
 use Rattle.encode_answers.proofs.put_built.Tie as tie
 use native.Mathlib.Omega.{arith}
-use Rattle.m68k_encode.specs.Laws.{places-law, encode-most}
+use Rattle.m68k_facts.specs.Laws.{places-law, encode-most}
 
 put-result-requires : tie.Need-put-result-requires
 put-result-requires c κs =

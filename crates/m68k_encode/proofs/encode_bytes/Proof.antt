@@ -5,7 +5,7 @@ use native.Mathlib.Omega.{arith}
 use mathlib.Core.Path.{_≡_}
 use Prim.Native.Nat.{_<_}
 use lib.ListN.{length}
-use Rattle.m68k_encode.specs.Laws.{encode-most, places-law, bytes-refused, bytes-short, bytes-done}
+use Rattle.m68k_facts.specs.Laws.{encode-most, places-law, bytes-refused, bytes-short, bytes-done}
 
 measure-requires : tie.Need-measure-requires
 measure-requires c κs = let a = c .before .before .before .before .args in rw (c .before .before .encode .ensures) (encode-most (a .instruction) (a .address))

@@ -6,7 +6,7 @@ use mathlib.Core.Path.{_≡_}
 use Rattle.encode_spec.specs.Encode.{encodedAs, refusalOf, wordsOf}
 use Rattle.encode_spec.specs.Instruction.{partsOf}
 use Rattle.encode_state.specs.Laws.{view}
-use Rattle.m68k_encode.specs.Laws.{few, count-most}
+use Rattle.m68k_facts.specs.Laws.{few, count-most}
 
 returns : tie.Need-returns
 returns c =

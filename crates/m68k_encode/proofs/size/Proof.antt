@@ -3,7 +3,7 @@ use Rattle.m68k_encode.proofs.size.Statement.{statement}
 use Rattle.m68k_encode.proofs.size.Tie as tie
 use mathlib.Core.Bool.{false}
 use Rattle.encode_spec.specs.Encode.{sizeOf, refusalOf, wordsOf}
-use Rattle.m68k_encode.specs.Laws.{measured-as}
+use Rattle.m68k_facts.specs.Laws.{measured-as}
 
 measure-requires : tie.Need-measure-requires
 measure-requires c κs = c .encoded .ensures .1

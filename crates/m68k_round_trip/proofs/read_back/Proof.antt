@@ -1,7 +1,7 @@
 use borrow.Author.Needs.{needs}
 use mathlib.Core.Path.{_∙_}
 use native.Mathlib.Omega.{arith}
-use Rattle.m68k_encode.specs.Laws.{encode-most, places-law}
+use Rattle.m68k_facts.specs.Laws.{encode-most, places-law}
 use Rattle.m68k_round_trip.specs.RoundTrip.{back, reads-back, take-count}
 use Rattle.m68k_round_trip.proofs.InTypes.{instruction-in-types}
 use Rattle.m68k_round_trip.proofs.read_back.Statement.{statement}

@@ -16,7 +16,7 @@ use Rattle.isa_spec.specs.Field.{holds}
 use Rattle.encode_spec.specs.Item.{Item, Verdict, fine, malformed, outOfRange, noEncoding, word, check, range, unless, ranged, countOf, orElse, failure}
 use Rattle.encode_spec.specs.Encode.{itemsOf, wordsOf, refusalOf, padded, encodedAs, encodeOf, measuredAs, sizeOf, bytesIn, short, bytesAs, bytesOf, lentAs, lentOf}
 use Rattle.encode_spec.specs.Promises.{OnlyOutOfRange, accepted, outside, Counted}
-use Rattle.m68k_encode.specs.Lays.{alike-count, alike-failure, instruction-lays}
+use Rattle.m68k_facts.specs.Lays.{alike-count, alike-failure, instruction-lays}
 use Rattle.encode_facts.specs.Items.{words-count, fine-both}
 
 -- ---- lists of items

@@ -37,7 +37,7 @@ use Rattle.encode_spec.specs.Control.{branchParts, bccParts, dbccParts, sccPart
 use Rattle.encode_spec.specs.System.{movesParts, casParts}
 use Rattle.encode_spec.specs.Instruction.{registerParts, transferParts, pairParts, wordParts, unsizedRegisterParts, unsizedOneParts, unsizedPairParts, oneParts, branchesParts, packsParts}
 use Rattle.encode_facts.specs.Items.{failure-append, words-in-append, words-count}
-use Rattle.m68k_encode.specs.Lays.{alike-count, instruction-lays}
+use Rattle.m68k_facts.specs.Lays.{alike-count, instruction-lays}
 
 -- ---- 2 to 22, and twice the words
 measured-most : (v : Verdict) (k : ℕ) → measuredAs v k .size ≤ k
