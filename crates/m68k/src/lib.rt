@@ -1,14 +1,5 @@
 // The entry points: from an instruction and an address to words, to bytes and to a size, and from words and an address to an instruction.
-ghost use mathlib.Core.Path.{_≡_};
-ghost use Rattle.read_spec.specs.Read.{readOf};
 pub use m68k_encode::encode;
 pub use m68k_encode::encode_bytes;
 pub use m68k_encode::size;
-use read_spec::Reading;
-
-// The instruction that words at an address begin with, in plain form, and its length in bytes.
-pub fn read(words: &[u16], address: u32) -> Reading
-    ensures { λ r. ⌜ r ≡ readOf (now (words .entry)) address ⌝ }
-{
-    read_instruction::read(words, address)
-}
+pub use m68k_read::read;

@@ -76,7 +76,7 @@ fn put_run(out: &mut [u8], at: usize, run: Run) -> usize
 {
     let words = run.words;
     let count = run.count;
-    put_reading(out, at, m68k::read(&words[..count], run.address))
+    put_reading(out, at, m68k_read::read(&words[..count], run.address))
 }
 
 // The answer to a line, from place `at` on; the next place.
