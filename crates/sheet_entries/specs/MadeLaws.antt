@@ -61,7 +61,7 @@ module _ (n : ℕ) (few : n ≤ 4096) (g : ℕ → ℕ) where
   names-in (says vs) h = names-lines vs (h vs refl)
   names-in no h = names-none
 
--- names made f, where an entry's number is made what f says of it
+-- labels made f, where an entry's number is made what f says of it
 module _ (addresses : List ℕ) (f : ℕ → Option ℕ) (agrees : (k : ℕ) → addressIn addresses (capped k) ≡ Option·getD (f k) 0) where
   number-token : (v : Token) → cond (negativeIn v) (minus (resolvedNumber addresses (isLine v) (magnitudeIn v))) (pos (resolvedNumber addresses (isLine v) (magnitudeIn v))) ≡ numberAs f v
   number-token (literal true n) = refl

@@ -114,7 +114,7 @@ fn line_name(f: &[u8]) -> Value
     line_number(&f[1..])
 }
 
-// A line's name or a number.
+// A label or a number.
 fn place(f: &[u8]) -> Value
     ensures { λ r. ⌜ r ≡ valueOf (token Kind.Place (now (f .entry))) ⌝ }
 {

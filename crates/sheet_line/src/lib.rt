@@ -19,7 +19,7 @@ fn says(v: Value) -> bool
     }
 }
 
-// The place that a variant's name says; 0 of a line's name, whose kind has no fields.
+// The place that a variant's name says; 0 of a label, whose kind has no fields.
 fn variant_place(v: Value) -> u64
     ensures { λ r. ⌜ r ≡ variantPlace v ⌝ }
 {

@@ -28,7 +28,7 @@ as-most (turnedBack k) a = omega arith
 pub as-words : (m : Made) (a : ℕ) → length (encodedWords (encodedLine a m)) ≡ encodedLine a m .count
 as-words m a = omega (arith, as-places m a, as-most m a, length-take (encodedLine a m .count) (encodedLine a m .words))
 
--- where its names have been looked at, it is the line encoded
+-- where its labels have been looked at, it is the line encoded
 pub line-is : (addresses : List ℕ) (p : Parsed) (a : ℕ) → resolvesIn (listed addresses) p ≡ true → lineEncoded addresses p a ≡ encodedLine a (made (listed addresses) p)
 unfolding lineEncoded made
 line-is addresses p a h = rw h

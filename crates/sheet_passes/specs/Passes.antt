@@ -30,15 +30,15 @@ abbrev pub filledOf : ℕ → List Measured → List ℕ
 filledOf a [] = []
 filledOf a (m ∷ ms) = cond (eqb (m .number) 0) (a % 2 ^ 32 ∷ filledOf (a + 2 * halfOf m) ms) []
 
--- names made the addresses of a list, one a line
+-- labels made the addresses of a list, one a line
 abbrev pub listed : List ℕ → ℕ → Option ℕ
 listed addresses = ofLines (length addresses) (λ k. getD addresses (pred k) 0)
 
--- a line whose names have been looked at, encoded
+-- a line whose labels have been looked at, encoded
 unfoldable pub lineEncoded : List ℕ → Parsed → ℕ → Encoded
 lineEncoded addresses p a = encodedLine a (judged (builtAs (listed addresses) p) true)
 
--- an address for each line, and the lines' names have been looked at
+-- an address for each line, and the lines' labels have been looked at
 pub record Placed (addresses : List ℕ) (ps : List Parsed) : Type 0 where
   pub few : length addresses ≤ 4096
   pub lines : length addresses ≡ length ps

@@ -73,7 +73,7 @@ fn encoded_as(b: Built, address: u32) -> Encoded
     }
 }
 
-// A line's words at its address, its names made addresses.
+// A line's words at its address, its labels made addresses.
 fn encoded(line: &[u8], addresses: &[u32], address: u32) -> Encoded
     requires { ⌜ length (now addresses) ≤ 4096 ⌝ }
     ensures { λ r. ⌜ r ≡ lineEncoded (now (addresses .entry)) (lineOf (now (line .entry))) address ⌝ }

@@ -16,7 +16,7 @@ use Rattle.sheet_size_facts.specs.Turned.{Bounded}
 use Rattle.sheet_size_facts.specs.Made.{LineMade, line-made}
 use Rattle.m68k_facts.specs.Sizes.{size-least}
 
--- the names of n lines
+-- the labels of n lines
 abbrev pub upTo : ℕ → ℕ → Bool
 upTo n k = leb 1 k && leb k n
 
@@ -43,7 +43,7 @@ module _ (s : Sheet) where
     pub count-some : (n : ℕ) → 1 ≤ n → n ≤ lineCount s → 1 ≤ countOfLine s n
     count-some n h g = omega (arith, count-size n h g, size-least (line-at n h g .first) (line-at n h g .number))
 
-    -- names are made numbers of 32 bits
+    -- labels are made numbers of 32 bits
     pub names-bounded : Bounded (upTo (lineCount s)) (λ k. k)
     names-bounded k e =
         let u = up-to (lineCount s) k e in

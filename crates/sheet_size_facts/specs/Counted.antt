@@ -29,7 +29,7 @@ module _ (s : Sheet) (grammar : (n : ℕ) → InGrammar (lineAt s n)) (room : �
     abbrev pub at-line : LineMade (upTo (lineCount s)) (lineAt s n)
     at-line = line-at s grammar (ok .measured) n h g
 
-    -- the line's instruction, its names made addresses
+    -- the line's instruction, its labels made addresses
     abbrev pub i : Instruction
     i = at-line .instruction (addressOfLine s)
 

@@ -28,7 +28,7 @@ pub data Goes (d : ℕ → Bool) (y : (ℕ → ℕ) → Instruction) : Type 0 wh
   quietly : ((f : ℕ → ℕ) → quiet (nextOf (y f)) ≡ true) → Goes d y
   aimed : Aimed d (λ f. target (nextOf (y f))) → Goes d y
 
--- instructions for i, whatever names are made: of its size, their plain forms go alike, and they are read between even addresses
+-- instructions for i, whatever labels are made: of its size, their plain forms go alike, and they are read between even addresses
 pub record Follows (d : ℕ → Bool) (i : Instruction) (y : (ℕ → ℕ) → Instruction) : Type 0 where
   pub size : (f : ℕ → ℕ) → sizeOf (y f) ≡ sizeOf i
   pub plain : (f : ℕ → ℕ) → nextOf (plain.plain (y f)) ≡ nextOf (y f)

@@ -1,4 +1,4 @@
--- A line that `size` accepts, whatever its names are made.
+-- A line that `size` accepts, whatever its labels are made.
 use Prim.Native.Nat.{ℕ, _^_, _<_}
 use mathlib.Core.Path.{_≡_, refl, sym, ap, _∙_, subst}
 use mathlib.Core.Bool.{Bool, true, false, cond, _&&_}
@@ -19,9 +19,9 @@ use Rattle.sheet_size_facts.specs.Turned.{every, given, Spelt, Bounded, 
 use Rattle.sheet_size_facts.specs.Lawful.{Follows, Goes, quietly, aimed}
 use Rattle.sheet_size_facts.specs.Renamed.{instruction-turned}
 
--- ---- names of d, made what g says
+-- ---- labels of d, made what g says
 
--- all names made numbers, those outside d 0
+-- all labels made numbers, those outside d 0
 abbrev zeroed : (ℕ → Bool) → (ℕ → ℕ) → ℕ → ℕ
 zeroed d g k = Option·getD (given d g k) 0
 
@@ -32,7 +32,7 @@ numbers-given d g (literal false n ∷ vs) = λ i. numberAs (given d g) (literal
 numbers-given d g (label n ∷ vs) = λ i. numberAs (given d g) (label n) ∷ numbers-given d g vs i
 numbers-given d g (invalid ∷ vs) = λ i. numberAs (given d g) invalid ∷ numbers-given d g vs i
 
--- which names there are does not depend on what they are made
+-- which labels there are does not depend on what they are made
 some-either : (b : Bool) (m n : ℕ) → isSome (cond b (some m) none) ≡ isSome (cond b (some n) none)
 some-either true m n = refl
 some-either false m n = refl

@@ -1,4 +1,4 @@
--- The instruction that a line makes, whatever its names are made: the same but for the targets.
+-- The instruction that a line makes, whatever its labels are made: the same but for the targets.
 use Prim.Native.Nat.{ℕ, _%_, _<_}
 use mathlib.Core.Path.{_≡_, refl, sym, ap, _∙_, subst}
 use mathlib.Core.Bool.{Bool, true, false}

@@ -1,4 +1,4 @@
--- Sorts of values in a line: their form, the kinds of its fields, what they make whatever names are made, and their line whatever their targets name.
+-- Sorts of values in a line: their form, the kinds of its fields, what they make whatever labels are made, and their line whatever their targets name.
 use Prim.Native.Nat.{ℕ, suc, _-_, _^_}
 use mathlib.Core.Path.{_≡_, refl, sym, ap, ap₂, _∙_}
 use mathlib.Core.Bool.{Bool, true, false, cond, _&&_, false≢true}

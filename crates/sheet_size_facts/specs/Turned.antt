@@ -1,4 +1,4 @@
--- What a line's fields make when each line's name is made a number: the same values, but for the targets.
+-- What a line's fields make when each label is made a number: the same values, but for the targets.
 use Prim.Native.Nat.{ℕ, _^_, _<_}
 use mathlib.Core.Path.{_≡_}
 use mathlib.Core.Bool.{Bool, true, cond}
@@ -11,7 +11,7 @@ use Rattle.sheet_spec.specs.Line.{Token}
 use Rattle.sheet_spec.specs.Spell.{SuitAll}
 use Rattle.sheet_spec.specs.Made.{numberAs, resolvesAll}
 
--- every name made what f says, and the names of d alone
+-- every label made what f says, and the labels of d alone
 abbrev pub every : (ℕ → ℕ) → ℕ → Option ℕ
 every f k = some (f k)
 
@@ -28,17 +28,17 @@ head-is e = cc
 pub tail-is : {x y : ℤ} {xs ys : List ℤ} → x ∷ xs ≡ y ∷ ys → xs ≡ ys
 tail-is e = cc
 
--- what a name is made is of 32 bits
+-- what a label is made is of 32 bits
 abbrev pub Bounded : (ℕ → Bool) → (ℕ → ℕ) → Type 0
 Bounded d f = (k : ℕ) → d k ≡ true → f k < 2 ^ 32
 
--- fields in the grammar that name lines, and the entries that they spell where names are 0
+-- fields in the grammar that name lines, and the entries that they spell where labels are 0
 pub record Input (d : ℕ → Bool) (ks : List Kind) (vs : List Token) (es : List Entry) : Type 0 where
   pub fits : SuitAll ks vs
   pub labels : resolvesAll (given d (λ k. 0)) vs ≡ true
   pub zeros : Spelt (λ k. 0) vs es
 
--- a value in front, whatever names are made, and what is left of the fields
+-- a value in front, whatever labels are made, and what is left of the fields
 pub record Turned (d : ℕ → Bool) (X : Type 0) (form : X → List Entry) (P : ((ℕ → ℕ) → X) → Type 0) (ks : List Kind) (vs : List Token) (es : List Entry) : Type 0 where
   pub rest : List Token
   pub left : Input d ks rest es

@@ -12,7 +12,7 @@ use Rattle.sheet_spec.specs.declared.Kind.the-variants as kind
 use Rattle.sheet_spec.specs.Names.{bytes, namesOf}
 use Rattle.sheet_spec.specs.Grammar.{kindsOf}
 
--- what one field says: a number, a line's name, or nothing in the form; a variant's name says its place
+-- what one field says: a number, a label, or nothing in the form; a variant's name says its place
 pub data Token : Type 0 where
   literal : Bool → ℕ → Token
   label : ℕ → Token

@@ -1,4 +1,4 @@
--- What a line makes, its names made numbers by a function from a line's number: none where it names no line.
+-- What a line makes, its labels made numbers by a function from a line's number: none where there is no such line.
 use Prim.Native.Nat.{ℕ}
 use mathlib.Core.Path.{_≡_}
 use mathlib.Core.Bool.{Bool, true, false, cond, _&&_}
@@ -17,7 +17,7 @@ use Rattle.sheet_spec.specs.declared.Kind.the-variants as kind
 use Rattle.sheet_spec.specs.Line.{Token, literal, label, invalid, Parsed, says, no}
 use Rattle.sheet_spec.specs.Spell.{SuitAll}
 
--- the number that a token says, 0 for a name that is none
+-- the number that a token says, 0 for a label that is none
 abbrev pub numberAs : (ℕ → Option ℕ) → Token → ℤ
 numberAs f (literal true n) = minus n
 numberAs f (literal false n) = pos n
@@ -44,7 +44,7 @@ pub record Line (f : ℕ → Option ℕ) (vs : List Token) (i : Instruction) : T
   pub numbers : map (numberAs f) vs ≡ numbersOf i
   pub inside : Inside (formOf i)
 
--- what a line makes: an instruction, or 7 where it is not in the form, or 8 where a name is none
+-- what a line makes: an instruction, or 7 where it is not in the form, or 8 where a label is none
 pub data Made : Type 0 where
   makes : Instruction → Made
   turnedBack : ℕ → Made

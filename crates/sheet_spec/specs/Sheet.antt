@@ -123,7 +123,7 @@ countOfLine s n = getD (counts s) (pred n) 0
 abbrev pub addressOfLine : Sheet → ℕ → ℕ
 addressOfLine s n = getD (addresses s) (pred n) 0
 
--- each `@` replaced by the named line's address
+-- each label made its line's address
 abbrev pub resolved : Sheet → ℕ → Option ℕ
 resolved s = ofLines (lineCount s) (addressOfLine s)
 

@@ -14,12 +14,12 @@ use mathlib.Core.Path.{_≡_}
 use mathlib.Core.Option.{some}
 use Rattle.isa.specs.declared.Instruction.{Instruction}
 
--- the line that a target names; an operand's target may be its number instead
+-- what stands for a target: the label of line n; for an operand's target its own number may stand instead
 pub data Mark : Type 0 where
   numbered : ℕ → Mark
   labelled : ℕ → Mark
 
--- what stands for an entry in a field of a kind, and the entry, with 0 for a target that a line's name stands for
+-- what stands for an entry in a field of a kind, and the entry, with 0 for a target that a label stands for
 abbrev pub unmarked : Entry → Token × Entry
 unmarked (unsigned top n) = (literal false n, unsigned top n)
 unmarked (signed (pos n)) = (literal false n, signed (pos n))
@@ -44,7 +44,7 @@ saying m ks es = map (λ w. w .0) (fieldsBy m ks es)
 abbrev pub unaimed : (ℕ → Mark) → List Kind → List Entry → List Entry
 unaimed m ks es = map (λ w. w .1) (fieldsBy m ks es)
 
--- a line for an instruction: its entries, with 0 for each target that a line's name stands for
+-- a line for an instruction: its entries, with 0 for each target that a label stands for
 pub record Told (m : ℕ → Mark) (i : Instruction) : Type 0 where
   pub untargeted : Instruction
   pub form : formOf untargeted ≡ unaimed m (kind.Instruction ∷ []) (formOf i)
