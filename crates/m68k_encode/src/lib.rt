@@ -6,7 +6,7 @@ ghost use Prim.Native.Nat.{_*_, _/_, _%_, _≤_, _<_};
 ghost use lib.ListN.{length, take, drop};
 ghost use Rattle.encode_spec.specs.Encode.{encodedAs, refusalOf, wordsOf, encodeOf, sizeOf, bytesOf, lentOf, bytesIn};
 ghost use Rattle.encode_state.specs.Laws.{finished};
-ghost use Rattle.m68k_facts.specs.Laws.{measured};
+ghost use Rattle.m68k_facts.specs.Measure.{measured};
 use encode_state::Encoder;
 use isa::Encoded;
 use isa::Instruction;

@@ -10,12 +10,12 @@ use lib.Seq.{take-at}
 use borrow.Author.Tests.{lt-ltb, le-ltb, le-leb, lt-leb}
 use Rattle.isa.specs.declared.Field.{Field}
 use Rattle.isa.specs.declared.Instruction.{Instruction}
-use Rattle.isa.specs.declared.Encoded.{Encoded}
 use Rattle.isa.specs.declared.Measured.{Measured}
 use Rattle.isa_spec.specs.Field.{holds}
 use Rattle.encode_spec.specs.Item.{Item, Verdict, fine, malformed, outOfRange, noEncoding, word, check, range, unless, ranged, countOf, orElse, failure}
 use Rattle.encode_spec.specs.Encode.{itemsOf, wordsOf, refusalOf, padded, encodedAs, encodeOf, measuredAs, sizeOf, bytesIn, short, bytesAs, bytesOf, lentAs, lentOf}
 use Rattle.encode_spec.specs.Promises.{OnlyOutOfRange, accepted, outside, Counted}
+use Rattle.m68k_facts.specs.Measure.{measured}
 use Rattle.m68k_facts.specs.Lays.{alike-count, alike-failure, instruction-lays}
 use Rattle.encode_facts.specs.Items.{words-count, fine-both}
 
@@ -125,10 +125,6 @@ unfolding encodeOf
 places-law i a = places-as (refusalOf true i a) (wordsOf i a) (omega (arith, words-count (itemsOf i a), few i a))
 
 -- ---- sizes and bytes from the words
--- twice the count of an encoding, with its refusal
-abbrev pub measured : Encoded → Measured
-measured e = record { size = 2 * e .count; number = e .number; detail = e .detail; value = e .value }
-
 pub measured-as : (v : Verdict) (ws : List ℕ) → measured (encodedAs v ws) ≡ measuredAs v (2 * length ws)
 measured-as fine ws = refl
 measured-as malformed ws = refl

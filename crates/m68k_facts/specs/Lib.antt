@@ -1,3 +1,4 @@
+pub mod Measure
 pub mod Lays
 pub mod Laws
 pub mod Cases

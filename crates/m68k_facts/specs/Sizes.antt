@@ -126,16 +126,16 @@ either true F p q = p
 either false F p q = q
 
 -- `size`, and all that it computes with
-measured : Instruction → Measured
+computed : Instruction → Measured
 unfolding sizeOf permits byteOfAddress single withData withAddress fromData moveParts moveaParts movemParts movepParts immediateParts quickParts intoDataParts arithmeticParts intoAddressParts boundsParts extendedParts cmpmParts mullParts divlParts tstParts logicalParts shiftParts shiftRegisterParts shiftMemoryParts bitParts dynamicParts staticParts bitFieldParts packParts branchParts bccParts dbccParts sccParts movesParts casParts registerParts transferParts pairParts wordParts unsizedRegisterParts unsizedOneParts unsizedPairParts oneParts branchesParts packsParts
-measured i = sizeOf i
+computed i = sizeOf i
 
 -- with a displacement and with an index from the program counter
 abbrev Sizes : (Operand → Instruction) → ℕ → IndexRegister → Measured × Measured
 Sizes c t x = (sizeOf (c (PcDisplacement t)), sizeOf (c (PcIndex t x)))
 
 steady : {c : Operand → Instruction} → Hole c → (t : ℕ) (x : IndexRegister) → Sizes c 0 x ≡ Sizes c t x
-unfolding measured
+unfolding computed
 steady (into-register {op}) t x = elim op [ ADDA ↦ refl | SUBA ↦ refl | CMPA ↦ refl | MOVEA ↦ refl | CMP ↦ refl | CHK2 ↦ refl | CMP2 ↦ refl ]
 steady movem t x = refl
 steady (transfer {op}) t x = elim op [ MOVEP ↦ refl | MOVES ↦ refl ]
@@ -182,7 +182,7 @@ untargeted-size h (Extended base w z outer) = refl
 untargeted-size h (Absolute a w) = refl
 
 pub aim-size : {c : ℕ → Instruction} → Aim c → (t : ℕ) → sizeOf (c 0) ≡ sizeOf (c t)
-unfolding measured
+unfolding computed
 aim-size (bcc {c} {s}) t = elim s [ reach.Short ↦ refl | reach.Word ↦ refl | reach.Long ↦ refl ]
 aim-size dbcc t = refl
 aim-size (branch {op} {s}) t = elim op [ BRA ↦ elim s [ reach.Short ↦ refl | reach.Word ↦ refl | reach.Long ↦ refl ] | BSR ↦ elim s [ reach.Short ↦ refl | reach.Word ↦ refl | reach.Long ↦ refl ] ]
