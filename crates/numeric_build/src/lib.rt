@@ -2,6 +2,7 @@
 ghost use mathlib.Core.Path.{_≡_};
 ghost use Prim.Native.Nat.{_<_};
 ghost use Rattle.numeric_fields.specs.Number.{numbersIn};
+ghost use Rattle.numeric_fields.specs.Taken.{Whole};
 ghost use lib.ListN.{getD};
 ghost use Rattle.numeric_places.specs.Places.{builtFrom};
 ghost use Rattle.numeric_build.specs.Build.{entries, lineOf};
@@ -148,16 +149,24 @@ fn line_at(count: usize, negative: &[bool; 24], magnitude: &[u64; 24], from: usi
 }
 
 // The instruction whose numbers are all those from a place on.
-pub fn build(numbers: Numbers, from: usize) -> Built
-    ensures { λ r. ⌜ r ≡ builtFrom numbers from ⌝ }
+pub fn build_in(count: usize, negative: &[bool; 24], magnitude: &[u64; 24], from: usize) -> Built
+    requires { ⌜ Whole (numbersIn count (now negative) (now magnitude)) ⌝ }
+    ensures { λ r. ⌜ r ≡ builtFrom (numbersIn count (now (negative .entry)) (now (magnitude .entry))) from ⌝ }
 {
-    let negative = numbers.negative;
-    let magnitude = numbers.magnitude;
-    let l = line_at(numbers.count, &negative, &magnitude, from);
+    let l = line_at(count, negative, magnitude, from);
     if l.ok {
         let slots = l.slots;
         let instruction = instruction_of(l.shape, l.operation, slots);
         return Built::Instruction(instruction);
     }
     Built::NotInForm
+}
+
+// The same of numbers by value.
+pub fn build(numbers: Numbers, from: usize) -> Built
+    ensures { λ r. ⌜ r ≡ builtFrom numbers from ⌝ }
+{
+    let negative = numbers.negative;
+    let magnitude = numbers.magnitude;
+    build_in(numbers.count, &negative, &magnitude, from)
 }

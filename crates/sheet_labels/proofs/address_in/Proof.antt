@@ -1,9 +1,9 @@
 use mathlib.Core.Path.{_∙_, sym}
 use lib.ListN.{List·getD-eq-default}
-use Rattle.sheet_entries.proofs.Laws.{address-line}
+use Rattle.sheet_labels.proofs.Laws.{address-line}
 use borrow.Author.Needs.{needs}
-use Rattle.sheet_entries.proofs.address_in.Statement.{statement}
-use Rattle.sheet_entries.proofs.address_in.Tie as tie
+use Rattle.sheet_labels.proofs.address_in.Statement.{statement}
+use Rattle.sheet_labels.proofs.address_in.Tie as tie
 
 returns-2 : tie.Need-returns-2
 returns-2 c = let a = c .before .before .before .before .before .args in c .wide .ensures ∙ sym (address-line (a .addresses .now) (a .k) (c .before .before .before .if1 .left))

@@ -1,4 +1,0 @@
-pub mod With
-pub mod Made
-pub mod WithLaws
-pub mod MadeLaws

@@ -1,0 +1,51 @@
+-- What a field's value says, with the lines at given addresses.
+use Prim.Native.Nat.{ℕ, pred}
+use mathlib.Core.Bool.{Bool, true, false, _&&_, _||_}
+use mathlib.Core.List.{List, [], _∷_}
+use mathlib.Core.Option.{Option}
+use lib.Dec.{leb}
+use lib.ListN.{length, getD}
+use Rattle.sheet_spec.specs.Line.{Token, Parsed, says, no}
+use Rattle.sheet_spec.specs.Made.{ofLines}
+use Rattle.sheet_tokens.specs.declared.Value.{Value}
+use Rattle.sheet_tokens.specs.declared.Value.the-variants as value
+use Rattle.sheet_tokens.specs.Entries.{valueOf}
+
+-- the address of line k, 0 where there is none
+abbrev pub addressIn : List ℕ → ℕ → ℕ
+addressIn addresses k = getD (0 ∷ addresses) k 0
+
+-- a label made its line's address
+abbrev pub numberIn : List ℕ → Value → ℕ
+numberIn addresses (value.Number negative n) = n
+numberIn addresses (value.Line k) = addressIn addresses k
+numberIn addresses value.None = 0
+
+abbrev pub isNegative : Value → Bool
+isNegative (value.Number negative n) = negative
+isNegative (value.Line k) = false
+isNegative value.None = false
+
+abbrev pub isLabel : Value → Bool
+isLabel (value.Number negative n) = false
+isLabel (value.Line k) = true
+isLabel value.None = false
+
+-- a label is the number of one of n lines
+abbrev pub namesLine : ℕ → Value → Bool
+namesLine n (value.Number negative m) = true
+namesLine n (value.Line k) = leb 1 k && leb k n
+namesLine n value.None = true
+
+-- labels made the addresses of a list, one a line
+abbrev pub listed : List ℕ → ℕ → Option ℕ
+listed addresses = ofLines (length addresses) (λ k. getD addresses (pred k) 0)
+
+-- what a line says has a label
+abbrev pub labelledAll : List Token → Bool
+labelledAll [] = false
+labelledAll (v ∷ vs) = isLabel (valueOf v) || labelledAll vs
+
+abbrev pub labelledIn : Parsed → Bool
+labelledIn (says vs) = labelledAll vs
+labelledIn no = false
