@@ -1,7 +1,7 @@
 -- Laws of the passes' loops, a line at a time.
 use Prim.Native.Nat.{ℕ, suc, _+_, _*_, _-_, _/_, _%_, _^_, _≤_, _<_}
 use mathlib.Core.Path.{_≡_, refl, sym, ap, _∙_}
-use mathlib.Core.Bool.{Bool, true, cond}
+use mathlib.Core.Bool.{Bool, true, false, cond, not, _&&_, _||_, and-true}
 use mathlib.Core.List.{List, [], _∷_, _++_, map, append-assoc, append-nil}
 use native.Mathlib.Omega.{arith}
 use native.Mathlib.Numerals.{add-one}
@@ -14,21 +14,25 @@ use borrow.Author.Tests.{eq-eqb, ne-eqb}
 use borrow.Rule.Slice.PartMut.{putMid}
 use Rattle.isa.specs.declared.Measured.{Measured}
 use Rattle.isa.specs.declared.Encoded.{Encoded}
+use Rattle.isa.specs.declared.Instruction.{Instruction}
+use Rattle.encode_spec.specs.Encode.{encodeOf, sizeOf}
+use Rattle.m68k_facts.specs.Laws.{size-law}
 use Rattle.base_text.specs.Parts.{partEnd}
-use Rattle.numeric_spec.specs.declared.Built.{Built}
-use Rattle.sheet_tokens.specs.declared.Entries.{Entries}
-use Rattle.sheet_tokens.specs.Entries.{entriesOf}
 use Rattle.sheet_spec.specs.Line.{Parsed, no, lineOf}
-use Rattle.sheet_kinds.specs.Few.{few}
-use Rattle.sheet_entries.specs.Made.{madeWith, namesLines}
-use Rattle.sheet_entries.specs.MadeLaws.{made-listed, made-zero, names-in}
+use Rattle.sheet_labels.specs.Labels.{listed, labelledIn}
+use Rattle.sheet_line.specs.declared.LineMade.{LineMade}
+use Rattle.sheet_line.specs.LineMade.{lineMade}
 use Rattle.base_text.specs.LinesLaws.{lines-next}
-use Rattle.sheet_spec.specs.Made.{resolvesIn, judged, made}
+use Rattle.sheet_spec.specs.Made.{resolvesIn, builtAs, judged, made, ofLines}
 use Rattle.sheet_spec.specs.Sheet.{sizedAs, sizedOf, sizesOf, halfOf, total, encodedLine, encodedFrom, encodedWords, allWords}
-use Rattle.sheet_spec.specs.Translate.{andThen, inTurn, sizeOutcome, encodeOutcome, sizing, encoding, over}
+use Rattle.sheet_spec.specs.Translate.{inOrder, refused, andThen, inTurn, sizeOutcome, encodeOutcome, encoding, over}
 use Rattle.sheet_facts.specs.Listing.{over-length}
 use Rattle.sheet_passes.specs.declared.Passed.{Passed}
-use Rattle.sheet_passes.specs.Passes.{parsedAt, passedOf, filledOf, listed, lineEncoded, Placed, encodedAt}
+use Rattle.sheet_passes.specs.declared.LineJudged.{LineJudged}
+use Rattle.sheet_passes.specs.declared.Sized.{Sized}
+use Rattle.sheet_passes.specs.Passes.{parsedAt, passedOf, filledOf, lineEncoded, Placed, encodedAt}
+use Rattle.sheet_passes.specs.Settle.{judgedInstruction, judgedMade, settledAt, judgedLine, settledFrom, sizedBy, sizedSheet, hasLabel, noRefusal, refusalIn, rangeOf, Settled}
+use Rattle.sheet_passes.specs.SettleLaws.{resolves-without, built-zero, line-unlabelled}
 use Rattle.sheet_passes.specs.PassLaws.{counted-most, as-most, as-words, line-is}
 
 -- ---- places written in front of others
@@ -63,39 +67,102 @@ lines-end text next h = rw (drop-of-length-le text {i = next} h)
 parsed-next : (text : List ℕ) (next e : ℕ) → next < length text → e ≡ partEnd 10 text next → parsedAt text next ≡ lineOf (lineTo text next e) ∷ parsedAt text (e + 1)
 parsed-next text next e h g = ap (λ (ls : List (List ℕ)). map lineOf ls) (lines-next text next e h g)
 
--- ---- one line, by its entries
-pub line-sized : (n : ℕ) (line : List ℕ) {e : Entries} {b : Built} {named : Bool} → n ≤ 4096 → e ≡ entriesOf (lineOf line)
-    → b ≡ madeWith e [] → named ≡ namesLines e n → sizedAs (judged b named) ≡ sizedOf n (lineOf line)
-unfolding sizedOf made
-line-sized n line h e f g = rw (f, g, e, made-zero n (lineOf line) (few line), names-in n h (λ k. 0) (lineOf line) (few line))
+and-assoc : (a b c : Bool) → a && (b && c) ≡ (a && b) && c
+and-assoc true b c = refl
+and-assoc false b c = refl
 
-pub line-encoded : (addresses line : List ℕ) (a : ℕ) {e : Entries} {b : Built} → length addresses ≤ 4096 → e ≡ entriesOf (lineOf line)
-    → b ≡ madeWith e addresses → encodedLine a (judged b true) ≡ lineEncoded addresses (lineOf line) a
-unfolding lineEncoded
-line-encoded addresses line a h e f = rw (f, e, made-listed addresses h (lineOf line) (few line))
+-- ---- the byte `@`, a byte at a time
+module _ (line : List ℕ) (i : ℕ) where
+  label-on : i < length line → hasLabel (drop i line) ≡ eqb (getD line i 0) 64 || hasLabel (drop (i + 1) line)
+  label-on h = rw (add-one, drop-cons line i 0 h)
+
+  pub label-here : i < length line → getD line i 0 ≡ 64 → hasLabel (drop i line) ≡ true
+  label-here h e = label-on h ∙ rw (eq-eqb (getD line i 0) 64 e)
+
+  pub label-next : i < length line → (getD line i 0 ≡ 64 → ⊥) → hasLabel (drop i line) ≡ hasLabel (drop (i + 1) line)
+  label-next h e = label-on h ∙ rw (ne-eqb (getD line i 0) 64 e)
+
+  pub label-end : length line ≤ i → hasLabel (drop i line) ≡ false
+  label-end h = rw (drop-of-length-le line {i = i} h)
+
+-- ---- one line, by what it makes
+module _ (n : ℕ) (line : List ℕ) {m : LineMade} (e : m ≡ lineMade n [] (lineOf line)) where
+  made-built : m .built ≡ builtAs (ofLines n (λ k. 0)) (lineOf line)
+  unfolding lineMade
+  made-built = rw e (built-zero n (lineOf line))
+
+  made-labelled : m .labelled ≡ labelledIn (lineOf line)
+  unfolding lineMade
+  made-labelled = rw e
+
+  made-resolves : m .resolves ≡ resolvesIn (ofLines n (λ k. 0)) (lineOf line)
+  unfolding lineMade
+  made-resolves = rw e
+
+  made-is : judged (m .built) (m .resolves) ≡ made (ofLines n (λ k. 0)) (lineOf line)
+  unfolding made
+  made-is = λ i. judged (made-built i) (made-resolves i)
+
+  pub judged-labelled : (a : ℕ) (x : Measured) → x ≡ sizedAs (judged (m .built) (m .resolves)) → m .labelled ≡ true
+      → record { measured = x; settled = true } ≡ judgedLine n a (lineOf line)
+  unfolding sizedOf settledAt
+  judged-labelled a x h t =
+      let l : labelledIn (lineOf line) ≡ true = sym made-labelled ∙ t in
+      rw (h, made-is, l)
+
+  pub judged-unlabelled : (a : ℕ) → m .labelled ≡ false → judgedMade a (judged (m .built) true) ≡ judgedLine n a (lineOf line)
+  unfolding sizedOf settledAt
+  judged-unlabelled a t =
+      let l : labelledIn (lineOf line) ≡ false = sym made-labelled ∙ t in
+      let r : judged (m .built) true ≡ made (ofLines n (λ k. 0)) (lineOf line)
+      = ap (judged (m .built)) (sym (made-resolves ∙ resolves-without (ofLines n (λ k. 0)) (lineOf line) l)) ∙ made-is in
+      rw (r, l)
+
+pub judged-accepted : (i : Instruction) (a : ℕ) → encodeOf i a .number ≡ 0
+    → record { measured = record { size = 2 * encodeOf i a .count; number = 0; detail = 0; value = pos 0 }; settled = true } ≡ judgedInstruction i a
+judged-accepted i a h = rw (size-law i a h, eq-eqb (encodeOf i a .number) 0 h)
+
+pub judged-refused : (i : Instruction) (a : ℕ) → (encodeOf i a .number ≡ 0 → ⊥) → record { measured = sizeOf i; settled = false } ≡ judgedInstruction i a
+judged-refused i a h = rw (ne-eqb (encodeOf i a .number) 0 h)
+
+pub line-encoded : (addresses line : List ℕ) (a n : ℕ) {m : LineMade} → m ≡ lineMade n addresses (lineOf line)
+    → encodedLine a (judged (m .built) true) ≡ lineEncoded addresses (lineOf line) a
+unfolding lineEncoded lineMade
+line-encoded addresses line a n e = rw e
+
+module _ (addresses line : List ℕ) (a : ℕ) (settled b : Bool) (h : b ≡ hasLabel line) where
+  pub range-looked : (e : Encoded) → e ≡ lineEncoded addresses (lineOf line) a → b || not settled ≡ true → refusalIn e ≡ rangeOf addresses line a settled
+  unfolding rangeOf
+  range-looked e is t = rw (is, rw h at t)
+
+  pub range-passed : (m : Measured) → m ≡ noRefusal → b || not settled ≡ false → m ≡ rangeOf addresses line a settled
+  unfolding rangeOf
+  range-passed m is t = is ∙ rw (rw h at t)
 
 -- ---- sizes: from `next` on it goes as it went from `from` on, after k lines and so many words
 module _ (text : List ℕ) (from n start : ℕ) (lent : List ℕ) where
   abbrev sizesAt : ℕ → List Measured
   sizesAt next = map (sizedOf n) (parsedAt text next)
 
-  pub record Measuring (next k words : ℕ) (scratch : List ℕ) : Type 0 where
+  pub record Measuring (next k words : ℕ) (settled : Bool) (scratch : List ℕ) : Type 0 where
     pub left : n ≡ k + length (parsedAt text next)
     pub few : words ≤ 11 * k
     pub verdict : inTurn sizeOutcome 1 (sizesAt from) ≡ inTurn sizeOutcome (suc k) (sizesAt next)
+    pub settles : settledFrom n start (parsedAt text from) ≡ settled && settledFrom n (start + 2 * words) (parsedAt text next)
     pub counts : total (map halfOf (sizesAt from)) ≡ words + total (map halfOf (sizesAt next))
     pub written : List ℕ
     pub filled : filledOf start (sizesAt from) ≡ written ++ filledOf (start + 2 * words) (sizesAt next)
     pub places : length written ≡ k
     pub scratch-is : scratch ≡ over written lent
 
-  pub measuring : n ≡ length (parsedAt text from) → Measuring from 0 0 lent
+  pub measuring : n ≡ length (parsedAt text from) → Measuring from 0 0 true lent
   measuring e =
       let here : start ≡ start + 2 * 0 = omega arith in
       record {
         left = omega arith;
         few = omega arith;
         verdict = refl;
+        settles = ap (λ (a : ℕ). settledFrom n a (parsedAt text from)) here;
         counts = omega arith;
         written = [];
         filled = ap (λ (a : ℕ). filledOf a (sizesAt from)) here;
@@ -103,20 +170,37 @@ module _ (text : List ℕ) (from n start : ℕ) (lent : List ℕ) where
         scratch-is = refl;
       }
 
-  abbrev pub Measured-all : Passed → List ℕ → Type 0
-  Measured-all r scratch =
-      (r ≡ passedOf (sizing (parsedAt text from)) (total (map halfOf (sizesOf (parsedAt text from))))) × (scratch ≡ over (filledOf start (sizesOf (parsedAt text from))) lent)
+  abbrev pub Measured-all : Sized → List ℕ → Type 0
+  Measured-all r scratch = (r ≡ sizedSheet start (parsedAt text from)) × (scratch ≡ over (filledOf start (sizesOf (parsedAt text from))) lent)
 
   all-lines : n ≡ length (parsedAt text from) → sizesOf (parsedAt text from) ≡ sizesAt from
   all-lines e = ap (λ (k : ℕ). map (sizedOf k) (parsedAt text from)) (sym e)
 
-  module _ {next k words : ℕ} {scratch : List ℕ} (s : Measuring next k words scratch) where
-    pub measuring-end : n ≡ length (parsedAt text from) → length text ≤ next → Measured-all (record { number = 0; line = 0; detail = 0; value = pos 0; words = words }) scratch
-    measuring-end q h =
-        let l = lines-end text next h in
-        rw (all-lines q) (rw (s .verdict, s .counts, l, add-zero), rw (s .scratch-is, s .filled, l, append-nil))
+  sized-sheet : n ≡ length (parsedAt text from)
+      → sizedSheet start (parsedAt text from) ≡ sizedBy (inTurn sizeOutcome 1 (sizesAt from)) (total (map halfOf (sizesAt from))) (settledFrom n start (parsedAt text from))
+  unfolding sizedSheet
+  sized-sheet e = ap (λ (k : ℕ). sizedBy (inTurn sizeOutcome 1 (map (sizedOf k) (parsedAt text from))) (total (map halfOf (map (sizedOf k) (parsedAt text from)))) (settledFrom k start (parsedAt text from))) (sym e)
 
-    module _ (e : ℕ) (m : Measured) (h : next < length text) (g : e ≡ partEnd 10 text next) (is : m ≡ sizedOf n (lineOf (lineTo text next e))) where
+  module _ {next k words : ℕ} {settled : Bool} {scratch : List ℕ} (s : Measuring next k words settled scratch) where
+    pub measuring-end : n ≡ length (parsedAt text from) → length text ≤ next → (r : Passed) → r ≡ passedOf inOrder words
+        → Measured-all (record { passed = r; settled = settled }) scratch
+    measuring-end q h r is =
+        let l = lines-end text next h in (
+          rw (sized-sheet q, s .verdict, s .counts, s .settles, l, add-zero, and-true settled, is),
+          rw (all-lines q) (rw (s .scratch-is, s .filled, l, append-nil)),
+        )
+
+    module _ (e a : ℕ) (put : a ≡ (start + 2 * words) % 2 ^ 32) (x : LineJudged) (h : next < length text) (g : e ≡ partEnd 10 text next)
+        (judges : x ≡ judgedLine n a (lineOf (lineTo text next e))) where
+      abbrev m : Measured
+      m = x .measured
+
+      is : m ≡ sizedOf n (lineOf (lineTo text next e))
+      is = ap (λ (y : LineJudged). y .measured) judges
+
+      settled-is : x .settled ≡ settledAt n ((start + 2 * words) % 2 ^ 32) (lineOf (lineTo text next e))
+      settled-is = ap (λ (y : LineJudged). y .settled) judges ∙ ap (λ (b : ℕ). settledAt n b (lineOf (lineTo text next e))) put
+
       lines : parsedAt text next ≡ lineOf (lineTo text next e) ∷ parsedAt text (e + 1)
       lines = parsed-next text next e h g
 
@@ -136,25 +220,28 @@ module _ (text : List ℕ) (from n start : ℕ) (lent : List ℕ) where
           ≡ s .written ++ cond (eqb (m .number) 0) ((start + 2 * words) % 2 ^ 32 ∷ filledOf (start + 2 * words + 2 * halfOf m) (sizesAt (e + 1))) []
       filled-here = s .filled ∙ ap (λ (ms : List Measured). s .written ++ filledOf (start + 2 * words) ms) sizes-here
 
-      pub measuring-stop : n ≡ length (parsedAt text from) → (m .number ≡ 0 → ⊥)
-          → Measured-all (record { number = m .number; line = k + 1; detail = m .detail; value = m .value; words = 0 }) scratch
-      measuring-stop q z =
-          rw (all-lines q) (rw (verdict-here, ne-eqb (m .number) 0 z, add-one), rw (s .scratch-is, filled-here, ne-eqb (m .number) 0 z, append-nil))
+      pub measuring-stop : n ≡ length (parsedAt text from) → (m .number ≡ 0 → ⊥) → (r : Passed) → r ≡ passedOf (refused (m .number) (k + 1) (m .detail) (m .value)) 0
+          → Measured-all (record { passed = r; settled = false }) scratch
+      measuring-stop q z r eq = (
+        rw (sized-sheet q, verdict-here, ne-eqb (m .number) 0 z, eq, add-one),
+        rw (all-lines q) (rw (s .scratch-is, filled-here, ne-eqb (m .number) 0 z, append-nil)),
+      )
 
-      pub measuring-next : m .number ≡ 0 → k < length lent → (w : ℕ) → w ≡ (start + 2 * words) % 2 ^ 32
-          → Measuring (e + 1) (k + 1) (words + m .size / 2) (set scratch k w)
-      measuring-next z room w put =
+      pub measuring-next : m .number ≡ 0 → k < length lent → Measuring (e + 1) (k + 1) (words + m .size / 2) (settled && x .settled) (set scratch k a)
+      measuring-next z room =
           let onward : suc (suc k) ≡ suc (k + 1) = omega arith in
           let far : start + 2 * words + 2 * halfOf m ≡ start + 2 * (words + m .size / 2) = omega arith in
           record {
             left = omega (arith, s .left, ap (λ (ls : List Parsed). length ls) lines);
             few = omega (arith, s .few, measuring-few);
             verdict = verdict-here ∙ rw (eq-eqb (m .number) 0 z, onward);
+            settles =
+                s .settles ∙ rw (lines, ← is, far, ← settled-is) (and-assoc settled (x .settled) (settledFrom n (start + 2 * (words + m .size / 2)) (parsedAt text (e + 1))));
             counts = omega (arith, s .counts, ap (λ (ms : List Measured). total (map halfOf ms)) sizes-here);
-            written = s .written ++ (w ∷ []);
+            written = s .written ++ (a ∷ []);
             filled = filled-here ∙ rw (eq-eqb (m .number) 0 z, far, put, append-snoc);
-            places = omega (arith, s .places, length-append (s .written) (w ∷ []));
-            scratch-is = rw (s .scratch-is) (over-set (s .written) lent k w (s .places) room);
+            places = omega (arith, s .places, length-append (s .written) (a ∷ []));
+            scratch-is = rw (s .scratch-is) (over-set (s .written) lent k a (s .places) room);
           }
 
 -- ---- the lines at their addresses: those from place k on are of the lines that are left
@@ -196,12 +283,17 @@ module _ (text : List ℕ) (from : ℕ) (addresses : List ℕ) where
           rw (lines-here, places, encoded-here)
 
   -- ---- ranges
-  pub record Ranging (next k : ℕ) : Type 0 where
+  abbrev SettledLeft : ℕ → ℕ → Type 0
+  SettledLeft next k = (j : ℕ) → j < length (parsedAt text next) → labelledIn (getD (parsedAt text next) j no) ≡ false
+      → encodedLine (getD addresses (k + j) 0) (made (listed addresses) (getD (parsedAt text next) j no)) .number ≡ 0
+
+  pub record Ranging (settled : Bool) (next k : ℕ) : Type 0 where
     pub go : Going next k
     pub verdict : encoding (encodedAt addresses (parsedAt text from)) ≡ inTurn encodeOutcome (suc k) (encodedLeft next k)
+    pub settles : settled ≡ true → SettledLeft next k
 
-  pub ranging : Placed addresses (parsedAt text from) → Ranging from 0
-  ranging p = record { go = going p; verdict = refl }
+  pub ranging : (settled : Bool) → Placed addresses (parsedAt text from) → (settled ≡ true → Settled addresses (parsedAt text from)) → Ranging settled from 0
+  ranging settled p h = record { go = going p; verdict = refl; settles = λ t j q u. let z : 0 + j ≡ j = omega arith in rw z (h t j q u) }
 
   nothing-left : (next k : ℕ) → length text ≤ next → encodedLeft next k ≡ []
   nothing-left next k h = rw (lines-end text next h) (none (drop k addresses))
@@ -210,23 +302,62 @@ module _ (text : List ℕ) (from : ℕ) (addresses : List ℕ) where
       none [] = refl
       none (a ∷ later) = refl
 
-  module _ {next k : ℕ} (s : Ranging next k) where
-    pub ranging-end : length text ≤ next
-        → record { number = 0; line = 0; detail = 0; value = pos 0; words = 0 } ≡ passedOf (encoding (encodedAt addresses (parsedAt text from))) 0
-    ranging-end h = rw (s .verdict, nothing-left next k h)
+  module _ {settled : Bool} {next k : ℕ} (s : Ranging settled next k) where
+    pub ranging-end : length text ≤ next → (r : Passed) → r ≡ passedOf inOrder 0 → r ≡ passedOf (encoding (encodedAt addresses (parsedAt text from))) 0
+    ranging-end h r is = is ∙ rw (s .verdict, nothing-left next k h)
 
-    module _ (e : ℕ) (h : next < length text) (g : e ≡ partEnd 10 text next) (r : Encoded) (is : r ≡ lineEncoded addresses (lineOf (lineTo text next e)) (getD addresses k 0)) where
-      ranging-here : encoding (encodedAt addresses (parsedAt text from)) ≡ andThen (encodeOutcome (suc k) r) (inTurn encodeOutcome (suc (suc k)) (encodedLeft (e + 1) (k + 1)))
-      ranging-here = s .verdict ∙ ap (inTurn encodeOutcome (suc k)) (left-here (s .go) e h g r is)
+    module _ (e : ℕ) (h : next < length text) (g : e ≡ partEnd 10 text next) (m : Measured) (is : m ≡ rangeOf addresses (lineTo text next e) (getD addresses k 0) settled) where
+      abbrev line : List ℕ
+      line = lineTo text next e
 
-      pub ranging-stop : (r .number ≡ 0 → ⊥)
-          → record { number = r .number; line = k + 1; detail = r .detail; value = r .value; words = 0 } ≡ passedOf (encoding (encodedAt addresses (parsedAt text from))) 0
-      ranging-stop z = rw (ranging-here, ne-eqb (r .number) 0 z, add-one)
+      abbrev here : Encoded
+      here = lineEncoded addresses (lineOf line) (getD addresses k 0)
 
-      pub ranging-next : r .number ≡ 0 → Ranging (e + 1) (k + 1)
+      here-is : here ≡ encodedLine (getD addresses k 0) (made (listed addresses) (lineOf line))
+      here-is = encoded-here (s .go) e h g here refl
+
+      -- a line that is passed over is accepted
+      passed-fine : hasLabel line ≡ false → settled ≡ true → here .number ≡ 0
+      passed-fine u t =
+          let first = (rw (lines-here (s .go) e h g) at (s .settles t)) 0 (omega arith) (line-unlabelled line u) in
+          let place : k + 0 ≡ k = omega arith in
+          rw here-is (rw place at first)
+
+      accepted-here : m .number ≡ 0 → here .number ≡ 0
+      unfolding rangeOf
+      accepted-here z = go (hasLabel line) settled refl refl
+        where
+          go : (b t : Bool) → hasLabel line ≡ b → settled ≡ t → here .number ≡ 0
+          go true t p q = let r : m ≡ refusalIn here = is ∙ rw p in sym (ap (λ (x : Measured). x .number) r) ∙ z
+          go false false p q = let r : m ≡ refusalIn here = is ∙ rw (p, q) in sym (ap (λ (x : Measured). x .number) r) ∙ z
+          go false true p q = passed-fine p q
+
+      refused-here : (m .number ≡ 0 → ⊥) → m ≡ refusalIn here
+      unfolding rangeOf
+      refused-here z = go (hasLabel line || not settled) refl
+        where
+          go : (b : Bool) → hasLabel line || not settled ≡ b → m ≡ refusalIn here
+          go true p = is ∙ rw p
+          go false p = let r : m ≡ noRefusal = is ∙ rw p in absurd (z (ap (λ (x : Measured). x .number) r))
+
+      ranging-here : encoding (encodedAt addresses (parsedAt text from)) ≡ andThen (encodeOutcome (suc k) here) (inTurn encodeOutcome (suc (suc k)) (encodedLeft (e + 1) (k + 1)))
+      ranging-here = s .verdict ∙ ap (inTurn encodeOutcome (suc k)) (left-here (s .go) e h g here refl)
+
+      pub ranging-stop : (m .number ≡ 0 → ⊥) → (r : Passed) → r ≡ passedOf (refused (m .number) (k + 1) (m .detail) (m .value)) 0
+          → r ≡ passedOf (encoding (encodedAt addresses (parsedAt text from))) 0
+      ranging-stop z r eq =
+          let x = refused-here z in
+          let y : here .number ≡ 0 → ⊥ = λ q. z (ap (λ (v : Measured). v .number) x ∙ q) in
+          eq ∙ rw (x, ranging-here, ne-eqb (here .number) 0 y, add-one)
+
+      pub ranging-next : m .number ≡ 0 → Ranging settled (e + 1) (k + 1)
       ranging-next z =
           let onward : suc (suc k) ≡ suc (k + 1) = omega arith in
-          record { go = going-next (s .go) e h g; verdict = ranging-here ∙ rw (eq-eqb (r .number) 0 z, onward) }
+          record {
+            go = going-next (s .go) e h g;
+            verdict = ranging-here ∙ rw (eq-eqb (here .number) 0 (accepted-here z), onward);
+            settles = λ t j q u. let i : k + 1 + j ≡ k + suc j = omega arith in rw i ((rw (lines-here (s .go) e h g) at (s .settles t)) (suc j) (omega arith) u);
+          }
 
   -- ---- write
   abbrev words : List ℕ

@@ -1,2 +1,4 @@
 pub mod Passes
+pub mod Settle
 pub mod PassLaws
+pub mod SettleLaws

@@ -14,7 +14,8 @@ use Rattle.sheet_facts.specs.Listing.{both-in-order, in-order-zero}
 use Rattle.sheet_facts.specs.Made.{made-back}
 use Rattle.m68k_facts.specs.Sizes.{size-least, size-most}
 use Rattle.m68k_facts.specs.Laws.{places-law, encode-most}
-use Rattle.sheet_passes.specs.Passes.{filledOf, listed, lineEncoded}
+use Rattle.sheet_labels.specs.Labels.{listed}
+use Rattle.sheet_passes.specs.Passes.{filledOf, lineEncoded}
 
 -- ---- an encoded line has eleven places, and so many words count
 pub as-places : (m : Made) (a : ℕ) → length (encodedLine a m .words) ≡ 11
@@ -38,7 +39,7 @@ sized-most : (m : Made) → sizedAs m .size ≤ 22
 sized-most (makes i) = size-most i
 sized-most (turnedBack k) = omega arith
 
-sized-least : (n : ℕ) (p : Parsed) → sizedOf n p .number ≡ 0 → 2 ≤ sizedOf n p .size
+pub sized-least : (n : ℕ) (p : Parsed) → sizedOf n p .number ≡ 0 → 2 ≤ sizedOf n p .size
 unfolding sizedOf
 sized-least n p h = go (made (ofLines n (λ k. 0)) p) refl h
   where

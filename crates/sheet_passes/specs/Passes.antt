@@ -1,9 +1,8 @@
 -- What the passes over the lines of a sheet answer, and what they leave in the lent places.
-use Prim.Native.Nat.{ℕ, pred, _+_, _*_, _%_, _^_, _≤_, _<_}
+use Prim.Native.Nat.{ℕ, _+_, _*_, _%_, _^_, _≤_, _<_}
 use mathlib.Core.Path.{_≡_}
 use mathlib.Core.Bool.{true, cond}
 use mathlib.Core.List.{List, [], _∷_, map}
-use mathlib.Core.Option.{Option}
 use lib.Dec.{eqb}
 use lib.IntN.{pos}
 use lib.ListN.{length, drop, getD}
@@ -11,9 +10,10 @@ use Rattle.isa.specs.declared.Measured.{Measured}
 use Rattle.isa.specs.declared.Encoded.{Encoded}
 use Rattle.base_spec.specs.Lines.{linesOf}
 use Rattle.sheet_spec.specs.Line.{Parsed, no, lineOf}
-use Rattle.sheet_spec.specs.Made.{resolvesIn, judged, builtAs, ofLines}
+use Rattle.sheet_spec.specs.Made.{resolvesIn, judged, builtAs}
 use Rattle.sheet_spec.specs.Sheet.{halfOf, encodedLine, encodedFrom}
 use Rattle.sheet_spec.specs.Translate.{Outcome, inOrder, refused}
+use Rattle.sheet_labels.specs.Labels.{listed}
 use Rattle.sheet_passes.specs.declared.Passed.{Passed}
 
 -- what the lines of a text say from a place on
@@ -29,10 +29,6 @@ passedOf (refused number line detail value) words = record { number = number; li
 abbrev pub filledOf : ℕ → List Measured → List ℕ
 filledOf a [] = []
 filledOf a (m ∷ ms) = cond (eqb (m .number) 0) (a % 2 ^ 32 ∷ filledOf (a + 2 * halfOf m) ms) []
-
--- labels made the addresses of a list, one a line
-abbrev pub listed : List ℕ → ℕ → Option ℕ
-listed addresses = ofLines (length addresses) (λ k. getD addresses (pred k) 0)
 
 -- a line whose labels have been looked at, encoded
 unfoldable pub lineEncoded : List ℕ → Parsed → ℕ → Encoded

@@ -1,17 +1,24 @@
 // The translator's passes over the lines of a sheet, one loop each.
 ghost use mathlib.Core.Path.{_≡_};
-ghost use Prim.Native.Nat.{_≤_};
+ghost use Prim.Native.Nat.{_+_, _≤_, _<_};
 ghost use mathlib.Core.Bool.{true};
-ghost use mathlib.Core.List.{map};
 ghost use lib.ListN.{length};
 ghost use Rattle.sheet_spec.specs.Line.{lineOf};
 ghost use Rattle.sheet_spec.specs.Made.{turnedBack, judged};
-ghost use Rattle.sheet_spec.specs.Sheet.{sizedAs, sizedOf, sizesOf, halfOf, total, encodedLine, encodedWords, allWords};
-ghost use Rattle.sheet_spec.specs.Translate.{sizing, encoding, over};
+ghost use Rattle.sheet_spec.specs.Sheet.{sizedAs, sizesOf, encodedLine, encodedWords, allWords};
+ghost use Rattle.sheet_spec.specs.Translate.{inOrder, refused, encoding, over};
 ghost use Rattle.sheet_passes.specs.Passes.{parsedAt, passedOf, filledOf, lineEncoded, Placed, encodedAt};
+ghost use Rattle.sheet_passes.specs.Settle.{judgedInstruction, judgedMade, judgedLine, sizedSheet, hasLabel, noRefusal, rangeOf, Settled};
 use isa::Encoded;
+use isa::Instruction;
 use isa::Measured;
 use numeric_spec::Built;
+
+// What `size` says of a line, and whether nothing is left to look at once all lines are measured: it has a label, or `encode` accepts it.
+struct LineJudged {
+    measured: Measured,
+    settled: bool,
+}
 
 // The first refusal with its line, or the words that were counted.
 pub struct Passed {
@@ -20,6 +27,12 @@ pub struct Passed {
     pub detail: u8,
     pub value: i64,
     pub words: usize,
+}
+
+// The words that were counted, and whether each line without a label is accepted at its address; or the first refusal.
+pub struct Sized {
+    pub passed: Passed,
+    pub settled: bool,
 }
 
 // The size of what a line makes, or why the line is turned back.
@@ -48,14 +61,60 @@ fn turned_back(number: u8) -> Measured
     }
 }
 
-// The size of a line of a sheet of so many lines.
-fn sized(line: &[u8], lines: usize) -> Measured
-    requires { ⌜ lines ≤ 4096 ⌝ }
-    ensures { λ r. ⌜ r ≡ sizedOf lines (lineOf (now (line .entry))) ⌝ }
+// The size of an instruction by its words, where it has an encoding.
+fn judge_instruction(i: Instruction, address: u32) -> LineJudged
+    ensures { λ r. ⌜ r ≡ judgedInstruction i address ⌝ }
 {
-    let e = sheet_line::read_line(line);
-    let b = sheet_entries::made(e, &[]);
-    sized_as(b, sheet_entries::names_lines(e, lines))
+    let e = m68k_encode::encode(i, address);
+    if e.number == 0 {
+        let measured = Measured {
+            size: 2 * e.count as u32,
+            number: 0,
+            detail: 0,
+            value: 0,
+        };
+        return LineJudged {
+            measured,
+            settled: true,
+        };
+    }
+    let measured = m68k_encode::size(i);
+    LineJudged {
+        measured,
+        settled: false,
+    }
+}
+
+fn judge_unlabelled(b: Built, address: u32) -> LineJudged
+    ensures { λ r. ⌜ r ≡ judgedMade address (judged b true) ⌝ }
+{
+    match b {
+        Built::Instruction(i) => judge_instruction(i, address),
+        Built::NotInForm => {
+            let measured = turned_back(7);
+            LineJudged {
+                measured,
+                settled: false,
+            }
+        }
+    }
+}
+
+// A line of a sheet of so many lines, at its address.
+fn judge(line: &[u8], lines: usize, address: u32) -> LineJudged
+    requires { ⌜ lines ≤ 4096 ⌝ }
+    ensures { λ r. ⌜ r ≡ judgedLine lines address (lineOf (now (line .entry))) ⌝ }
+{
+    let made = sheet_line::read_line(line, lines, &[]);
+    let built = made.built;
+    if made.labelled {
+        let measured = sized_as(built, made.resolves);
+        return LineJudged {
+            measured,
+            settled: true,
+        };
+    }
+    judge_unlabelled(built, address)
 }
 
 fn encoded_as(b: Built, address: u32) -> Encoded
@@ -78,36 +137,27 @@ fn encoded(line: &[u8], addresses: &[u32], address: u32) -> Encoded
     requires { ⌜ length (now addresses) ≤ 4096 ⌝ }
     ensures { λ r. ⌜ r ≡ lineEncoded (now (addresses .entry)) (lineOf (now (line .entry))) address ⌝ }
 {
-    let e = sheet_line::read_line(line);
-    encoded_as(sheet_entries::made(e, addresses), address)
+    let made = sheet_line::read_line(line, addresses.len(), addresses);
+    let built = made.built;
+    encoded_as(built, address)
 }
 
-// Each line measured, and its address put into the scratch.
-pub fn sizes(text: &[u8], from: usize, lines: usize, start: u32, scratch: &mut [u32]) -> Passed
-    requires { ⌜ (lines ≡ length (parsedAt (now text) from)) × (lines ≤ 4096) × (lines ≤ length (now scratch)) ⌝ }
-    ensures { λ r. ⌜ (r ≡ passedOf (sizing (parsedAt (now (text .entry)) from)) (total (map halfOf (sizesOf (parsedAt (now (text .entry)) from)))))
-        × (now (scratch .exit) ≡ over (filledOf start (sizesOf (parsedAt (now (text .entry)) from))) (now (scratch .entry))) ⌝ }
+fn refused_at(k: usize, number: u8, detail: u8, value: i64) -> Passed
+    requires { ⌜ k < 4096 ⌝ }
+    ensures { λ r. ⌜ r ≡ passedOf (refused number (k + 1) detail value) 0 ⌝ }
 {
-    let mut next = from;
-    let mut k: usize = 0;
-    let mut words: usize = 0;
-    while next < text.len() {
-        let e = base_text::line_end(text, next);
-        let m = sized(&text[next..e], lines);
-        if m.number != 0 {
-            return Passed {
-                number: m.number,
-                line: k + 1,
-                detail: m.detail,
-                value: m.value,
-                words: 0,
-            };
-        }
-        scratch[k] = std::num::wrapping_add_u32(start, 2 * words as u32);
-        words = words + (m.size / 2) as usize;
-        k += 1;
-        next = e + 1;
+    Passed {
+        number,
+        line: k + 1,
+        detail,
+        value,
+        words: 0,
     }
+}
+
+fn in_order(words: usize) -> Passed
+    ensures { λ r. ⌜ r ≡ passedOf inOrder words ⌝ }
+{
     Passed {
         number: 0,
         line: 0,
@@ -117,35 +167,96 @@ pub fn sizes(text: &[u8], from: usize, lines: usize, start: u32, scratch: &mut [
     }
 }
 
+// Each line measured, and its address put into the scratch.
+pub fn sizes(text: &[u8], from: usize, lines: usize, start: u32, scratch: &mut [u32]) -> Sized
+    requires { ⌜ (lines ≡ length (parsedAt (now text) from)) × (lines ≤ 4096) × (lines ≤ length (now scratch)) ⌝ }
+    ensures { λ r. ⌜ (r ≡ sizedSheet start (parsedAt (now (text .entry)) from))
+        × (now (scratch .exit) ≡ over (filledOf start (sizesOf (parsedAt (now (text .entry)) from))) (now (scratch .entry))) ⌝ }
+{
+    let mut next = from;
+    let mut k: usize = 0;
+    let mut words: usize = 0;
+    let mut settled = true;
+    while next < text.len() {
+        let e = base_text::line_end(text, next);
+        let address = std::num::wrapping_add_u32(start, 2 * words as u32);
+        let j = judge(&text[next..e], lines, address);
+        let m = j.measured;
+        if m.number != 0 {
+            let passed = refused_at(k, m.number, m.detail, m.value);
+            return Sized {
+                passed,
+                settled: false,
+            };
+        }
+        scratch[k] = address;
+        words = words + (m.size / 2) as usize;
+        settled = settled & j.settled;
+        k += 1;
+        next = e + 1;
+    }
+    let passed = in_order(words);
+    Sized { passed, settled }
+}
+
+fn has_label(line: &[u8]) -> bool
+    ensures { λ r. ⌜ r ≡ hasLabel (now (line .entry)) ⌝ }
+{
+    let mut i: usize = 0;
+    while i < line.len() {
+        if line[i] == b'@' {
+            return true;
+        }
+        i += 1;
+    }
+    false
+}
+
+fn no_refusal() -> Measured
+    ensures { λ r. ⌜ r ≡ noRefusal ⌝ }
+{
+    Measured {
+        size: 0,
+        number: 0,
+        detail: 0,
+        value: 0,
+    }
+}
+
+// Why `encode` refuses a line at its address. Where the lines are settled, it accepts one without a label.
+fn range(line: &[u8], addresses: &[u32], address: u32, settled: bool) -> Measured
+    requires { ⌜ length (now addresses) ≤ 4096 ⌝ }
+    ensures { λ r. ⌜ r ≡ rangeOf (now (addresses .entry)) (now (line .entry)) address settled ⌝ }
+{
+    if has_label(line) | !settled {
+        let e = encoded(line, addresses, address);
+        return Measured {
+            size: 0,
+            number: e.number,
+            detail: e.detail,
+            value: e.value,
+        };
+    }
+    no_refusal()
+}
+
 // Each line encoded at its address, to the first that is refused.
-pub fn ranges(text: &[u8], from: usize, addresses: &[u32]) -> Passed
-    requires { ⌜ Placed (now addresses) (parsedAt (now text) from) ⌝ }
+pub fn ranges(text: &[u8], from: usize, addresses: &[u32], settled: bool) -> Passed
+    requires { ⌜ Placed (now addresses) (parsedAt (now text) from) × (settled ≡ true → Settled (now addresses) (parsedAt (now text) from)) ⌝ }
     ensures { λ r. ⌜ r ≡ passedOf (encoding (encodedAt (now (addresses .entry)) (parsedAt (now (text .entry)) from))) 0 ⌝ }
 {
     let mut next = from;
     let mut k: usize = 0;
     while next < text.len() {
         let end = base_text::line_end(text, next);
-        let e = encoded(&text[next..end], addresses, addresses[k]);
-        if e.number != 0 {
-            return Passed {
-                number: e.number,
-                line: k + 1,
-                detail: e.detail,
-                value: e.value,
-                words: 0,
-            };
+        let m = range(&text[next..end], addresses, addresses[k], settled);
+        if m.number != 0 {
+            return refused_at(k, m.number, m.detail, m.value);
         }
         k += 1;
         next = end + 1;
     }
-    Passed {
-        number: 0,
-        line: 0,
-        detail: 0,
-        value: 0,
-        words: 0,
-    }
+    in_order(0)
 }
 
 // The words that count, at the front of the part.
