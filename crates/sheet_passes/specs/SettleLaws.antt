@@ -18,8 +18,8 @@ use Rattle.sheet_spec.specs.declared.Kind.{Kind}
 use Rattle.sheet_spec.specs.Names.{bytes, namesOf}
 use Rattle.sheet_spec.specs.Line.{Token, literal, label, invalid, asNumber, asLabel, isLabel, equal, isNone, placeFrom, token, Parsed, says, no, lineOf}
 use Rattle.sheet_spec.specs.Made.{numberAs, resolvesAll, resolvesIn, builtAs, made, judged, ofLines}
-use Rattle.sheet_spec.specs.Sheet.{sizedOf, halfOf, total, addressesFrom, encodedLine}
-use Rattle.sheet_spec.specs.Translate.{inOrder, inTurn, sizeOutcome}
+use Rattle.sheet_spec.specs.Sheet.{sizedOf, sizesOf, halfOf, total, addressesFrom, encodedLine}
+use Rattle.sheet_spec.specs.Translate.{Outcome, inOrder, refused, inTurn, sizeOutcome, sizing}
 use Rattle.sheet_facts.specs.Fields.{Sorted, of-number, of-target, of-place, of-variant, sorted}
 use Rattle.sheet_facts.specs.Lines.{by-line}
 use Rattle.sheet_facts.specs.Listing.{both-in-order, in-order-zero}
@@ -27,7 +27,8 @@ use Rattle.sheet_tokens.specs.Entries.{valueOf}
 use Rattle.sheet_labels.specs.Labels as labels
 use Rattle.sheet_labels.specs.Labels.{listed, labelledAll, labelledIn}
 use Rattle.sheet_passes.specs.PassLaws.{sized-least}
-use Rattle.sheet_passes.specs.Settle.{settledAt, settledFrom, hasLabel}
+use Rattle.sheet_passes.specs.Passes.{passedOf}
+use Rattle.sheet_passes.specs.Settle.{settledAt, settledFrom, sizedBy, sizedSheet, hasLabel}
 
 both : (a b : Bool) → a && b ≡ true → (a ≡ true) × (b ≡ true)
 both true b e = (refl, e)
@@ -162,6 +163,19 @@ line-unlabelled line h = go (lineOf line) refl
         (λ k ks f fs v ws q s r n. none-of (labels.isLabel (valueOf v)) (labelledAll ws) (rw q at (token-says k f (n .0))) (r (n .1)))
         line vs e (parts-have line h)
     go no e = refl
+
+-- ---- what `sizes` answers
+passed-by : (w : Outcome) (words : ℕ) (t : Bool) → sizedBy w words t .passed ≡ passedOf w words
+passed-by inOrder words t = refl
+passed-by (refused number line detail value) words t = refl
+
+pub sized-passed : (start : ℕ) (ps : List Parsed) → sizedSheet start ps .passed ≡ passedOf (sizing ps) (total (map halfOf (sizesOf ps)))
+unfolding sizedSheet
+sized-passed start ps = passed-by (sizing ps) (total (map halfOf (sizesOf ps))) (settledFrom (length ps) start ps)
+
+pub sized-settled : (start : ℕ) (ps : List Parsed) → sizing ps ≡ inOrder → sizedSheet start ps .settled ≡ settledFrom (length ps) start ps
+unfolding sizedSheet
+sized-settled start ps e = ap (λ (w : Outcome). sizedBy w (total (map halfOf (sizesOf ps))) (settledFrom (length ps) start ps) .settled) e
 
 -- ---- lines that are settled, not refused and end in time are accepted at their addresses
 head-fine : (n a : ℕ) (f : ℕ → Option ℕ) (p : Parsed) → settledAt n a p ≡ true → labelledIn p ≡ false → encodedLine a (made f p) .number ≡ 0

@@ -27,8 +27,12 @@ use Rattle.sheet_size_facts.specs.Outcomes.{sizing-each, accepted}
 use Rattle.sheet_size_facts.specs.Bounds.{line-at, addresses-bounded}
 use Rattle.sheet_size_facts.specs.Counted.{image-counts}
 use Rattle.sheet_passes.specs.declared.Passed.{Passed}
-use Rattle.sheet_passes.specs.Passes.{passedOf, filledOf, parsedAt, listed, Placed, encodedAt}
+use Rattle.sheet_labels.specs.Labels.{listed}
+use Rattle.sheet_passes.specs.declared.Sized.{Sized}
+use Rattle.sheet_passes.specs.Passes.{passedOf, filledOf, parsedAt, Placed, encodedAt}
+use Rattle.sheet_passes.specs.Settle.{sizedSheet, Settled}
 use Rattle.sheet_passes.specs.PassLaws.{total-most, filled-addresses}
+use Rattle.sheet_passes.specs.SettleLaws.{sized-passed, sized-settled, settled-fine}
 use Rattle.sheet_translate.specs.Translated.{outcomeNumber, SizedSheet}
 use Rattle.sheet_translate.specs.OutcomeLaws.{Sound, sizes-sound, encoded-sound}
 use Rattle.sheet_translate.specs.StageLaws.{opening-outside, closing-outside, Opened, opened, Closed, closed, by-outcome, turned-away}
@@ -122,7 +126,7 @@ pub passed-words : (v : Outcome) (w : ℕ) (r : Passed) → r ≡ passedOf v w �
 passed-words v w r e f = rw (e, f)
 
 -- ---- the lines at their addresses
-module _ {text : List ℕ} {from lines words : ℕ} {v s : List ℕ} (z : SizedSheet text from lines words v s) where
+module _ {text : List ℕ} {from lines words : ℕ} {settled : Bool} {v s : List ℕ} (z : SizedSheet text from lines words settled v s) where
   abbrev S : Sheet
   S = sheetIn text
 
@@ -141,6 +145,9 @@ module _ {text : List ℕ} {from lines words : ℕ} {v s : List ℕ} (z : SizedS
   placed =
       rw (z .addresses, z .begin)
       (record { few = omega (arith, sheet-places text, z .most, z .counted); lines = sheet-places text; named = rw resolved-is named })
+
+  pub settled-lines : settled ≡ true → Settled (take lines s) (parsedAt text from)
+  settled-lines t = rw (z .addresses, z .begin) (z .settles t)
 
   encoded-is : encodedAt (take lines s) (parsedAt text from) ≡ encoded S
   encoded-is = rw (z .addresses, z .begin, resolved-is)
@@ -201,11 +208,15 @@ module _ (text v s : List ℕ) (o : opening text (startIn text) (length s) ≡ i
       start-is : t .address ≡ T .start
       start-is = ap (λ (x : StartAt). x .address) et ∙ start-address (startOf (startLine text))
 
-      module _ (p : Passed) (s₁ : List ℕ)
-          (ep : p ≡ passedOf (sizing (parsedAt text from)) (total (map halfOf (sizesOf (parsedAt text from)))))
-          (es : s₁ ≡ over (filledOf (t .address) (sizesOf (parsedAt text from))) s) where
+      module _ (x : Sized) (s₁ : List ℕ) (ex : x ≡ sizedSheet (t .address) (parsedAt text from)) (es : s₁ ≡ over (filledOf (t .address) (sizesOf (parsedAt text from))) s) where
+        abbrev p : Passed
+        p = x .passed
+
+        sized-is : x ≡ sizedSheet (T .start) (T .lines)
+        sized-is = ex ∙ rw (begin, start-is)
+
         pass-is : p ≡ passedOf (sizing (T .lines)) (wordCount T)
-        pass-is = ep ∙ rw begin
+        pass-is = ap (λ (y : Sized). y .passed) sized-is ∙ sized-passed (T .start) (T .lines)
 
         filled : s₁ ≡ over (filledOf (T .start) (sizesOf (T .lines))) s
         filled = es ∙ rw (begin, start-is)
@@ -263,7 +274,12 @@ module _ (text v s : List ℕ) (o : opening text (startIn text) (length s) ≡ i
               addressed : s₁ ≡ over (addresses T) s
               addressed = filled ∙ ap (λ (x : List ℕ). over x s) (filled-addresses (lineCount T) 1 (T .start) (T .lines) sizes-in-order (close .ends))
 
-              pub ready : SizedSheet text from (n - 1) (p .words) v s₁
+              settles : x .settled ≡ true → Settled (addresses T) (T .lines)
+              settles q =
+                  settled-fine (lineCount T) (listed (addresses T)) 1 (T .start) (T .lines) sizes-in-order (close .ends)
+                  (sym (ap (λ (y : Sized). y .settled) sized-is ∙ sized-settled (T .start) (T .lines) sizes-in-order) ∙ q)
+
+              pub ready : SizedSheet text from (n - 1) (p .words) (x .settled) v s₁
               ready =
                   record {
                     begin = begin;
@@ -273,6 +289,7 @@ module _ (text v s : List ℕ) (o : opening text (startIn text) (length s) ≡ i
                     places = omega (arith, kept, counted, begun .scratch);
                     addresses = rw addressed (over-take (addresses T) s (n - 1) (sheet-places text ∙ sym counted));
                     measured = record { sized = sizing-each (T .lines) sizes-in-order; ends = close .ends };
+                    settles = settles;
                     outcome = ap (λ (x : ℕ). outcomeOf text x (length v)) kept ∙ after inOrder sizes-in-order
                         ∙ ap (λ (x : Outcome). andThen x (encoding (encoded T))) (ended ∙ as-in-order 0 k 0 (pos 0) m);
                   }

@@ -7,6 +7,7 @@ ghost use Rattle.sheet_spec.specs.Translate as stage;
 ghost use Rattle.sheet_spec.specs.Translate.{inOrder, refused, listedAs};
 ghost use Rattle.sheet_translate.specs.Translated.{outcomeNumber, SizedSheet};
 ghost use Rattle.sheet_spec.specs.Promises.{Translated};
+use sheet_passes::Passed;
 use sheet_spec::Listed;
 
 fn zero(s: &mut [u32])
@@ -32,6 +33,13 @@ fn refuse(scratch: &mut [u32], number: u8, line: usize, detail: u8, value: i64) 
         detail: detail,
         value: value,
     }
+}
+
+// The refusal of a pass over the lines.
+fn refuse_pass(scratch: &mut [u32], p: Passed) -> Listed
+    ensures { λ r. ⌜ (r ≡ listedAs (refused (p .number) (p .line) (p .detail) (p .value)) 0 0) × (now (scratch .exit) ≡ replicate (length (now (scratch .entry))) 0) ⌝ }
+{
+    refuse(scratch, p.number, p.line, p.detail, p.value)
 }
 
 // Before the lines: the sheet's outline, START, the scratch. 0 where all are in order.
@@ -74,15 +82,16 @@ fn lay_down(
     from: usize,
     lines: usize,
     words: usize,
+    settled: bool,
     image: &mut [u16],
     scratch: &mut [u32],
 ) -> Listed
-    requires { ⌜ SizedSheet (now text) from lines words (now image) (now scratch) ⌝ }
+    requires { ⌜ SizedSheet (now text) from lines words settled (now image) (now scratch) ⌝ }
     ensures { λ r. ⌜ Translated (now (text .entry)) (now (image .entry)) (now (scratch .entry)) (now (image .exit)) (now (scratch .exit)) r ⌝ }
 {
-    let p = sheet_passes::ranges(text, from, &scratch[..lines]);
+    let p = sheet_passes::ranges(text, from, &scratch[..lines], settled);
     if p.number != 0 {
-        return refuse(scratch, p.number, p.line, p.detail, p.value);
+        return refuse_pass(scratch, p);
     }
     sheet_passes::write(text, from, &scratch[..lines], image);
     Listed {
@@ -104,16 +113,17 @@ fn translate_lines(text: &[u8], image: &mut [u16], scratch: &mut [u32]) -> Liste
     let from = sheet_start::lines_begin(text);
     let s = sheet_start::start(text);
     let start = s.address;
-    let p = sheet_passes::sizes(text, from, lines, start, scratch);
+    let sized = sheet_passes::sizes(text, from, lines, start, scratch);
+    let p = sized.passed;
     if p.number != 0 {
-        return refuse(scratch, p.number, p.line, p.detail, p.value);
+        return refuse_pass(scratch, p);
     }
     let words = p.words;
     let number = closing(start, words, image.len());
     if number != 0 {
         return refuse(scratch, number, 0, 0, 0);
     }
-    lay_down(text, from, lines, words, image, scratch)
+    lay_down(text, from, lines, words, sized.settled, image, scratch)
 }
 
 // The sheet's counts of lines and words, with the words in the image and the lines' addresses in the scratch; or its refusal.

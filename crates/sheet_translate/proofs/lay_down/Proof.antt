@@ -1,6 +1,4 @@
-use mir.Facts.{toZ-ofZ}
-use mir.Syntax.{w64}
-use Rattle.sheet_translate.proofs.Laws.{lent, placed, refused-range, image-fits, laid}
+use Rattle.sheet_translate.proofs.Laws.{lent, placed, settled-lines, refused-range, image-fits, laid}
 use borrow.Author.Needs.{needs}
 use Rattle.sheet_translate.proofs.lay_down.Statement.{statement}
 use Rattle.sheet_translate.proofs.lay_down.Tie as tie
@@ -9,14 +7,13 @@ slice-aggregate-ranges : tie.Need-slice-aggregate-ranges
 slice-aggregate-ranges c = lent (c .before .before .before .before .pre)
 
 ranges-requires : tie.Need-ranges-requires
-ranges-requires c κs = placed (c .before .before .before .before .pre)
+ranges-requires c κs = (placed (c .before .before .before .before .pre), settled-lines (c .before .before .before .before .pre))
 
 returns : tie.Need-returns
 returns c =
-    let p = c .before .before .before .before .before .before .before .ranges in
-    let r = c .before .before .refuse in
-    let f = rw (toZ-ofZ {w = w64} {z = p .result .value} (search needs)) at (r .ensures .0) in
-    refused-range (c .before .before .before .before .before .before .before .before .before .before .before .before .pre) (p .result) (p .ensures) (c .before .before .before .before .before .if1 .taken) (r .last .0) (r .result) f (r .ensures .1)
+    let p = c .before .before .before .before .before .before .ranges in
+    let r = c .before .before .refuse-pass in
+    refused-range (c .before .before .before .before .before .before .before .before .before .before .before .pre) (p .result) (p .ensures) (c .before .before .before .before .if1 .taken) (r .last .0) (r .result) (r .ensures .0) (r .ensures .1)
 
 slice-aggregate-write : tie.Need-slice-aggregate-write
 slice-aggregate-write c = lent (c .before .before .before .before .before .before .before .before .pre)

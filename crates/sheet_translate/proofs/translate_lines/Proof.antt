@@ -1,5 +1,3 @@
-use mir.Facts.{toZ-ofZ}
-use mir.Syntax.{w64}
 use Rattle.sheet_translate.proofs.Laws.{feeds-some, sizes-ready, refused-size, words-most, refused-end, ready, done}
 use borrow.Author.Needs.{needs}
 use Rattle.sheet_translate.proofs.translate_lines.Statement.{statement}
@@ -25,50 +23,49 @@ returns c =
     let f = c .before .before .before .before .before .before .before .before .before .before .before .before .lines-begin in
     let t = c .before .before .before .before .before .before .before .before .before .before .before .start in
     let p = c .before .before .before .before .before .before .before .before .before .sizes in
-    let r = c .before .before .refuse in
-    let g = rw (toZ-ofZ {w = w64} {z = p .result .value} (search needs)) at (r .ensures .0) in
-    refused-size (a .text .now) (a .image .now) (a .scratch .now) (c .before .before .before .before .before .before .before .before .before .before .before .before .before .before .before .before .before .pre) (n .result) (n .ensures) (f .result) (f .ensures) (t .result) (t .ensures) (p .result) (p .last .1 .1 .1 .1 .0) (p .ensures .0) (p .ensures .1) (c .before .before .before .before .before .if1 .taken) (r .last .0) (r .result) g (r .ensures .1)
+    let r = c .before .before .refuse-pass in
+    refused-size (a .text .now) (a .image .now) (a .scratch .now) (c .before .before .before .before .before .before .before .before .before .before .before .before .before .before .before .before .before .pre) (n .result) (n .ensures) (f .result) (f .ensures) (t .result) (t .ensures) (p .result) (p .last .1 .1 .1 .1 .0) (p .ensures .0) (p .ensures .1) (c .before .before .before .before .if1 .taken) (r .last .0) (r .result) (r .ensures .0) (r .ensures .1)
 
 closing-requires : tie.Need-closing-requires
 closing-requires c κs =
-    let a = c .before .before .before .before .before .before .before .before .before .before .before .before .args in
-    let n = c .before .before .before .before .before .before .before .before .feeds in
-    let f = c .before .before .before .before .before .before .before .lines-begin in
-    let t = c .before .before .before .before .before .before .start in
-    let p = c .before .before .before .before .sizes in
-    words-most (a .text .now) (a .image .now) (a .scratch .now) (c .before .before .before .before .before .before .before .before .before .before .before .before .pre) (n .result) (n .ensures) (f .result) (f .ensures) (t .result) (t .ensures) (p .result) (p .last .1 .1 .1 .1 .0) (p .ensures .0) (p .ensures .1) (c .if1 .left)
+    let a = c .before .before .before .before .before .before .before .before .before .before .before .before .before .args in
+    let n = c .before .before .before .before .before .before .before .before .before .feeds in
+    let f = c .before .before .before .before .before .before .before .before .lines-begin in
+    let t = c .before .before .before .before .before .before .before .start in
+    let p = c .before .before .before .before .before .sizes in
+    words-most (a .text .now) (a .image .now) (a .scratch .now) (c .before .before .before .before .before .before .before .before .before .before .before .before .before .pre) (n .result) (n .ensures) (f .result) (f .ensures) (t .result) (t .ensures) (p .result) (p .last .1 .1 .1 .1 .0) (p .ensures .0) (p .ensures .1) (c .if1 .left)
 
 returns-2 : tie.Need-returns-2
 returns-2 c =
-    let a = c .before .before .before .before .before .before .before .before .before .before .before .before .before .before .before .before .before .before .args in
-    let n = c .before .before .before .before .before .before .before .before .before .before .before .before .before .before .feeds in
-    let f = c .before .before .before .before .before .before .before .before .before .before .before .before .before .lines-begin in
-    let t = c .before .before .before .before .before .before .before .before .before .before .before .before .start in
-    let p = c .before .before .before .before .before .before .before .before .before .before .sizes in
+    let a = c .before .before .before .before .before .before .before .before .before .before .before .before .before .before .before .before .before .before .before .args in
+    let n = c .before .before .before .before .before .before .before .before .before .before .before .before .before .before .before .feeds in
+    let f = c .before .before .before .before .before .before .before .before .before .before .before .before .before .before .lines-begin in
+    let t = c .before .before .before .before .before .before .before .before .before .before .before .before .before .start in
+    let p = c .before .before .before .before .before .before .before .before .before .before .before .sizes in
     let k = c .before .before .before .before .before .closing in
-    let r = c .before .before .refuse2 in
-    refused-end (a .text .now) (a .image .now) (a .scratch .now) (c .before .before .before .before .before .before .before .before .before .before .before .before .before .before .before .before .before .before .pre) (n .result) (n .ensures) (f .result) (f .ensures) (t .result) (t .ensures) (p .result) (p .last .1 .1 .1 .1 .0) (p .ensures .0) (p .ensures .1) (c .before .before .before .before .before .before .if1 .left) (k .result) (k .ensures) (c .before .before .before .before .if2 .taken) (r .last .0) (r .result) (r .ensures .0) (r .ensures .1)
+    let r = c .before .before .refuse in
+    refused-end (a .text .now) (a .image .now) (a .scratch .now) (c .before .before .before .before .before .before .before .before .before .before .before .before .before .before .before .before .before .before .before .pre) (n .result) (n .ensures) (f .result) (f .ensures) (t .result) (t .ensures) (p .result) (p .last .1 .1 .1 .1 .0) (p .ensures .0) (p .ensures .1) (c .before .before .before .before .before .before .if1 .left) (k .result) (k .ensures) (c .before .before .before .before .if2 .taken) (r .last .0) (r .result) (r .ensures .0) (r .ensures .1)
 
 lay-down-requires : tie.Need-lay-down-requires
 lay-down-requires c κs =
-    let a = c .before .before .before .before .before .before .before .before .before .before .before .before .before .before .before .before .args in
-    let n = c .before .before .before .before .before .before .before .before .before .before .before .before .feeds in
-    let f = c .before .before .before .before .before .before .before .before .before .before .before .lines-begin in
-    let t = c .before .before .before .before .before .before .before .before .before .before .start in
-    let p = c .before .before .before .before .before .before .before .before .sizes in
+    let a = c .before .before .before .before .before .before .before .before .before .before .before .before .before .before .before .before .before .args in
+    let n = c .before .before .before .before .before .before .before .before .before .before .before .before .before .feeds in
+    let f = c .before .before .before .before .before .before .before .before .before .before .before .before .lines-begin in
+    let t = c .before .before .before .before .before .before .before .before .before .before .before .start in
+    let p = c .before .before .before .before .before .before .before .before .before .sizes in
     let k = c .before .before .before .closing in
-    ready (a .text .now) (a .image .now) (a .scratch .now) (c .before .before .before .before .before .before .before .before .before .before .before .before .before .before .before .before .pre) (n .result) (n .ensures) (f .result) (f .ensures) (t .result) (t .ensures) (p .result) (p .last .1 .1 .1 .1 .0) (p .ensures .0) (p .ensures .1) (c .before .before .before .before .if1 .left) (k .result) (k .ensures) (c .before .before .if2 .left)
+    ready (a .text .now) (a .image .now) (a .scratch .now) (c .before .before .before .before .before .before .before .before .before .before .before .before .before .before .before .before .before .pre) (n .result) (n .ensures) (f .result) (f .ensures) (t .result) (t .ensures) (p .result) (p .last .1 .1 .1 .1 .0) (p .ensures .0) (p .ensures .1) (c .before .before .before .before .if1 .left) (k .result) (k .ensures) (c .before .before .if2 .left)
 
 returns-3 : tie.Need-returns-3
 returns-3 c =
-    let a = c .before .before .before .before .before .before .before .before .before .before .before .before .before .before .before .before .before .before .before .before .before .args in
-    let n = c .before .before .before .before .before .before .before .before .before .before .before .before .before .before .before .before .before .feeds in
-    let f = c .before .before .before .before .before .before .before .before .before .before .before .before .before .before .before .before .lines-begin in
-    let t = c .before .before .before .before .before .before .before .before .before .before .before .before .before .before .before .start in
-    let p = c .before .before .before .before .before .before .before .before .before .before .before .before .before .sizes in
+    let a = c .before .before .before .before .before .before .before .before .before .before .before .before .before .before .before .before .before .before .before .before .before .before .args in
+    let n = c .before .before .before .before .before .before .before .before .before .before .before .before .before .before .before .before .before .before .feeds in
+    let f = c .before .before .before .before .before .before .before .before .before .before .before .before .before .before .before .before .before .lines-begin in
+    let t = c .before .before .before .before .before .before .before .before .before .before .before .before .before .before .before .before .start in
+    let p = c .before .before .before .before .before .before .before .before .before .before .before .before .before .before .sizes in
     let k = c .before .before .before .before .before .before .before .before .closing in
     let d = c .before .before .before .before .lay-down in
-    done (a .text .now) (a .image .now) (a .scratch .now) (c .before .before .before .before .before .before .before .before .before .before .before .before .before .before .before .before .before .before .before .before .before .pre) (n .result) (n .ensures) (f .result) (f .ensures) (t .result) (t .ensures) (p .result) (p .last .1 .1 .1 .1 .0) (p .ensures .0) (p .ensures .1) (c .before .before .before .before .before .before .before .before .before .if1 .left) (k .result) (k .ensures) (c .before .before .before .before .before .before .before .if2 .left) (d .last .1 .1 .1 .1 .0) (d .last .1 .1 .1 .1 .1 .0) (d .result) (d .ensures)
+    done (a .text .now) (a .image .now) (a .scratch .now) (c .before .before .before .before .before .before .before .before .before .before .before .before .before .before .before .before .before .before .before .before .before .before .pre) (n .result) (n .ensures) (f .result) (f .ensures) (t .result) (t .ensures) (p .result) (p .last .1 .1 .1 .1 .0) (p .ensures .0) (p .ensures .1) (c .before .before .before .before .before .before .before .before .before .if1 .left) (k .result) (k .ensures) (c .before .before .before .before .before .before .before .if2 .left) (d .last .1 .1 .1 .1 .1 .0) (d .last .1 .1 .1 .1 .1 .1 .0) (d .result) (d .ensures)
 
 pub translate-lines-spec : {M : Type 1} → statement M
 translate-lines-spec =
