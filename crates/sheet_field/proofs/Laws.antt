@@ -1,6 +1,6 @@
--- Laws of what a field says, a byte or a name at a time. Assumes nothing.
+-- Laws of what a field says, a byte at a time. Assumes nothing.
 use mathlib.Core.Path.{_≡_, refl, sym, ap, _∙_}
-use mathlib.Core.Bool.{Bool, true, false, cond, not, _&&_, and-true, and-false}
+use mathlib.Core.Bool.{Bool, true, false, cond, _&&_, and-true, and-false}
 use mathlib.Core.List.{List, [], _∷_}
 use Prim.Native.Nat.{ℕ, suc, _+_, _*_, _-_, _≤_, _<_}
 use native.Mathlib.Omega.{arith}
@@ -9,14 +9,11 @@ use lib.ListN.{length, take, drop, getD, drop-of-length-le}
 use lib.Seq.{drop-cons, take-all}
 use lib.Dec.{eqb, leb, ltb}
 use borrow.Author.Tests.{lt-ltb, le-leb, lt-leb, leb-true, leb-false, eq-eqb, ne-eqb}
-use Rattle.base_text.specs.Parts.{before, partEnd}
-use Rattle.base_spec.specs.Parts.{fields}
-use Rattle.base_text.specs.PartLaws.{partsFrom, parts-at, parts-start, parts-past, part-is}
 use Rattle.base_spec.specs.Number.{isDigit, allDigits, valueFrom, numberOf}
 use Rattle.base_text.specs.NumberLaws.{value-grows}
 use Rattle.sheet_spec.specs.declared.Kind.the-variants as kind
 use Rattle.sheet_tokens.specs.declared.Value.the-variants as value
-use Rattle.sheet_spec.specs.Line.{literal, label, invalid, equal, isNone, placeFrom, asLabel, asNumber, token}
+use Rattle.sheet_spec.specs.Line.{label, invalid, equal, placeFrom, asLabel, asNumber, token}
 use Rattle.sheet_tokens.specs.Entries.{capped, valueOf}
 use Rattle.base_facts.specs.Tests as facts
 use Rattle.sheet_field.specs.LineNumber.{lineAfter}
@@ -125,34 +122,11 @@ name-digits (b ∷ (d ∷ (x ∷ bs))) h e t =
     let n : eqb d 48 ≡ false = sym (and-true (eqb d 48)) ∙ rw (lt-ltb 2 (suc (suc (suc (length bs)))) (omega arith)) at t in
     rw (eq-eqb b 64 e, n, take-all (suc (suc (suc (length bs))) - 1) l (omega arith)) (label-if (allDigits l) (valueFrom 0 l))
 
--- the place of a name, a name at a time
-some : (f : List ℕ) → (length f ≡ 0 → ⊥) → not (isNone f) ≡ true
-some [] h = absurd (h refl)
-some (b ∷ bs) h = refl
-
+-- an empty field names nothing
 pub place-none : (f : List ℕ) → length f ≡ 0 → (k : ℕ) (ns : List (List ℕ)) → placeFrom k f ns ≡ invalid
 place-none [] h k [] = refl
 place-none [] h k (n ∷ ns) = rw (and-false (equal [] n)) (place-none [] h (suc k) ns)
 place-none (b ∷ bs) h k ns = absurd (omega arith)
-
-pub place-start : (names f : List ℕ) → placeFrom 0 f (fields names) ≡ placeFrom 0 f (partsFrom 9 names 0)
-place-start names f = rw (parts-start 9 names)
-
-module _ (names f : List ℕ) (k from e : ℕ) (h : from ≤ length names) (g : e ≡ partEnd 9 names from) (s : length f ≡ 0 → ⊥) where
-  name : placeFrom k f (partsFrom 9 names from)
-      ≡ cond (equal f (take (e - from) (drop from names)))
-      (literal false k) (placeFrom (k + 1) f (partsFrom 9 names (e + 1)))
-  name = rw (add-one, parts-at 9 names from h, part-is 9 names from e g, some f s, and-true (equal f (before 9 (drop from names))), g)
-
-  pub place-here : equal f (take (e - from) (drop from names)) ≡ true → placeFrom k f (partsFrom 9 names from) ≡ literal false k
-  place-here t = rw (name, t)
-
-  pub place-later : equal f (take (e - from) (drop from names)) ≡ false
-      → placeFrom k f (partsFrom 9 names from) ≡ placeFrom (k + 1) f (partsFrom 9 names (e + 1))
-  place-later t = rw (name, t)
-
-pub place-end : (names f : List ℕ) (k from : ℕ) → length names < from → placeFrom k f (partsFrom 9 names from) ≡ invalid
-place-end names f k from h = rw (parts-past 9 names from h)
 
 -- a place, by its first byte
 pub token-none : (f : List ℕ) → length f ≡ 0 → token kind.Place f ≡ invalid

@@ -1,2 +1,2 @@
-pub mod Hash
+pub mod Place
 pub mod LineNumber

@@ -1,18 +1,22 @@
 // What one field of a sheet's line says, by its kind.
 ghost use mathlib.Core.Path.{_≡_};
-ghost use Rattle.base_spec.specs.Parts.{fields};
 ghost use Rattle.base_spec.specs.Number.{numberOf};
-ghost use Rattle.sheet_spec.specs.Line.{asNumber, asLabel, asVariant, placeFrom, token};
+ghost use Rattle.sheet_spec.specs.Line.{asNumber, asLabel, asVariant, token};
 ghost use Rattle.sheet_spec.specs.Line as line;
 ghost use Rattle.sheet_tokens.specs.Entries.{valueOf};
 ghost use Rattle.sheet_tokens.specs.Entries as entries;
 ghost use Rattle.sheet_field.specs.LineNumber.{lineAfter};
-use crate::instructions::instruction;
+ghost use Rattle.sheet_field.specs.Place.{placeValue};
+use crate::long::long_place;
+use crate::short::NONE;
+use crate::short::key;
+use crate::short::short_place;
 use base_spec::Number;
 use sheet_spec::Kind;
 use sheet_tokens::Value;
 
-mod instructions;
+mod long;
+mod short;
 
 // Whether two texts are equal.
 pub fn equal(f: &[u8], g: &[u8]) -> bool
@@ -29,29 +33,6 @@ pub fn equal(f: &[u8], g: &[u8]) -> bool
         i += 1;
     }
     true
-}
-
-// The place of a name among names parted by tabs.
-fn find(names: &[u8], f: &[u8]) -> Value
-    ensures { λ r. ⌜ r ≡ valueOf (placeFrom 0 (now (f .entry)) (fields (now (names .entry)))) ⌝ }
-{
-    if f.len() == 0 {
-        return Value::None;
-    }
-    let mut place: u64 = 0;
-    let mut from: usize = 0;
-    while from <= names.len() {
-        let e = base_text::field_end(names, from);
-        if equal(f, &names[from..e]) {
-            return Value::Number {
-                negative: false,
-                magnitude: place,
-            };
-        }
-        place += 1;
-        from = e + 1;
-    }
-    Value::None
 }
 
 // What a number's field says.
@@ -127,24 +108,33 @@ fn place(f: &[u8]) -> Value
     number(f)
 }
 
-fn condition(f: &[u8]) -> Value
-    ensures { λ r. ⌜ r ≡ valueOf (asVariant Kind.Condition (now (f .entry))) ⌝ }
+// A variant by its place.
+fn at(place: u64) -> Value
+    ensures { λ r. ⌜ r ≡ placeValue place ⌝ }
 {
-    find(
-        b"True\tFalse\tHigh\tLowOrSame\tCarryClear\tCarrySet\tNotEqual\tEqual\tOverflowClear\tOverflowSet\tPlus\t\
-          Minus\tGreaterThanOrEqual\tLessThan\tGreaterThan\tLessThanOrEqual",
-        f,
-    )
+    if place == NONE {
+        return Value::None;
+    }
+    Value::Number {
+        negative: false,
+        magnitude: place,
+    }
 }
 
-fn operand(f: &[u8]) -> Value
-    ensures { λ r. ⌜ r ≡ valueOf (asVariant Kind.Operand (now (f .entry))) ⌝ }
+// A variant's name. No name ends in a byte 0, so a key decides a field.
+fn variant(kind: Kind, f: &[u8]) -> Value
+    ensures { λ r. ⌜ r ≡ valueOf (asVariant kind (now (f .entry))) ⌝ }
 {
-    find(
-        b"Immediate\tRegister\tIndirect\tPostIndirect\tPreIndirect\tIndirectDisplacement\tIndirectIndex\t\
-          PcDisplacement\tPcIndex\tExtended\tAbsolute",
-        f,
-    )
+    if f.len() == 0 {
+        return Value::None;
+    }
+    if 8 < f.len() {
+        return at(long_place(kind, f));
+    }
+    if f[f.len() - 1] == 0 {
+        return Value::None;
+    }
+    at(short_place(kind, key(f)))
 }
 
 // What a field of a kind says.
@@ -155,22 +145,6 @@ pub fn value(kind: Kind, f: &[u8]) -> Value
         Kind::Number => number(f),
         Kind::Target => line_name(f),
         Kind::Place => place(f),
-        Kind::Size => find(b"Byte\tWord\tLong", f),
-        Kind::TargetDirection => find(b"ToMemory\tFromMemory", f),
-        Kind::RegisterOperand => find(b"Address\tData", f),
-        Kind::AddressWidth => find(b"Word\tLong", f),
-        Kind::Condition => condition(f),
-        Kind::BranchSize => find(b"Short\tWord\tLong", f),
-        Kind::ShiftDirection => find(b"Right\tLeft", f),
-        Kind::Sign => find(b"Signed\tUnsigned", f),
-        Kind::BitFieldOperation => find(
-            b"Test\tExtractUnsigned\tChange\tExtractSigned\tClear\tFindFirstOne\tSet\tInsert",
-            f,
-        ),
-        Kind::FieldValue => find(b"Immediate\tRegister", f),
-        Kind::TrapOperand => find(b"None\tWord\tLong", f),
-        Kind::RegisterChoice => find(b"None\tSome", f),
-        Kind::Operand => operand(f),
-        Kind::Instruction => instruction(f),
+        _ => variant(kind, f),
     }
 }

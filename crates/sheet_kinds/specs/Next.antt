@@ -1,5 +1,5 @@
 -- The next kind taken off, and its fields put in its place, in one number.
-use Prim.Native.Nat.{ℕ, _+_, _*_, _/_, _%_, _^_, _<_}
+use Prim.Native.Nat.{ℕ, _+_, _*_, _/_, _%_}
 use mathlib.Core.Path.{_≡_}
 use mathlib.Core.List.{List, [], _∷_}
 use Rattle.sheet_spec.specs.declared.Kind.{Kind}
@@ -14,12 +14,10 @@ below (k ∷ ks) n = codeOf k + 32 * below ks n
 abbrev pub kindsAfter : ℕ → ℕ → ℕ
 kindsAfter kinds place = below (kindsOf (kindAt (kinds % 32)) place) (kinds / 32)
 
--- 64 bits hold the kinds of `fields` and n above them
-pub record Holds (fields n : ℕ) : Type 0 where
-  pub kinds : List Kind
-  pub packs : fields ≡ packed kinds
-  pub fits : below kinds n < 2 ^ 64
+-- the power of 32 above the codes of ks
+abbrev pub above : List Kind → ℕ
+above [] = 1
+above (k ∷ ks) = 32 * above ks
 
--- the result
-abbrev pub Joined : ℕ → ℕ → ℕ → Type 0
-Joined fields n r = (ks : List Kind) → fields ≡ packed ks → r ≡ below ks n
+abbrev pub Shifts : ℕ → ℕ → Type 0
+Shifts fields r = (ks : List Kind) → fields ≡ packed ks → r ≡ above ks

@@ -1,17 +1,17 @@
 -- Laws of the kinds in one number. Assumes nothing.
 use Prim.Native.Nat.{ℕ, zero, suc, _+_, _*_, _/_, _%_, _^_, _≤_, _<_}
-use mathlib.Core.Path.{_≡_, refl, ap, _∙_}
+use mathlib.Core.Path.{_≡_, refl, sym, ap, _∙_}
 use mathlib.Core.Bool.{true, _&&_}
 use mathlib.Core.List.{List, [], _∷_, _++_}
 use native.Mathlib.Omega.{arith}
 use lib.Dec.{ltb}
-use lib.ListN.{length}
+use lib.ListN.{length, getD, List·getD-eq-default}
 use borrow.Author.Tests.{ltb-true}
 use Rattle.sheet_spec.specs.declared.Kind.{Kind}
 use Rattle.sheet_spec.specs.declared.Kind.the-variants as kind
 use Rattle.sheet_spec.specs.Grammar.{kindsOf}
 use Rattle.sheet_kinds.specs.Packed.{codeOf, packed, kindAt}
-use Rattle.sheet_kinds.specs.Next.{below, kindsAfter, Holds, Joined}
+use Rattle.sheet_kinds.specs.Next.{below, above, Shifts, kindsAfter}
 use Rattle.base_facts.specs.Tests.{and-true}
 
 codes : (k : Kind) → (ltb 0 (codeOf k) && ltb (codeOf k) 32 ≡ true) × (kindAt (codeOf k) ≡ k)
@@ -50,6 +50,10 @@ pub packed-none : (ks : List Kind) → packed ks ≡ 0 → ks ≡ []
 packed-none [] e = refl
 packed-none (k ∷ ks) e = absurd (omega (arith, code-fits k))
 
+-- past the rows of a table
+pub packed-past : (rows : List (List Kind)) (n : ℕ) → length rows ≤ n → 0 ≡ packed (getD rows n [])
+packed-past rows n h = sym (ap packed (List·getD-eq-default rows [] h))
+
 pub below-packed : (ks ls : List Kind) → below ks (packed ls) ≡ packed (ks ++ ls)
 below-packed [] ls = refl
 below-packed (k ∷ ks) ls = ap (λ (n : ℕ). codeOf k + 32 * n) (below-packed ks ls)
@@ -63,22 +67,18 @@ packed-small (suc n) [] h = omega (arith, packed-small n [] (omega arith))
 packed-small zero (k ∷ ks) h = absurd (omega arith)
 packed-small (suc n) (k ∷ ks) h = omega (arith, packed-small n ks (omega arith), code-fits k)
 
--- fields a kind at a time
-pub joined-none : (n : ℕ) → Joined 0 n n
-joined-none n [] e = refl
-joined-none n (k ∷ ks) e = absurd (omega (arith, code-fits k))
+-- fields below a number
+pub below-above : (ks : List Kind) (n : ℕ) → below ks n ≡ packed ks + above ks * n
+below-above [] n = omega arith
+below-above (k ∷ ks) n = omega (arith, below-above ks n)
 
-module _ (fields n : ℕ) (some : fields ≡ 0 → ⊥) where
-  pub holds-rest : Holds fields n → Holds (fields / 32) n
-  holds-rest r = go (r .kinds) (r .packs) (r .fits)
-    where
-      go : (ks : List Kind) → fields ≡ packed ks → below ks n < 2 ^ 64 → Holds (fields / 32) n
-      go [] e h = absurd (some e)
-      go (k ∷ ks) e h = record { kinds = ks; packs = omega (arith, code-fits k); fits = omega arith }
+pub above-none : Shifts 0 1
+above-none [] e = refl
+above-none (k ∷ ks) e = absurd (omega (arith, code-fits k))
 
-  pub joined-more : (r : ℕ) → Joined (fields / 32) n r → Joined fields n (fields % 32 + 32 * r)
-  joined-more r j [] e = absurd (some e)
-  joined-more r j (k ∷ ks) e = omega (arith, code-fits k, j ks (omega (arith, code-fits k)))
-
-  pub joined-fits : (r : ℕ) → Holds fields n → Joined (fields / 32) n r → fields % 32 + 32 * r < 2 ^ 64
-  joined-fits r held j = omega (arith, joined-more r j (held .kinds) (held .packs), held .fits)
+pub above-some : (n : ℕ) (ks : List Kind) → 32 ^ n ≤ packed ks → packed ks < 32 ^ suc n → 32 ^ suc n ≡ above ks
+above-some zero [] h g = absurd (omega arith)
+above-some zero (k ∷ []) h g = refl
+above-some zero (k ∷ (l ∷ ks)) h g = absurd (omega (arith, code-fits l))
+above-some (suc n) [] h g = absurd (omega (arith, packed-small n [] (omega arith)))
+above-some (suc n) (k ∷ ks) h g = omega (arith, above-some n ks (omega (arith, code-fits k)) (omega (arith, code-fits k)))

@@ -62,16 +62,17 @@ total-append f (k ∷ ks) ls = omega (arith, total-append f ks ls)
 
 -- fields that a kind has room for
 abbrev Within : Kind → List Kind → Type 0
-Within k ks = (0 < room k) × (total room ks ≤ room k) × (total most ks < most k)
+Within k ks = (0 < room k) × (total room ks ≤ room k) × (total most ks < most k) × (length ks ≤ 7)
 
 abbrev within : Kind → List Kind → Bool
-within k ks = ltb 0 (room k) && (leb (total room ks) (room k) && ltb (total most ks) (most k))
+within k ks = ltb 0 (room k) && (leb (total room ks) (room k) && (ltb (total most ks) (most k) && leb (length ks) 7))
 
 within-true : (k : Kind) (ks : List Kind) → within k ks ≡ true → Within k ks
 within-true k ks e =
-    let t = and-true (ltb 0 (room k)) (leb (total room ks) (room k) && ltb (total most ks) (most k)) e in
-    let u = and-true (leb (total room ks) (room k)) (ltb (total most ks) (most k)) (t .1) in
-    (ltb-true 0 (room k) (t .0), leb-true (total room ks) (room k) (u .0), ltb-true (total most ks) (most k) (u .1))
+    let t = and-true (ltb 0 (room k)) (leb (total room ks) (room k) && (ltb (total most ks) (most k) && leb (length ks) 7)) e in
+    let u = and-true (leb (total room ks) (room k)) (ltb (total most ks) (most k) && leb (length ks) 7) (t .1) in
+    let v = and-true (ltb (total most ks) (most k)) (leb (length ks) 7) (u .1) in
+    (ltb-true 0 (room k) (t .0), leb-true (total room ks) (room k) (u .0), ltb-true (total most ks) (most k) (v .0), leb-true (length ks) 7 (v .1))
 
 abbrev each : Kind → List (List Kind) → Bool
 each k [] = within k []
@@ -101,6 +102,9 @@ fields-within kind.TrapOperand n = each-row kind.TrapOperand ([] ∷ (kind.Numbe
 fields-within kind.RegisterChoice n = each-row kind.RegisterChoice ([] ∷ (kind.Number ∷ []) ∷ []) refl n
 fields-within kind.Operand n = each-row kind.Operand operandKinds refl n
 fields-within kind.Instruction n = each-row kind.Instruction instructionKinds refl n
+
+pub fields-few : (k : Kind) (n : ℕ) → length (kindsOf k n) ≤ 7
+fields-few k n = fields-within k n .3
 
 -- the first kind's fields put in its place
 pub room-next : (k : Kind) (ks : List Kind) (n : ℕ) → total room (kindsOf k n ++ ks) ≤ total room (k ∷ ks)

@@ -1,6 +1,40 @@
+use Rattle.sheet_tokens.specs.Entries.{valueOf}
+use mathlib.Core.Path.{sym, ap, _∙_}
 use borrow.Author.Needs.{needs}
 use Rattle.sheet_field.proofs.value.Statement.{statement}
 use Rattle.sheet_field.proofs.value.Tie as tie
+use Prim.Native.Nat.{ℕ}
+use mathlib.Core.List.{List, [], _∷_}
+use types.Run.{OneOf, miss}
+use denote.Enum.Declared.{tagOf}
+use Rattle.sheet_spec.proofs.Kind.{the-type}
+use Rattle.sheet_spec.specs.declared.Kind.{Kind}
+use Rattle.sheet_spec.specs.declared.Kind.the-variants as kind
+use mathlib.Core.Path.{_≡_, refl}
+use Rattle.sheet_spec.specs.Line.{token, asVariant}
+
+-- the kinds with names
+abbrev tags : List ℕ
+tags = 3 ∷ 4 ∷ 5 ∷ 6 ∷ 7 ∷ 8 ∷ 9 ∷ 10 ∷ 11 ∷ 12 ∷ 13 ∷ 14 ∷ 15 ∷ 16 ∷ []
+
+named : (k : Kind) (f : List ℕ) → OneOf tags (tagOf the-type k) → token k f ≡ asVariant k f
+named kind.Number f t = absurd (miss tags 0 tt t)
+named kind.Target f t = absurd (miss tags 1 tt t)
+named kind.Place f t = absurd (miss tags 2 tt t)
+named kind.Size f t = refl
+named kind.TargetDirection f t = refl
+named kind.RegisterOperand f t = refl
+named kind.AddressWidth f t = refl
+named kind.Condition f t = refl
+named kind.BranchSize f t = refl
+named kind.ShiftDirection f t = refl
+named kind.Sign f t = refl
+named kind.BitFieldOperation f t = refl
+named kind.FieldValue f t = refl
+named kind.TrapOperand f t = refl
+named kind.RegisterChoice f t = refl
+named kind.Operand f t = refl
+named kind.Instruction f t = refl
 
 returns : tie.Need-returns
 returns c = rw (c .before .enum-told .given .1) (c .number .ensures)
@@ -12,46 +46,7 @@ returns-3 : tie.Need-returns-3
 returns-3 c = rw (c .before .enum-told3 .given .1) (c .place .ensures)
 
 returns-4 : tie.Need-returns-4
-returns-4 c = rw (c .before .before .enum-told4 .given .1) (c .find .ensures)
-
-returns-5 : tie.Need-returns-5
-returns-5 c = rw (c .before .before .enum-told5 .given .1) (c .find2 .ensures)
-
-returns-6 : tie.Need-returns-6
-returns-6 c = rw (c .before .before .enum-told6 .given .1) (c .find3 .ensures)
-
-returns-7 : tie.Need-returns-7
-returns-7 c = rw (c .before .before .enum-told7 .given .1) (c .find4 .ensures)
-
-returns-8 : tie.Need-returns-8
-returns-8 c = rw (c .before .enum-told8 .given .1) (c .condition .ensures)
-
-returns-9 : tie.Need-returns-9
-returns-9 c = rw (c .before .before .enum-told9 .given .1) (c .find5 .ensures)
-
-returns-10 : tie.Need-returns-10
-returns-10 c = rw (c .before .before .enum-told10 .given .1) (c .find6 .ensures)
-
-returns-11 : tie.Need-returns-11
-returns-11 c = rw (c .before .before .enum-told11 .given .1) (c .find7 .ensures)
-
-returns-12 : tie.Need-returns-12
-returns-12 c = rw (c .before .before .enum-told12 .given .1) (c .find8 .ensures)
-
-returns-13 : tie.Need-returns-13
-returns-13 c = rw (c .before .before .enum-told13 .given .1) (c .find9 .ensures)
-
-returns-14 : tie.Need-returns-14
-returns-14 c = rw (c .before .before .enum-told14 .given .1) (c .find10 .ensures)
-
-returns-15 : tie.Need-returns-15
-returns-15 c = rw (c .before .before .enum-told15 .given .1) (c .find11 .ensures)
-
-returns-16 : tie.Need-returns-16
-returns-16 c = rw (c .before .enum-told16 .given .1) (c .operand .ensures)
-
-returns-17 : tie.Need-returns-17
-returns-17 c = rw (c .before .enum-told17 .given .1) (c .instruction .ensures)
+returns-4 c = c .variant .ensures ∙ sym (ap valueOf (named (c .before .before .before .args .kind) (c .before .before .before .args .f .now) (c .before .match .keys4)))
 
 pub value-spec : {M : Type 1} → statement M
 value-spec =
@@ -63,59 +58,8 @@ value-spec =
     (λ c κs. search needs)
     (λ c. search needs)
     (λ c κs. search needs)
-    (λ c. search needs)
-    (λ c. search needs)
-    (λ c κs. search needs)
-    (λ c. search needs)
-    (λ c. search needs)
-    (λ c κs. search needs)
-    (λ c. search needs)
-    (λ c. search needs)
-    (λ c κs. search needs)
-    (λ c. search needs)
-    (λ c. search needs)
-    (λ c κs. search needs)
-    (λ c. search needs)
-    (λ c κs. search needs)
-    (λ c. search needs)
-    (λ c. search needs)
-    (λ c κs. search needs)
-    (λ c. search needs)
-    (λ c. search needs)
-    (λ c κs. search needs)
-    (λ c. search needs)
-    (λ c. search needs)
-    (λ c κs. search needs)
-    (λ c. search needs)
-    (λ c. search needs)
-    (λ c κs. search needs)
-    (λ c. search needs)
-    (λ c. search needs)
-    (λ c κs. search needs)
-    (λ c. search needs)
-    (λ c. search needs)
-    (λ c κs. search needs)
-    (λ c. search needs)
-    (λ c. search needs)
-    (λ c κs. search needs)
-    (λ c. search needs)
-    (λ c κs. search needs)
-    (λ c. search needs)
     (λ c κs. search needs)
     returns
     returns-2
     returns-3
-    returns-4
-    returns-5
-    returns-6
-    returns-7
-    returns-8
-    returns-9
-    returns-10
-    returns-11
-    returns-12
-    returns-13
-    returns-14
-    returns-15
-    returns-16
-    returns-17)
+    returns-4)

@@ -1,23 +1,16 @@
 use borrow.Author.Needs.{needs}
-use Prim.Native.Nat.{ℕ, zero, suc}
-use mathlib.Core.Path.{_≡_, refl, sym, _∙_}
-use mathlib.Core.List.{List, [], _∷_, map}
-use lib.ListN.{getD}
+use Prim.Native.Nat.{ℕ}
+use mathlib.Core.Path.{_≡_, refl, sym}
+use mathlib.Core.List.{List, [], _∷_}
 use types.Run.{OneOf, miss}
 use denote.Enum.Declared.{tagOf}
 use Rattle.sheet_spec.proofs.Kind.{the-type}
 use Rattle.sheet_spec.specs.declared.Kind.{Kind}
 use Rattle.sheet_spec.specs.declared.Kind.the-variants as kind
-use Rattle.sheet_spec.specs.Grammar.{operandKinds, instructionKinds, kindsOf}
+use Rattle.sheet_spec.specs.Grammar.{kindsOf}
 use Rattle.sheet_kinds.specs.Packed.{packed}
 use Rattle.sheet_kinds.proofs.fields_of.Statement.{statement}
 use Rattle.sheet_kinds.proofs.fields_of.Tie as tie
-
--- a row of a table of packed fields
-row-of : (rows : List (List Kind)) (n : ℕ) → getD (map packed rows) n 0 ≡ packed (getD rows n [])
-row-of [] n = refl
-row-of (r ∷ rs) zero = refl
-row-of (r ∷ rs) (suc n) = row-of rs n
 
 -- the kinds with no fields
 abbrev tags : List ℕ
@@ -49,16 +42,16 @@ returns-2 : tie.Need-returns-2
 returns-2 c = rw (c .enum-told2 .given .1)
 
 returns-3 : tie.Need-returns-3
-returns-3 c = rw (c .before .before .enum-told3 .given .1) (c .row .ensures ∙ row-of ([] ∷ (kind.Number ∷ []) ∷ (kind.Number ∷ []) ∷ []) (c .before .before .before .before .args .place))
+returns-3 c = rw (c .before .enum-told3 .given .1) (c .trap-operand-fields .ensures)
 
 returns-4 : tie.Need-returns-4
-returns-4 c = rw (c .before .before .enum-told4 .given .1) (c .row2 .ensures ∙ row-of ([] ∷ (kind.Number ∷ []) ∷ []) (c .before .before .before .before .args .place))
+returns-4 c = rw (c .before .enum-told4 .given .1) (c .register-choice-fields .ensures)
 
 returns-5 : tie.Need-returns-5
-returns-5 c = rw (c .before .before .enum-told5 .given .1) (c .row3 .ensures ∙ row-of operandKinds (c .before .before .before .before .args .place))
+returns-5 c = rw (c .before .enum-told5 .given .1) (c .operand-fields .ensures)
 
 returns-6 : tie.Need-returns-6
-returns-6 c = rw (c .before .before .enum-told6 .given .1) (c .row4 .ensures ∙ row-of instructionKinds (c .before .before .before .before .args .place))
+returns-6 c = rw (c .before .enum-told6 .given .1) (c .instruction-fields .ensures)
 
 returns-7 : tie.Need-returns-7
 returns-7 c = sym (no-fields (c .before .args .kind) (c .before .args .place) (c .match .keys7))
@@ -70,15 +63,11 @@ fields-of-spec =
     (λ c. search needs)
     (λ c. search needs)
     (λ c. search needs)
+    (λ c κs. search needs)
     (λ c. search needs)
     (λ c κs. search needs)
     (λ c. search needs)
-    (λ c. search needs)
     (λ c κs. search needs)
-    (λ c. search needs)
-    (λ c. search needs)
-    (λ c κs. search needs)
-    (λ c. search needs)
     (λ c. search needs)
     (λ c κs. search needs)
     returns

@@ -1,27 +1,42 @@
 use borrow.Author.Needs.{needs}
-use Prim.Native.Nat.{_/_}
-use mathlib.Core.Path.{ap, _∙_}
+use Prim.Native.Nat.{_+_, _*_, _/_}
+use mathlib.Core.Path.{_≡_, sym, ap, _∙_}
+use native.Mathlib.Omega.{arith}
 use Rattle.sheet_spec.specs.declared.Kind.{Kind}
 use Rattle.sheet_spec.specs.Grammar.{kindsOf}
-use Rattle.sheet_kinds.specs.Next.{below}
+use Rattle.sheet_kinds.specs.Next.{below, above, kindsAfter}
+use Rattle.sheet_kinds.specs.NextLaws.{below-above, packed-small}
+use Rattle.sheet_kinds.specs.Weight.{fields-few}
 use Rattle.sheet_kinds.proofs.next.Statement.{statement}
 use Rattle.sheet_kinds.proofs.next.Tie as tie
 
-onto-requires : tie.Need-onto-requires
-onto-requires c κs =
-    let s = c .before .before in
-    record {
-      kinds = kindsOf (c .before .first .result) (s .args .place);
-      packs = c .fields-of .ensures;
-      fits = rw (c .before .first .ensures) (s .pre);
-    }
+shift-requires : tie.Need-shift-requires
+shift-requires c κs =
+    let k = c .before .first .result in
+    let n = c .before .before .args .place in
+    omega (arith, c .fields-of .ensures, packed-small 7 (kindsOf k n) (fields-few k n))
 
-returns : tie.Need-returns
-returns c =
+-- the sum
+joined : (c : tie.After-shift) →
+    let s = c .before .before .before in
+    c .before .fields-of .result + c .shift .result * (s .args .kinds / 32) ≡ kindsAfter (s .args .kinds) (s .args .place)
+joined c =
     let s = c .before .before .before in
     let k = c .before .before .first in
-    c .onto .ensures (kindsOf (k .result) (s .args .place)) (c .before .fields-of .ensures)
-    ∙ ap (λ (k : Kind). below (kindsOf k (s .args .place)) (s .args .kinds / 32)) (k .ensures)
+    let n = s .args .kinds / 32 in
+    let ks = kindsOf (k .result) (s .args .place) in
+    let e = c .before .fields-of .ensures in
+    (λ i. e i + c .shift .ensures ks e i * n)
+    ∙ sym (below-above ks n)
+    ∙ ap (λ (k : Kind). below (kindsOf k (s .args .place)) n) (k .ensures)
 
 pub next-spec : {M : Type 1} → statement M
-next-spec = tie.close (tie.spec (λ c κs. search needs) (λ c κs. search needs) onto-requires returns)
+next-spec =
+    tie.close
+    (tie.spec
+    (λ c κs. search needs)
+    (λ c κs. search needs)
+    shift-requires
+    (λ c. omega (arith, joined c, c .before .before .before .pre))
+    (λ c. omega (arith, joined c, c .before .before .before .pre))
+    joined)
