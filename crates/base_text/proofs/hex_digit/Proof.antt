@@ -1,9 +1,12 @@
+use mathlib.Core.Path.{_≡_}
+use Prim.Native.Nat.{_%_}
 use native.Mathlib.Omega.{arith}
+use Rattle.base_facts.specs.Numbers.{rest-le}
 use Rattle.base_text.proofs.hex_digit.Statement.{statement}
 use Rattle.base_text.proofs.hex_digit.Tie as tie
 
 returns-16 : tie.Need-returns-16
-returns-16 c = rw (c .match .rest)
+returns-16 c = let h : c .before .args .w % 16 ≡ 15 = omega (arith, rest-le 15 (c .before .args .w % 16) (c .match .rest)) in rw h
 
 pub hex-digit-spec : {M : Type 1} → statement M
 hex-digit-spec =

@@ -1,63 +1,35 @@
+use Prim.Native.Nat.{_/_}
+use native.Mathlib.Omega.{arith}
 use borrow.Author.Needs.{needs}
+use Rattle.base_text.specs.WrittenLaws.{decimal-20, decimal-length, decimal-hundreds}
+use Rattle.base_text.specs.WroteLaws.{wrote, wrote-then}
 use Rattle.base_text.proofs.put_decimal.Statement.{statement}
 use Rattle.base_text.proofs.put_decimal.Tie as tie
-use Rattle.base_text.proofs.put_decimal.Reads as reads
-use Rattle.base_text.proofs.put_decimal.Lts as lts
-use Rattle.base_text.proofs.put_below_100.Reads as put-below-100-reads
-use Rattle.base_text.proofs.put_digits.Reads as put-digits-reads
-use Rattle.base_text.proofs.put_two.Reads as put-two-reads
 
--- src/lib.rt:338:9
-put-below-100-requires : tie.Need-put-below-100-requires
-put-below-100-requires c κs = search needs
-
--- src/lib.rt:338:9
-same-length : tie.Need-same-length
-same-length c = search needs
-
--- src/lib.rt:338:9
-returns : tie.Need-returns
-returns c = search needs
-
--- src/lib.rt:341:13
-put-below-100-requires-2 : tie.Need-put-below-100-requires-2
-put-below-100-requires-2 c κs = search needs
-
--- src/lib.rt:342:9
 put-two-requires : tie.Need-put-two-requires
-put-two-requires c κs = ?
+put-two-requires c κs = (omega arith, omega (arith, decimal-length 1 (c .before .before .before .before .before .before .before .before .args .n / 100) (omega arith)))
 
--- src/lib.rt:342:9
-same-length-2 : tie.Need-same-length-2
-same-length-2 c = search needs
-
--- src/lib.rt:342:9
 returns-2 : tie.Need-returns-2
-returns-2 c = ?
+returns-2 c =
+    let n = c .before .before .before .before .before .before .before .before .before .before .before .args .n in
+    let d = decimal-length 1 (n / 100) (omega arith) in
+    let w = wrote-then (wrote (c .before .before .before .before .before .before .put-below-1002 .ensures)) (wrote (c .before .before .put-two .ensures)) (omega arith) in
+    rw (decimal-hundreds n (c .before .before .before .before .before .before .before .before .before .if1 .left)) (w .next, w .image)
 
--- src/lib.rt:344:5
 put-digits-requires : tie.Need-put-digits-requires
-put-digits-requires c κs = ?
-
--- src/lib.rt:333:1
-same-length-3 : tie.Need-same-length-3
-same-length-3 c = search needs
-
--- src/lib.rt:333:1
-returns-3 : tie.Need-returns-3
-returns-3 c = search needs
+put-digits-requires c κs = omega (arith, decimal-20 (c .before .before .before .before .args .n) (omega arith))
 
 pub put-decimal-spec : {M : Type 1} → statement M
 put-decimal-spec =
     tie.close
     (tie.spec
-    put-below-100-requires
-    same-length
-    returns
-    put-below-100-requires-2
+    (λ c κs. search needs)
+    (λ c. search needs)
+    (λ c. search needs)
+    (λ c κs. search needs)
     put-two-requires
-    same-length-2
+    (λ c. search needs)
     returns-2
     put-digits-requires
-    same-length-3
-    returns-3)
+    (λ c. search needs)
+    (λ c. search needs))
