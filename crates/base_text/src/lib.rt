@@ -314,8 +314,9 @@ fn put_two(out: &mut [u8], at: usize, n: u64) -> usize
     requires { ⌜ (n < 100) × (at + 2 ≤ length (now out)) ⌝ }
     ensures { λ r. ⌜ (r ≡ at + 2) × (now (out .exit) ≡ placed (now (out .entry)) at ((48 + n / 10) ∷ (48 + n % 10) ∷ [])) ⌝ }
 {
-    let next = put_byte(out, at, 48 + (n / 10) as u8);
-    put_byte(out, next, 48 + (n % 10) as u8)
+    out[at] = 48 + (n / 10) as u8;
+    out[at + 1] = 48 + (n % 10) as u8;
+    at + 2
 }
 
 // The digits of a number below 100.
