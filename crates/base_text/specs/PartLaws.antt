@@ -1,17 +1,26 @@
 -- Laws of the parts of a text, a byte or a part at a time. Assumes nothing.
-use mathlib.Core.Path.{_≡_, refl, ap}
+use mathlib.Core.Path.{_≡_, refl, ap, _∙_}
 use mathlib.Core.List.{List, [], _∷_}
-use mathlib.Core.Bool.{Bool, true, false, cond}
-use Prim.Native.Nat.{ℕ, suc, _+_, _-_, _≤_, _<_}
+use mathlib.Core.Bool.{Bool, true, false, cond, _||_}
+use Prim.Native.Nat.{ℕ, zero, suc, _+_, _-_, _≤_, _<_}
 use native.Mathlib.Omega.{arith}
 use native.Mathlib.Numerals.{add-one}
 use native.Mathlib.Decide.{decLe}
 use lib.ListN.{length, drop, take, getD, drop-of-length-le, length-drop}
 use lib.Seq.{drop-drop, drop-cons}
 use lib.Dec.{leb, eqb, leb·suc-suc}
-use borrow.Author.Tests.{le-leb, lt-leb, eq-eqb, ne-eqb}
+use borrow.Author.Tests.{le-leb, lt-leb, eq-eqb, ne-eqb, eqb-false}
 use Rattle.base_text.specs.Parts.{before, partEnd}
 use Rattle.base_spec.specs.Parts.{onto, parts}
+
+or-left : (a b : Bool) → (a || b) ≡ false → a ≡ false
+or-left true b e = e
+or-left false b e = refl
+
+or-right : (a b : Bool) → (a || b) ≡ false → b ≡ false
+or-right true true e = e
+or-right true false e = refl
+or-right false b e = e
 
 module _ (stop : ℕ) where
   module _ (s : List ℕ) (i : ℕ) (h : i < length s) where
@@ -21,8 +30,26 @@ module _ (stop : ℕ) where
     pub before-stop : getD s i 0 ≡ stop → before stop (drop i s) ≡ []
     before-stop e = rw (drop-cons s i 0 h, eq-eqb (getD s i 0) stop e)
 
+    part-more : eqb (getD s i 0) stop ≡ false → partEnd stop s i ≡ partEnd stop s (i + 1)
+    part-more e = omega (arith, ap length (before-more (eqb-false (getD s i 0) stop e)))
+
   pub before-end : (s : List ℕ) (i : ℕ) → length s ≤ i → before stop (drop i s) ≡ []
   before-end s i h = rw (drop-of-length-le s h)
+
+  module _ (s : List ℕ) (i : ℕ) where
+    -- whether one of these bytes is a stop: byte i and k more
+    abbrev stopAmong : ℕ → Bool
+    stopAmong zero = eqb (getD s i 0) stop
+    stopAmong (suc k) = stopAmong k || eqb (getD s (i + suc k) 0) stop
+
+    -- a part does not end among bytes that are no stop
+    pub none-among : (k : ℕ) → i + k < length s → stopAmong k ≡ false → partEnd stop s i ≡ partEnd stop s (i + suc k)
+    none-among zero h e = part-more s i (omega arith) e
+    none-among (suc k) h e =
+        let q : i + suc k + 1 ≡ i + suc (suc k) = omega arith in
+        none-among k (omega arith) (or-left (stopAmong k) (eqb (getD s (i + suc k) 0) stop) e)
+        ∙ part-more s (i + suc k) (omega arith) (or-right (stopAmong k) (eqb (getD s (i + suc k) 0) stop) e)
+        ∙ ap (partEnd stop s) q
 
   pub take-before : (l : List ℕ) → take (length (before stop l)) l ≡ before stop l
   take-before [] = refl

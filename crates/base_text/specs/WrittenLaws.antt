@@ -4,6 +4,7 @@ use mathlib.Core.List.{List, [], _∷_, _++_, append-assoc}
 use mathlib.Core.Bool.{Bool, true, false}
 use Prim.Native.Nat.{ℕ, zero, suc, _+_, _-_, _/_, _%_, _^_, _≤_, _<_}
 use native.Mathlib.Omega.{arith}
+use native.Mathlib.Nat.{div-div-eq-div-mul}
 use lib.ListN.{length, take, drop, set, length-append, length-take}
 use lib.Seq.{sets-eq, take-at, drop-at, drop-drop}
 use lib.Dec.{ltb}
@@ -55,6 +56,17 @@ decimal-small n h =
 pub decimal-more : (n : ℕ) → 10 ≤ n → decimalOf n ≡ decimalOf (n / 10) ++ ((48 + n % 10) ∷ [])
 unfolding decimalOf
 decimal-more n h = ap (λ (l : List ℕ). l ++ ((48 + n % 10) ∷ [])) (digits-all n (n / 10) (omega arith) (omega arith))
+
+-- two digits at a time
+pub decimal-two : (n : ℕ) → 10 ≤ n → n < 100 → decimalOf n ≡ (48 + n / 10) ∷ (48 + n % 10) ∷ []
+decimal-two n h g = rw (decimal-more n h, decimal-small (n / 10) (omega arith))
+
+pub decimal-hundreds : (n : ℕ) → 100 ≤ n → decimalOf n ≡ decimalOf (n / 100) ++ ((48 + n % 100 / 10) ∷ (48 + n % 100 % 10) ∷ [])
+decimal-hundreds n h =
+    let q : n / 10 / 10 ≡ n / 100 = div-div-eq-div-mul n 10 10 in
+    let t : n / 10 % 10 ≡ n % 100 / 10 = omega (arith, q) in
+    let u : n % 10 ≡ n % 100 % 10 = omega (arith, q) in
+    rw (decimal-more n (omega arith), decimal-more (n / 10) (omega arith), q, t, u, append-assoc (decimalOf (n / 100)) ((48 + n % 100 / 10) ∷ []) ((48 + n % 100 % 10) ∷ []))
 
 pub decimal-length : (k n : ℕ) → n < 10 ^ suc k → length (decimalOf n) ≤ suc k
 decimal-length zero n h = rw (decimal-small n (omega arith)) (omega arith)

@@ -1,7 +1,7 @@
 // Text as bytes: lines and fields, decimal numbers, and their writing into lent places.
 ghost use mathlib.Core.Path.{_≡_};
 ghost use mathlib.Core.List.{[], _∷_};
-ghost use Prim.Native.Nat.{_+_, _%_, _≤_};
+ghost use Prim.Native.Nat.{_+_, _/_, _%_, _≤_, _<_};
 ghost use lib.ListN.{length};
 ghost use Rattle.base_text.specs.Parts.{partEnd};
 ghost use Rattle.base_text.specs.Number.{digitsFrom};
@@ -27,11 +27,27 @@ pub fn part_end(s: &[u8], from: usize, stop: u8) -> usize
     i
 }
 
+// Eight bytes at a time, while eight are left.
 pub fn line_end(text: &[u8], from: usize) -> usize
     requires { ⌜ from ≤ length (now text) ⌝ }
     ensures { λ r. ⌜ (r ≡ partEnd 10 (now (text .entry)) from) × (r ≤ length (now (text .entry))) ⌝ }
 {
-    part_end(text, from, 10)
+    let mut i = from;
+    while 8 <= text.len() - i {
+        if (text[i] == 10)
+            | (text[i + 1] == 10)
+            | (text[i + 2] == 10)
+            | (text[i + 3] == 10)
+            | (text[i + 4] == 10)
+            | (text[i + 5] == 10)
+            | (text[i + 6] == 10)
+            | (text[i + 7] == 10)
+        {
+            return part_end(text, i, 10);
+        }
+        i += 8;
+    }
+    part_end(text, i, 10)
 }
 
 pub fn field_end(line: &[u8], from: usize) -> usize
@@ -221,8 +237,24 @@ pub fn put_byte(out: &mut [u8], at: usize, b: u8) -> usize
 fn hex_digit(w: u16) -> u8
     ensures { λ r. ⌜ r ≡ hexDigit (w % 16) ⌝ }
 {
-    let d = w % 16;
-    if d < 10 { 48 + d as u8 } else { 55 + d as u8 }
+    match w % 16 {
+        0 => 48,
+        1 => 49,
+        2 => 50,
+        3 => 51,
+        4 => 52,
+        5 => 53,
+        6 => 54,
+        7 => 55,
+        8 => 56,
+        9 => 57,
+        10 => 65,
+        11 => 66,
+        12 => 67,
+        13 => 68,
+        14 => 69,
+        _ => 70,
+    }
 }
 
 pub fn put_hex2(out: &mut [u8], at: usize, b: u8) -> usize
@@ -250,8 +282,19 @@ pub fn put_hex8(out: &mut [u8], at: usize, x: u32) -> usize
     requires { ⌜ at + 8 ≤ length (now out) ⌝ }
     ensures { λ r. ⌜ (r ≡ at + 8) × (now (out .exit) ≡ placed (now (out .entry)) at (hex8Of x)) ⌝ }
 {
-    let next = put_hex4(out, at, (x / 65536) as u16);
-    put_hex4(out, next, (x % 65536) as u16)
+    let high = (x / 65536) as u16;
+    let low = (x % 65536) as u16;
+    let digits = [
+        hex_digit(high / 4096),
+        hex_digit(high / 256),
+        hex_digit(high / 16),
+        hex_digit(high),
+        hex_digit(low / 4096),
+        hex_digit(low / 256),
+        hex_digit(low / 16),
+        hex_digit(low),
+    ];
+    put(out, at, &digits)
 }
 
 // The digits of n, where just they fit.
@@ -266,10 +309,39 @@ fn put_digits(out: &mut [u8], at: usize, n: u64) -> usize
     put_byte(out, next, 48 + (n % 10) as u8)
 }
 
+// Both digits of a number below 100.
+fn put_two(out: &mut [u8], at: usize, n: u64) -> usize
+    requires { ⌜ (n < 100) × (at + 2 ≤ length (now out)) ⌝ }
+    ensures { λ r. ⌜ (r ≡ at + 2) × (now (out .exit) ≡ placed (now (out .entry)) at ((48 + n / 10) ∷ (48 + n % 10) ∷ [])) ⌝ }
+{
+    out[at] = 48 + (n / 10) as u8;
+    out[at + 1] = 48 + (n % 10) as u8;
+    at + 2
+}
+
+// The digits of a number below 100.
+fn put_below_100(out: &mut [u8], at: usize, n: u64) -> usize
+    requires { ⌜ (n < 100) × (at + 2 ≤ length (now out)) ⌝ }
+    ensures { λ r. ⌜ (r ≡ at + length (decimalOf n)) × (now (out .exit) ≡ placed (now (out .entry)) at (decimalOf n)) ⌝ }
+{
+    if n < 10 {
+        return put_byte(out, at, 48 + n as u8);
+    }
+    put_two(out, at, n)
+}
+
+// A number below 10,000 two digits at a time.
 pub fn put_decimal(out: &mut [u8], at: usize, n: u64) -> usize
     requires { ⌜ at + 20 ≤ length (now out) ⌝ }
     ensures { λ r. ⌜ (r ≡ at + length (decimalOf n)) × (now (out .exit) ≡ placed (now (out .entry)) at (decimalOf n)) ⌝ }
 {
+    if n < 100 {
+        return put_below_100(out, at, n);
+    }
+    if n < 10000 {
+        let next = put_below_100(out, at, n / 100);
+        return put_two(out, next, n % 100);
+    }
     put_digits(out, at, n)
 }
 
