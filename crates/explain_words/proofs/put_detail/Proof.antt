@@ -1,0 +1,84 @@
+use mathlib.Core.Path.{sym, ap, _∙_}
+use native.Mathlib.Omega.{arith}
+use Rattle.base_text.specs.WroteLaws.{wrote-none}
+use Rattle.explain_spec.specs.Words.{filled, fieldTexts, reasonTexts}
+use Rattle.explain_words.proofs.Laws.{wrote-as}
+use Rattle.explain_words.proofs.WordsLaws.{row-same, row-room, detail-field, detail-reason, detail-none}
+use borrow.Author.Needs.{needs}
+use Rattle.explain_words.proofs.put_detail.Statement.{statement}
+use Rattle.explain_words.proofs.put_detail.Tie as tie
+use Rattle.explain_words.proofs.put_detail.Reads as reads
+use Rattle.explain_words.proofs.put_detail.Lts as lts
+use Rattle.explain_words.proofs.rows.put_row.Reads as put-row-reads
+use Rattle.explain_words.proofs.table.field_texts.Reads as field-texts-reads
+use Rattle.explain_words.proofs.table.reason_texts.Reads as reason-texts-reads
+
+-- src/lib.rt:82:31
+field-texts-requires : tie.Need-field-texts-requires
+field-texts-requires c κs = search needs
+
+-- src/lib.rt:82:30
+slice-aggregate-put-row : tie.Need-slice-aggregate-put-row
+slice-aggregate-put-row c = search needs
+
+-- src/lib.rt:82:9
+put-row-requires : tie.Need-put-row-requires
+put-row-requires c κs = omega (arith, row-room fieldTexts tt (c .before .before .field-texts .ensures .0) (c .before .before .before .before .before .before .args .r .detail))
+
+-- src/lib.rt:82:9
+same-length : tie.Need-same-length
+same-length c = search needs
+
+-- src/lib.rt:82:9
+returns : tie.Need-returns
+returns c =
+    let r = c .before .before .before .before .before .before .before .before .before .args .r in
+    let e = c .before .before .before .before .before .field-texts .ensures .0 in
+    let w = c .before .before .put-row .ensures in
+    (wrote-as (ap (filled r) (detail-field r (c .before .before .before .before .before .before .if1 .taken) ∙ sym (row-same e (r .detail)))) (w .0), omega (arith, w .1, row-room fieldTexts tt e (r .detail)))
+
+-- src/lib.rt:85:31
+reason-texts-requires : tie.Need-reason-texts-requires
+reason-texts-requires c κs = search needs
+
+-- src/lib.rt:85:30
+slice-aggregate-put-row-2 : tie.Need-slice-aggregate-put-row-2
+slice-aggregate-put-row-2 c = search needs
+
+-- src/lib.rt:85:9
+put-row-requires-2 : tie.Need-put-row-requires-2
+put-row-requires-2 c κs = omega (arith, row-room reasonTexts tt (c .before .before .reason-texts .ensures .0) (c .before .before .before .before .before .before .before .before .args .r .detail))
+
+-- src/lib.rt:85:9
+same-length-2 : tie.Need-same-length-2
+same-length-2 c = search needs
+
+-- src/lib.rt:85:9
+returns-2 : tie.Need-returns-2
+returns-2 c =
+    let r = c .before .before .before .before .before .before .before .before .before .before .before .args .r in
+    let e = c .before .before .before .before .before .reason-texts .ensures .0 in
+    let w = c .before .before .put-row2 .ensures in
+    (wrote-as (ap (filled r) (detail-reason r (c .before .before .before .before .before .before .before .before .if1 .left) (c .before .before .before .before .before .before .if2 .taken) ∙ sym (row-same e (r .detail)))) (w .0), omega (arith, w .1, row-room reasonTexts tt e (r .detail)))
+
+-- src/lib.rt:77:1
+returns-3 : tie.Need-returns-3
+returns-3 c =
+    let a = c .before .before .before .before .before .args in
+    (wrote-as (ap (filled (a .r)) (detail-none (a .r) (c .before .before .if1 .left) (c .if2 .left))) (wrote-none (a .out .now) (a .at)), omega arith)
+
+pub put-detail-spec : {M : Type 1} → statement M
+put-detail-spec =
+    tie.close
+    (tie.spec
+    field-texts-requires
+    slice-aggregate-put-row
+    put-row-requires
+    same-length
+    returns
+    reason-texts-requires
+    slice-aggregate-put-row-2
+    put-row-requires-2
+    same-length-2
+    returns-2
+    returns-3)

@@ -1,0 +1,70 @@
+use native.Mathlib.Omega.{arith}
+use Rattle.base_text.specs.WrittenLaws.{decimal-20}
+use Rattle.base_text.specs.WroteLaws.{wrote}
+use Rattle.explain_words.proofs.Laws.{wrote-as, byte-value, byte-detail, byte-itself}
+use borrow.Author.Needs.{needs}
+use Rattle.explain_words.proofs.rows.put_filled_byte.Statement.{statement}
+use Rattle.explain_words.proofs.rows.put_filled_byte.Tie as tie
+use Rattle.explain_words.proofs.rows.put_filled_byte.Reads as reads
+use Rattle.explain_words.proofs.rows.put_filled_byte.Lts as lts
+use Rattle.base_text.proofs.put_byte.Reads as put-byte-reads
+use Rattle.base_text.proofs.put_decimal.Reads as put-decimal-reads
+use Rattle.explain_words.proofs.rows.put_value.Reads as put-value-reads
+
+-- src/rows.rt:58:9
+put-value-requires : tie.Need-put-value-requires
+put-value-requires c κs = search needs
+
+-- src/rows.rt:58:9
+same-length : tie.Need-same-length
+same-length c = search needs
+
+-- src/rows.rt:58:9
+returns : tie.Need-returns
+returns c =
+    let a = c .before .before .before .before .before .before .args in
+    let w = c .before .before .put-value .ensures in
+    (wrote-as (byte-value (a .r) (a .b) (c .before .before .before .before .if1 .taken)) (w .0), w .1)
+
+-- src/rows.rt:61:9
+put-decimal-requires : tie.Need-put-decimal-requires
+put-decimal-requires c κs = search needs
+
+-- src/rows.rt:61:9
+same-length-2 : tie.Need-same-length-2
+same-length-2 c = search needs
+
+-- src/rows.rt:61:9
+returns-2 : tie.Need-returns-2
+returns-2 c =
+    let a = c .before .before .before .before .before .before .before .args in
+    let d = decimal-20 (a .r .detail) (omega arith) in
+    (wrote-as (byte-detail (a .r) (a .b) (c .before .before .before .before .before .if1 .left) (c .before .before .before .before .if2 .taken)) (wrote (c .before .before .put-decimal .ensures)), omega arith)
+
+-- src/rows.rt:63:5
+put-byte-requires : tie.Need-put-byte-requires
+put-byte-requires c κs = search needs
+
+-- src/rows.rt:53:1
+same-length-3 : tie.Need-same-length-3
+same-length-3 c = search needs
+
+-- src/rows.rt:53:1
+returns-3 : tie.Need-returns-3
+returns-3 c =
+    let a = c .before .before .before .before .before .before .before .args in
+    (wrote-as (byte-itself (a .r) (a .b) (c .before .before .before .before .before .if1 .left) (c .before .before .before .before .if2 .left)) (wrote (c .before .before .put-byte .ensures)), omega arith)
+
+pub put-filled-byte-spec : {M : Type 1} → statement M
+put-filled-byte-spec =
+    tie.close
+    (tie.spec
+    put-value-requires
+    same-length
+    returns
+    put-decimal-requires
+    same-length-2
+    returns-2
+    put-byte-requires
+    same-length-3
+    returns-3)

@@ -1,0 +1,77 @@
+use mathlib.Core.Path.{ap}
+use lib.ListN.{length}
+use native.Mathlib.Omega.{arith}
+use Rattle.base_text.specs.WroteLaws.{wrote-none}
+use Rattle.explain_spec.specs.Words.{filled}
+use Rattle.explain_words.proofs.Laws.{row-none, row-text, wrote-as}
+use borrow.Author.Needs.{needs}
+use Rattle.explain_words.proofs.rows.put_row.Statement.{statement}
+use Rattle.explain_words.proofs.rows.put_row.Tie as tie
+use Rattle.explain_words.proofs.rows.put_row.Reads as reads
+use Rattle.explain_words.proofs.rows.put_row.Lts as lts
+use Rattle.base_text.proofs.field_end.Reads as field-end-reads
+use Rattle.explain_words.proofs.rows.put_filled.Reads as put-filled-reads
+use Rattle.explain_words.proofs.rows.row_start.Reads as row-start-reads
+
+-- src/rows.rt:84:9
+row-start-requires : tie.Need-row-start-requires
+row-start-requires c κs = search needs
+
+-- src/rows.rt:86:9
+returns : tie.Need-returns
+returns c =
+    let a = c .before .before .before .before .args in
+    let f = c .before .row-start in
+    (wrote-as (ap (filled (a .r)) (row-none (a .rows .now) (a .n) (f .result) (f .ensures) (omega arith))) (wrote-none (a .out .now) (a .at)), omega arith)
+
+-- src/rows.rt:88:9
+field-end-requires : tie.Need-field-end-requires
+field-end-requires c κs = search needs
+
+-- src/rows.rt:89:16
+sub-put-filled : tie.Need-sub-put-filled
+sub-put-filled c = search needs
+
+-- src/rows.rt:89:16
+part-put-filled-start : tie.Need-part-put-filled-start
+part-put-filled-start c = search needs
+
+-- src/rows.rt:89:16
+part-put-filled-end : tie.Need-part-put-filled-end
+part-put-filled-end c = search needs
+
+-- src/rows.rt:89:5
+put-filled-requires : tie.Need-put-filled-requires
+put-filled-requires c κs =
+    let s = c .before .before .before .before .before .before .before in
+    let f = c .before .before .before .before .row-start in
+    let e = c .before .before .field-end in
+    omega (arith, s .pre, ap length (row-text (s .args .rows .now) (s .args .n) (f .result) (f .ensures) (e .result) (omega arith) (e .ensures .0)))
+
+-- src/rows.rt:80:1
+same-length : tie.Need-same-length
+same-length c = search needs
+
+-- src/rows.rt:80:1
+returns-2 : tie.Need-returns-2
+returns-2 c =
+    let a = c .before .before .before .before .before .before .before .before .before .before .args in
+    let f = c .before .before .before .before .before .before .before .row-start in
+    let e = c .before .before .before .before .before .field-end in
+    let t = row-text (a .rows .now) (a .n) (f .result) (f .ensures) (e .result) (omega arith) (e .ensures .0) in
+    let w = c .before .before .put-filled .ensures in
+    (wrote-as (ap (filled (a .r)) t) (w .0), omega (arith, w .1, ap length t))
+
+pub put-row-spec : {M : Type 1} → statement M
+put-row-spec =
+    tie.close
+    (tie.spec
+    row-start-requires
+    returns
+    field-end-requires
+    sub-put-filled
+    part-put-filled-start
+    part-put-filled-end
+    put-filled-requires
+    same-length
+    returns-2)

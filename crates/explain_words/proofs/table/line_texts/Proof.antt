@@ -1,0 +1,13 @@
+use Rattle.explain_words.proofs.Laws.{rows-tested}
+use mathlib.Core.Path.{refl}
+use Rattle.explain_words.proofs.table.line_texts.Statement.{statement}
+use Rattle.explain_words.proofs.table.line_texts.Tie as tie
+use Rattle.explain_words.proofs.table.line_texts.Reads as reads
+use Rattle.explain_words.proofs.table.line_texts.Lts as lts
+
+-- src/table.rt:9:1
+returns : tie.Need-returns
+returns c = (rows-tested _ _ tt, refl)
+
+pub line-texts-spec : {M : Type 1} → statement M
+line-texts-spec = tie.close (tie.spec returns)
