@@ -1,0 +1,102 @@
+use mathlib.Core.Path.{_≡_, refl}
+use Prim.Native.Nat.{_-_, _≤_}
+use native.Mathlib.Omega.{arith}
+use lib.ListN.{length, length-take, length-drop}
+use Rattle.explain_spec.specs.Explained.{explainedLine}
+use Rattle.base_text.specs.LinesLaws.{Walked, walked-start, walked-on, walked-full, walked-end}
+use Rattle.explain_lines.proofs.put_lines.Statement.{statement}
+use Rattle.explain_lines.proofs.put_lines.Tie as tie
+use Rattle.explain_lines.proofs.put_lines.Reads as reads
+use Rattle.explain_lines.proofs.put_lines.Lts as lts
+use Rattle.base_text.proofs.line_end.Reads as line-end-reads
+use Rattle.explain_lines.proofs.put_explained.Reads as put-explained-reads
+
+abbrev Inv-loop : tie.InvT-loop
+Inv-loop text from out₀ next₀ at₀ out next at = (at ≤ length out₀) × (length out ≡ length out₀) × Walked explainedLine 73728 text from out₀ out next at
+
+abbrev μ-loop : tie.MeasureT-loop
+μ-loop text from out₀ next₀ at₀ out next at = length text - next
+
+-- src/lib.rt:42:5
+loop-holds : tie.Need-loop-holds Inv-loop μ-loop
+loop-holds c = (omega arith, refl, walked-start explainedLine 73728 _ _ _)
+
+-- src/lib.rt:43:12
+sub-if1 : tie.Need-sub-if1 Inv-loop μ-loop
+sub-if1 c = omega arith
+
+-- src/lib.rt:44:13
+same-length : tie.Need-same-length Inv-loop μ-loop
+same-length c = omega arith
+
+-- src/lib.rt:44:13
+returns : tie.Need-returns Inv-loop μ-loop
+returns c = walked-full explainedLine 73728 _ _ _ (c .before .before .loop .inv .2) (omega arith)
+
+-- src/lib.rt:46:13
+line-end-requires : tie.Need-line-end-requires Inv-loop μ-loop
+line-end-requires c κs = omega arith
+
+-- src/lib.rt:47:28
+sub-put-explained : tie.Need-sub-put-explained Inv-loop μ-loop
+sub-put-explained c = omega arith
+
+-- src/lib.rt:47:28
+part-put-explained-start : tie.Need-part-put-explained-start Inv-loop μ-loop
+part-put-explained-start c = omega arith
+
+-- src/lib.rt:47:28
+part-put-explained-end : tie.Need-part-put-explained-end Inv-loop μ-loop
+part-put-explained-end c = omega arith
+
+-- src/lib.rt:47:9
+put-explained-requires : tie.Need-put-explained-requires Inv-loop μ-loop
+put-explained-requires c κs = (omega arith, rw (length-take, length-drop) (omega arith))
+
+-- src/lib.rt:48:16
+add-next : tie.Need-add-next Inv-loop μ-loop
+add-next c = omega arith
+
+-- src/lib.rt:42:5
+loop-less : tie.Need-loop-less Inv-loop μ-loop
+loop-less c = omega arith
+
+-- src/lib.rt:42:5
+loop-again : tie.Need-loop-again Inv-loop μ-loop
+loop-again c =
+    let l = c .before .before .before .before .before .before .before .before .loop in
+    let e = c .before .before .before .before .before .line-end in
+    let r = c .before .before .put-explained .ensures in (
+      omega arith,
+      omega arith,
+      walked-on explainedLine 73728 _ _ _ (e .result) (l .inv .2) (omega arith) (e .ensures .0) (e .ensures .1) (omega arith) (r .0) (omega arith),
+    )
+
+-- src/lib.rt:36:1
+same-length-2 : tie.Need-same-length-2 Inv-loop μ-loop
+same-length-2 c = omega arith
+
+-- src/lib.rt:36:1
+returns-2 : tie.Need-returns-2 Inv-loop μ-loop
+returns-2 c = walked-end explainedLine 73728 _ _ _ (c .before .loop .inv .2) (omega arith)
+
+pub put-lines-spec : {M : Type 1} → statement M
+put-lines-spec =
+    tie.close
+    (tie.spec
+    Inv-loop
+    μ-loop
+    loop-holds
+    sub-if1
+    same-length
+    returns
+    line-end-requires
+    sub-put-explained
+    part-put-explained-start
+    part-put-explained-end
+    put-explained-requires
+    add-next
+    loop-less
+    loop-again
+    same-length-2
+    returns-2)

@@ -1,0 +1,3 @@
+pub mod Cut
+pub mod CutLaws
+pub mod Pieces
