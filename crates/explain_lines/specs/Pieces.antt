@@ -7,15 +7,19 @@ use native.Mathlib.Omega.{arith}
 use lib.Dec.{eqb, leb}
 use lib.ListN.{length, take, drop, length-drop, take-append-drop, drop-of-length-le}
 use lib.Seq.{take-all, drop-drop}
-use borrow.Author.Tests.{leb-true, leb-false, eqb-true, eqb-false}
-use Rattle.base_spec.specs.Lines.{answersOf}
-use Rattle.explain_spec.specs.Explained.{explainedLine, explainedFrom, explained}
+use borrow.Author.Tests.{le-leb, leb-true, leb-false, eqb-true, eqb-false}
+use Rattle.base_spec.specs.declared.Step.{Step}
+use Rattle.base_spec.specs.Written.{placed}
+use Rattle.base_spec.specs.Lines.{answersOf, answeredOf, stepOf}
+use Rattle.explain_spec.specs.Explained.{explainedLine, explainedFrom, explained, Explains}
 use Rattle.explain_lines.specs.declared.Cut.{Cut}
 use Rattle.explain_lines.specs.Cut.{endedOf, firstEnd, cutFrom, cutOf, between, cutText, printedPieces, joined}
 use Rattle.explain_lines.specs.CutLaws.{begun-on, begun-first, first-none, first-fits, long-on, lines-then, ended-rest, ended-fits, unended}
 
--- what is kept has no LF, and leaves room for a byte
+-- the places are in order; what is kept has no LF, and leaves room for a byte
 pub record Kept (text : List ℕ) (c : Cut) : Type 0 where
+  pub lines : c .passed ≤ c .ended
+  pub rest : c .ended ≤ c .kept
   pub inside : c .kept ≤ length text
   pub room : length text - c .kept < 65536
   pub none : endedOf (drop (c .kept) text) ≡ 0
@@ -90,9 +94,11 @@ module _ (t : List ℕ) (p : ℕ) (h : p ≤ length t) where
   kept-from = go (leb 65536 (length t - (p + lines))) refl
     where
       go : (b : Bool) → leb 65536 (length t - (p + lines)) ≡ b → Kept t (cond b passing keeping)
-      go true e = record { inside = omega arith; room = omega arith; none = ap endedOf (drop-of-length-le t {i = length t} (omega arith)) }
+      go true e = record { lines = omega arith; rest = inside-ended; inside = omega arith; room = omega arith; none = ap endedOf (drop-of-length-le t {i = length t} (omega arith)) }
       go false e =
           record {
+            lines = omega arith;
+            rest = omega arith;
             inside = inside-ended;
             room = omega (arith, leb-false 65536 (length t - (p + lines)) e);
             none = ap endedOf (sym rest-is) ∙ ended-rest (drop p t);
@@ -144,7 +150,7 @@ module _ (t : List ℕ) where
   cut-kept true = go (eqb (firstEnd t) 0)
     where
       go : (b : Bool) → Kept t (cond b whole (cutFrom t (firstEnd t)))
-      go true = record { inside = omega arith; room = omega arith; none = ap endedOf (drop-of-length-le t {i = length t} (omega arith)) }
+      go true = record { lines = omega arith; rest = omega arith; inside = omega arith; room = omega arith; none = ap endedOf (drop-of-length-le t {i = length t} (omega arith)) }
       go false = kept-from t (firstEnd t) (first-fits t)
 
 pieces-on : (begun : Bool) (kept : List ℕ) (ps : List (List ℕ)) → endedOf kept ≡ 0 → printedPieces begun kept ps ≡ explainedFrom begun (kept ++ joined ps)
@@ -157,3 +163,13 @@ pieces-on begun kept (p ∷ ps) h =
 
 pub pieces : (ps : List (List ℕ)) → printedPieces false [] ps ≡ explained (joined ps)
 pieces ps = pieces-on false [] ps refl
+
+-- a text that is no longer than the buffer is explained
+pub explains-short : {text out out′ : List ℕ} {from : ℕ} {r : Step} → length text ≤ 65536 → Explains text from out out′ r
+    → (r ≡ stepOf explainedLine 73728 text from (length out)) × (out′ ≡ placed out 0 (answeredOf explainedLine 73728 text from (length out)))
+explains-short {text} {out} {out′} {from} {r} h e =
+    let t = le-leb (length text) 65536 h in
+    (
+      e .step ∙ ap (λ (b : Bool). cond b (stepOf explainedLine 73728 text from (length out)) (record { next = from; count = 0 })) t,
+      e .buffer ∙ ap (λ (b : Bool). cond b (placed out 0 (answeredOf explainedLine 73728 text from (length out))) out) t,
+    )
