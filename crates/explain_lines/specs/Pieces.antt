@@ -168,8 +168,7 @@ pieces ps = pieces-on false [] ps refl
 pub explains-short : {text out out′ : List ℕ} {from : ℕ} {r : Step} → length text ≤ 65536 → Explains text from out out′ r
     → (r ≡ stepOf explainedLine 73728 text from (length out)) × (out′ ≡ placed out 0 (answeredOf explainedLine 73728 text from (length out)))
 explains-short {text} {out} {out′} {from} {r} h e =
-    let t = le-leb (length text) 65536 h in
-    (
+    let t = le-leb (length text) 65536 h in (
       e .step ∙ ap (λ (b : Bool). cond b (stepOf explainedLine 73728 text from (length out)) (record { next = from; count = 0 })) t,
       e .buffer ∙ ap (λ (b : Bool). cond b (placed out 0 (answeredOf explainedLine 73728 text from (length out))) out) t,
     )

@@ -11,6 +11,7 @@ use explain_spec::Refusal;
 mod refusal;
 mod rows;
 mod table;
+
 pub use refusal::refusal_in;
 
 // A refusal of a sheet that stands at no line.

@@ -35,7 +35,7 @@ read-number-requires c κs = search needs
 
 -- src/refusal.rt:10:1
 returns-2 : tie.Need-returns-2
-returns-2 c = 
+returns-2 c =
     let a = c .before .before .before .before .before .args in
     let e = c .before .before .field-end in
     rw (fields-at (a .line .now) (a .from) (e .result) (omega arith) (e .ensures .0)) (c .read-number .ensures)

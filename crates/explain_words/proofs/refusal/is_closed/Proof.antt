@@ -39,7 +39,7 @@ equal-requires c κs = search needs
 
 -- src/refusal.rt:31:1
 returns-2 : tie.Need-returns-2
-returns-2 c = 
+returns-2 c =
     let a = c .before .before .before .before .before .before .args in
     let e = c .before .before .before .field-end in
     rw (fields-at (a .line .now) (a .from) (e .result) (omega arith) (e .ensures .0)) (c .equal .ensures)

@@ -24,7 +24,7 @@ add-result c = search needs
 
 -- src/refusal.rt:21:1
 returns-2 : tie.Need-returns-2
-returns-2 c = 
+returns-2 c =
     let a = c .before .before .before .args in
     let e = c .field-end in
     sym (ap others (fields-at (a .line .now) (a .from) (e .result) (omega arith) (e .ensures .0)))

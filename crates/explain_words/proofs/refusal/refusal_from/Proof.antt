@@ -38,7 +38,7 @@ three-or-four-requires c κs = search needs
 
 -- src/refusal.rt:132:1
 returns : tie.Need-returns
-returns c = 
+returns c =
     rw (sym (c .before .before .before .before .before .before .next-field .ensures), sym (c .before .before .before .before .before .next-field2 .ensures), sym (c .before .before .before .before .next-field3 .ensures), sym (c .before .before .before .first-number .ensures), sym (c .before .before .first-number2 .ensures), sym (c .before .first-number3 .ensures))
     (c .three-or-four .ensures)
 

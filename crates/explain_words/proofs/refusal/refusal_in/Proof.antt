@@ -41,7 +41,7 @@ refusal-from-requires c κs = search needs
 
 -- src/refusal.rt:149:9
 returns : tie.Need-returns
-returns c = 
+returns c =
     let line = c .before .before .before .before .before .before .before .args .line .now in
     let e = c .before .before .before .before .before .field-end in
     rw (refusal-at line (e .result) (e .ensures .0), sym (c .before .before .equal .ensures), c .before .if1 .taken) (c .refusal-from .ensures)
@@ -52,7 +52,7 @@ no-refusal-requires c κs = search needs
 
 -- src/refusal.rt:144:1
 returns-2 : tie.Need-returns-2
-returns-2 c = 
+returns-2 c =
     let line = c .before .before .before .before .before .before .before .args .line .now in
     let e = c .before .before .before .before .before .field-end in
     rw (refusal-at line (e .result) (e .ensures .0), sym (c .before .before .equal .ensures), c .before .if1 .left) (c .no-refusal .ensures)

@@ -51,7 +51,7 @@ magnitude-of-requires-4 c κs = search needs
 -- src/refusal.rt:101:9
 returns : tie.Need-returns
 unfolding refusalOf
-returns c = 
+returns c =
     rw (c .magnitude-of4 .ensures, c .before .is-below-zero .ensures, c .before .before .magnitude-of3 .ensures, c .before .before .before .magnitude-of2 .ensures, c .before .before .before .before .magnitude-of .ensures)
     (sym (cond-true _ _ _ (rw (c .before .before .before .before .before .before .is-number .ensures, c .before .before .before .before .before .before .before .is-plain3 .ensures, c .before .before .before .before .before .before .before .before .is-plain2 .ensures, c .before .before .before .before .before .before .before .before .before .is-plain .ensures) at (c .before .before .before .before .before .if1 .taken))))
 

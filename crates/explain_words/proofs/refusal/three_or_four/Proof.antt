@@ -40,7 +40,7 @@ refusal-of-requires-2 c κs = search needs
 
 -- src/refusal.rt:126:9
 returns-2 : tie.Need-returns-2
-returns-2 c = 
+returns-2 c =
     rw (sym (c .before .before .before .before .before .before .is-closed .ensures), c .before .before .before .before .before .if1 .left, sym (c .before .before .before .before .next-field .ensures), sym (c .before .before .before .is-closed2 .ensures), c .before .before .if2 .taken, sym (c .before .first-number .ensures))
     (c .refusal-of2 .ensures)
 
@@ -50,7 +50,7 @@ no-refusal-requires c κs = search needs
 
 -- src/refusal.rt:114:1
 returns-3 : tie.Need-returns-3
-returns-3 c = 
+returns-3 c =
     rw (sym (c .before .before .before .before .before .is-closed .ensures), c .before .before .before .before .if1 .left, sym (c .before .before .before .next-field .ensures), sym (c .before .before .is-closed2 .ensures), c .before .if2 .left)
     (c .no-refusal .ensures)
 

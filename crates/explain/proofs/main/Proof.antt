@@ -1,0 +1,92 @@
+use lib.Dec.{ltb}
+use Rattle.base_facts.specs.Tests.{ltb-is, and-true}
+use mathlib.Core.Path.{_≡_}
+use Prim.Native.Nat.{_<_}
+use native.Mathlib.Omega.{arith}
+use lib.ListN.{length, length-take}
+use Rattle.explain.proofs.main.Statement.{statement}
+use Rattle.explain.proofs.main.Tie as tie
+use Rattle.explain.proofs.main.Reads as reads
+use Rattle.explain.proofs.main.Lts as lts
+use Rattle.explain.proofs.output_places.Reads as output-places-reads
+use Rattle.explain.proofs.turn.Reads as turn-reads
+use Rattle.io.proofs.large_buffer.Reads as large-buffer-reads
+use Rattle.io.proofs.write_all.Reads as write-all-reads
+
+abbrev Inv-loop : tie.InvT-loop
+Inv-loop text₀ out₀ t₀ turns₀ text out t turns = (65536 ≡ length text) × (139264 ≡ length out) × (t .have < 65536)
+
+abbrev μ-loop : tie.MeasureT-loop
+μ-loop text₀ out₀ t₀ turns₀ text out t turns = turns
+
+-- src/main.rt:82:20
+large-buffer-requires : tie.Need-large-buffer-requires Inv-loop μ-loop
+large-buffer-requires c κs = tt
+
+-- src/main.rt:83:19
+output-places-requires : tie.Need-output-places-requires Inv-loop μ-loop
+output-places-requires c κs = tt
+
+-- src/main.rt:90:5
+loop-holds : tie.Need-loop-holds Inv-loop μ-loop
+loop-holds c = (c .before .large-buffer .ensures, c .output-places .ensures .1, omega arith)
+
+-- src/main.rt:91:18
+slice-aggregate-turn : tie.Need-slice-aggregate-turn Inv-loop μ-loop
+slice-aggregate-turn c = c .before .before .before .loop .inv .0
+
+-- src/main.rt:91:46
+slice-aggregate-turn-2 : tie.Need-slice-aggregate-turn-2 Inv-loop μ-loop
+slice-aggregate-turn-2 c = c .before .before .before .before .loop .inv .1
+
+-- src/main.rt:91:9
+turn-requires : tie.Need-turn-requires Inv-loop μ-loop
+turn-requires c κs = (omega arith, omega arith, omega arith)
+
+-- src/main.rt:92:9
+sub-turns : tie.Need-sub-turns Inv-loop μ-loop
+sub-turns c = omega (arith, ltb-is 0 (c .before .before .before .before .before .before .before .loop .turns) (and-true (c .before .before .before .before .before .before .before .loop .t .more) (ltb 0 (c .before .before .before .before .before .before .before .loop .turns)) (c .before .before .before .before .before .if1 .taken) .1))
+
+-- src/main.rt:90:5
+loop-less : tie.Need-loop-less Inv-loop μ-loop
+loop-less c = omega (arith, ltb-is 0 (c .before .before .before .before .before .before .before .loop .turns) (and-true (c .before .before .before .before .before .before .before .loop .t .more) (ltb 0 (c .before .before .before .before .before .before .before .loop .turns)) (c .before .before .before .before .before .if1 .taken) .1))
+
+-- src/main.rt:90:5
+loop-again : tie.Need-loop-again Inv-loop μ-loop
+loop-again c = (omega arith, omega arith, omega arith)
+
+-- src/main.rt:95:22
+array-share-prefix-text : tie.Need-array-share-prefix-text Inv-loop μ-loop
+array-share-prefix-text c = omega arith
+
+-- src/main.rt:95:22
+slice-aggregate-write-all : tie.Need-slice-aggregate-write-all Inv-loop μ-loop
+slice-aggregate-write-all c = simp length-take (omega arith)
+
+-- src/main.rt:95:5
+write-all-requires : tie.Need-write-all-requires Inv-loop μ-loop
+write-all-requires c κs = tt
+
+-- src/main.rt:81:1
+returns : tie.Need-returns Inv-loop μ-loop
+returns c = tt
+
+pub main-spec : {M : Type 1} → statement M
+main-spec =
+    tie.close
+    (tie.spec
+    Inv-loop
+    μ-loop
+    large-buffer-requires
+    output-places-requires
+    loop-holds
+    slice-aggregate-turn
+    slice-aggregate-turn-2
+    turn-requires
+    sub-turns
+    loop-less
+    loop-again
+    array-share-prefix-text
+    slice-aggregate-write-all
+    write-all-requires
+    returns)
