@@ -26,7 +26,7 @@ fn put_explained(line: &[u8], out: &mut [u8], at: usize) -> usize
     let mut next = base_text::put(out, at, line);
     next = base_text::put_byte(out, next, b'\n');
     if line.len() < 65536 {
-        let r = explain_words::refusal_in(line);
+        let r = explain_refusal::refusal_in(line);
         return explain_words::put_words(r, out, next);
     }
     next

@@ -1,4 +1,4 @@
--- Laws of fields one after another, of rows and of their filling. Assumes nothing.
+-- Laws of rows and of their filling. Assumes nothing.
 use mathlib.Core.Path.{_≡_, refl, sym, ap, subst, _∙_}
 use mathlib.Core.Bool.{Bool, true, false, cond, not, _&&_, false≢true}
 use mathlib.Core.List.{List, [], _∷_, _++_, append-assoc, append-nil}
@@ -11,29 +11,14 @@ use lib.Seq.{take-suc, drop-cons}
 use borrow.Author.Tests.{leb-true, eq-eqb, ne-eqb}
 use Rattle.base_spec.specs.Parts.{fields}
 use Rattle.base_text.specs.Parts.{before, partEnd}
-use Rattle.base_text.specs.PartLaws.{partsFrom, parts-at, parts-start, parts-past, part-is, before-end}
+use Rattle.base_text.specs.PartLaws.{partsFrom, parts-at, parts-past, part-is, before-end}
 use Rattle.base_text.specs.Wrote.{Wrote}
 use Rattle.base_spec.specs.Written.{decimalOf}
 use Rattle.base_facts.specs.Tests.{T-true, and-true, Lt, less, past, lt?, cond-true, cond-false}
 use Rattle.sheet_facts.specs.Facts.{equal-is}
-use Rattle.sheet_spec.specs.Names.{bytes}
 use Rattle.sheet_spec.specs.Line.{isNone, equal}
 use Rattle.explain_spec.specs.declared.Refusal.{Refusal}
-use Rattle.explain_spec.specs.Refusal.{noRefusal, refusalFrom, refusalInFields, refusalIn}
 use Rattle.explain_spec.specs.Words.{valueOf, filled, filledByte}
-
--- the field that begins at `from`, and those after it
-pub fields-at : (l : List ℕ) (from e : ℕ) → from ≤ length l → e ≡ partEnd 9 l from → partsFrom 9 l from ≡ take (e - from) (drop from l) ∷ partsFrom 9 l (e + 1)
-fields-at l from e h g = rw (parts-at 9 l from h, part-is 9 l from e g, g)
-
--- what a line prints, by its first field
-pub refusal-at : (line : List ℕ) (e : ℕ) → e ≡ partEnd 9 line 0
-    → refusalIn line ≡ cond (equal (take e line) (bytes "refused")) (refusalFrom (partsFrom 9 line (e + 1))) noRefusal
-unfolding refusalIn
-refusal-at line e g =
-    let q : e - 0 ≡ e = omega arith in
-    ap refusalInFields (sym (parts-start 9 line) ∙ fields-at line 0 e (omega arith) g)
-    ∙ ap (λ (n : ℕ). cond (equal (take n line) (bytes "refused")) (refusalFrom (partsFrom 9 line (e + 1))) noRefusal) q
 
 -- the rows from row n on
 module _ (rows : List ℕ) (from : ℕ) where
@@ -41,7 +26,7 @@ module _ (rows : List ℕ) (from : ℕ) where
   rows-next e zero h g k = absurd (omega arith)
   rows-next e (suc n) h g k =
       let q : n ≡ suc n - 1 = omega arith in
-      ap (drop (suc n)) (fields-at rows from e h g) ∙ ap (λ (m : ℕ). drop m (partsFrom 9 rows (e + 1))) q
+      ap (drop (suc n)) (parts-at 9 rows from h) ∙ (λ i. drop (q i) (partsFrom 9 rows (sym g i + 1)))
 
   pub rows-past : (left : ℕ) → length rows < from → partsFrom 9 rows from ≡ drop left (partsFrom 9 rows from)
   rows-past zero h = refl
@@ -59,7 +44,7 @@ module _ (rows : List ℕ) (n from : ℕ) (s : partsFrom 9 rows from ≡ drop n 
   row-at = row-first (fields rows) n ∙ ap (λ (l : List (List ℕ)). getD l 0 []) (sym s)
 
   pub row-text : (e : ℕ) → from ≤ length rows → e ≡ partEnd 9 rows from → getD (fields rows) n [] ≡ take (e - from) (drop from rows)
-  row-text e h g = row-at ∙ ap (λ (l : List (List ℕ)). getD l 0 []) (fields-at rows from e h g)
+  row-text e h g = row-at ∙ ap (λ (l : List (List ℕ)). getD l 0 []) (parts-at 9 rows from h) ∙ sym (part-is 9 rows from e g)
 
   pub row-none : length rows ≤ from → getD (fields rows) n [] ≡ []
   row-none h = row-at ∙ go (lt? (length rows) from)

@@ -1,4 +1,4 @@
-// The refusal of a line, and its words, written into a lent buffer.
+// The words of a refusal, written into a lent buffer.
 ghost use mathlib.Core.Path.{_≡_};
 ghost use mathlib.Core.Bool.{true, not, _&&_};
 ghost use Prim.Native.Nat.{_+_, _*_, _≤_};
@@ -8,11 +8,8 @@ ghost use Rattle.sheet_spec.specs.Line.{isNone};
 ghost use Rattle.explain_spec.specs.Words.{isOutside, wrongOf, detailOf, hasDetail, isKnown, placeOf, filled, wordsOf};
 use explain_spec::Refusal;
 
-mod refusal;
 mod rows;
 mod table;
-
-pub use refusal::refusal_in;
 
 // A refusal of a sheet that stands at no line.
 fn is_outside(r: Refusal) -> bool

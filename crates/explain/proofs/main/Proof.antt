@@ -20,13 +20,7 @@ abbrev μ-loop : tie.MeasureT-loop
 μ-loop text₀ out₀ t₀ turns₀ text out t turns = turns
 
 -- src/main.rt:82:20
-large-buffer-requires : tie.Need-large-buffer-requires Inv-loop μ-loop
-large-buffer-requires c κs = tt
-
 -- src/main.rt:83:19
-output-places-requires : tie.Need-output-places-requires Inv-loop μ-loop
-output-places-requires c κs = tt
-
 -- src/main.rt:90:5
 loop-holds : tie.Need-loop-holds Inv-loop μ-loop
 loop-holds c = (c .before .large-buffer .ensures, c .output-places .ensures .1, omega arith)
@@ -56,29 +50,20 @@ loop-again : tie.Need-loop-again Inv-loop μ-loop
 loop-again c = (omega arith, omega arith, omega arith)
 
 -- src/main.rt:95:22
-array-share-prefix-text : tie.Need-array-share-prefix-text Inv-loop μ-loop
-array-share-prefix-text c = omega arith
-
 -- src/main.rt:95:22
 slice-aggregate-write-all : tie.Need-slice-aggregate-write-all Inv-loop μ-loop
 slice-aggregate-write-all c = simp length-take (omega arith)
 
 -- src/main.rt:95:5
-write-all-requires : tie.Need-write-all-requires Inv-loop μ-loop
-write-all-requires c κs = tt
-
 -- src/main.rt:81:1
-returns : tie.Need-returns Inv-loop μ-loop
-returns c = tt
-
 pub main-spec : {M : Type 1} → statement M
 main-spec =
     tie.close
     (tie.spec
     Inv-loop
     μ-loop
-    large-buffer-requires
-    output-places-requires
+    (λ c κs. tt)
+    (λ c κs. tt)
     loop-holds
     slice-aggregate-turn
     slice-aggregate-turn-2
@@ -86,7 +71,7 @@ main-spec =
     sub-turns
     loop-less
     loop-again
-    array-share-prefix-text
+    (λ c. omega arith)
     slice-aggregate-write-all
-    write-all-requires
-    returns)
+    (λ c κs. tt)
+    (λ c. tt))

@@ -23,9 +23,6 @@ loop-holds : tie.Need-loop-holds Inv-loop μ-loop
 loop-holds c = (refl, c .before .before .pre .0, c .before .before .pre .1)
 
 -- src/main.rt:31:13
-explain-requires : tie.Need-explain-requires Inv-loop μ-loop
-explain-requires c κs = tt
-
 -- src/main.rt:33:26
 slice-reshare-prefix-write-all : tie.Need-slice-reshare-prefix-write-all Inv-loop μ-loop
 slice-reshare-prefix-write-all c = omega (arith, step-room explainedLine 73728 (c .before .before .before .before .before .before .before .before .args .lines .now) (c .before .before .before .before .before .loop .from) (c .before .before .before .before .before .loop .out) (explains-short (c .before .before .before .before .before .loop .inv .1) (c .before .before .explain .ensures)) (omega arith))
@@ -35,9 +32,6 @@ slice-aggregate-write-all : tie.Need-slice-aggregate-write-all Inv-loop μ-loop
 slice-aggregate-write-all c = simp length-take (omega (arith, step-room explainedLine 73728 (c .before .before .before .before .before .before .before .before .before .args .lines .now) (c .before .before .before .before .before .before .loop .from) (c .before .before .before .before .before .before .loop .out) (explains-short (c .before .before .before .before .before .before .loop .inv .1) (c .before .before .before .explain .ensures)) (omega arith)))
 
 -- src/main.rt:33:9
-write-all-requires : tie.Need-write-all-requires Inv-loop μ-loop
-write-all-requires c κs = tt
-
 -- src/main.rt:30:5
 loop-less : tie.Need-loop-less Inv-loop μ-loop
 loop-less c =
@@ -57,9 +51,6 @@ same-length : tie.Need-same-length Inv-loop μ-loop
 same-length c = c .before .loop .inv .0
 
 -- src/main.rt:26:1
-returns : tie.Need-returns Inv-loop μ-loop
-returns c = tt
-
 pub print-lines-spec : {M : Type 1} → statement M
 print-lines-spec =
     tie.close
@@ -67,11 +58,11 @@ print-lines-spec =
     Inv-loop
     μ-loop
     loop-holds
-    explain-requires
+    (λ c κs. tt)
     slice-reshare-prefix-write-all
     slice-aggregate-write-all
-    write-all-requires
+    (λ c κs. tt)
     loop-less
     loop-again
     same-length
-    returns)
+    (λ c. tt))

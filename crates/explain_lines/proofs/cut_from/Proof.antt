@@ -8,29 +8,11 @@ use Rattle.explain_lines.proofs.cut_from.Lts as lts
 use Rattle.explain_lines.proofs.last_end.Reads as last-end-reads
 
 -- src/lib.rt:93:35
-sub-last-end : tie.Need-sub-last-end
-sub-last-end c = search needs
-
 -- src/lib.rt:93:35
-part-last-end-start : tie.Need-part-last-end-start
-part-last-end-start c = search needs
-
 -- src/lib.rt:93:35
-part-last-end-end : tie.Need-part-last-end-end
-part-last-end-end c = search needs
-
 -- src/lib.rt:93:26
-last-end-requires : tie.Need-last-end-requires
-last-end-requires c κs = search needs
-
 -- src/lib.rt:93:17
-add-ended : tie.Need-add-ended
-add-ended c = search needs
-
 -- src/lib.rt:94:17
-sub-if1 : tie.Need-sub-if1
-sub-if1 c = search needs
-
 -- src/lib.rt:95:9
 returns : tie.Need-returns
 returns c = cut-long (c .before .before .before .before .args .text .now) (c .before .before .before .before .args .passed) (c .before .last-end .result) (omega arith) (c .before .last-end .ensures .0) (omega arith)
@@ -43,11 +25,11 @@ pub cut-from-spec : {M : Type 1} → statement M
 cut-from-spec =
     tie.close
     (tie.spec
-    sub-last-end
-    part-last-end-start
-    part-last-end-end
-    last-end-requires
-    add-ended
-    sub-if1
+    (λ c. search needs)
+    (λ c. search needs)
+    (λ c. search needs)
+    (λ c κs. search needs)
+    (λ c. search needs)
+    (λ c. search needs)
     returns
     returns-2)

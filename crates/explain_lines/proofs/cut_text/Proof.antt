@@ -10,17 +10,11 @@ use Rattle.explain_lines.proofs.cut_from.Reads as cut-from-reads
 use Rattle.explain_lines.proofs.first_end.Reads as first-end-reads
 
 -- src/lib.rt:115:13
-first-end-requires : tie.Need-first-end-requires
-first-end-requires c κs = search needs
-
 -- src/lib.rt:117:13
 returns : tie.Need-returns
 returns c = cut-inside (c .before .before .before .before .args .begun) (c .before .before .before .before .args .text .now) (c .before .before .if1 .taken) (sym (c .before .first-end .ensures .0) ∙ c .if2 .taken)
 
 -- src/lib.rt:124:9
-cut-from-requires : tie.Need-cut-from-requires
-cut-from-requires c κs = search needs
-
 -- src/lib.rt:124:9
 returns-2 : tie.Need-returns-2
 returns-2 c =
@@ -29,9 +23,6 @@ returns-2 c =
     c .cut-from .ensures ∙ ap (cutFrom (a .text .now)) (f .ensures .0) ∙ cut-behind (a .begun) (a .text .now) (c .before .before .before .if1 .taken) (λ e. c .before .if2 .left (f .ensures .0 ∙ e))
 
 -- src/lib.rt:126:5
-cut-from-requires-2 : tie.Need-cut-from-requires-2
-cut-from-requires-2 c κs = search needs
-
 -- src/lib.rt:111:1
 returns-3 : tie.Need-returns-3
 returns-3 c = c .cut-from2 .ensures ∙ cut-whole (c .before .before .before .args .begun) (c .before .before .before .args .text .now) (c .before .if1 .left)
@@ -39,4 +30,4 @@ returns-3 c = c .cut-from2 .ensures ∙ cut-whole (c .before .before .before .ar
 pub cut-text-spec : {M : Type 1} → statement M
 cut-text-spec =
     tie.close
-    (tie.spec first-end-requires returns cut-from-requires returns-2 cut-from-requires-2 returns-3)
+    (tie.spec (λ c κs. search needs) returns (λ c κs. search needs) returns-2 (λ c κs. search needs) returns-3)

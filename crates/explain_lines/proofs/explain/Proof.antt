@@ -8,13 +8,7 @@ use Rattle.explain_lines.proofs.explain.Lts as lts
 use Rattle.explain_lines.proofs.put_lines.Reads as put-lines-reads
 
 -- src/lib.rt:58:9
-put-lines-requires : tie.Need-put-lines-requires
-put-lines-requires c κs = search needs
-
 -- src/lib.rt:58:9
-same-length : tie.Need-same-length
-same-length c = search needs
-
 -- src/lib.rt:58:9
 returns : tie.Need-returns
 returns c =
@@ -29,4 +23,4 @@ returns-2 c =
     record { step = rw t; buffer = rw t }
 
 pub explain-spec : {M : Type 1} → statement M
-explain-spec = tie.close (tie.spec put-lines-requires same-length returns returns-2)
+explain-spec = tie.close (tie.spec (λ c κs. search needs) (λ c. search needs) returns returns-2)

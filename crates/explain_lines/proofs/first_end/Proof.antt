@@ -9,13 +9,7 @@ use Rattle.explain_lines.proofs.first_end.Lts as lts
 use Rattle.base_text.proofs.line_end.Reads as line-end-reads
 
 -- src/lib.rt:84:9
-line-end-requires : tie.Need-line-end-requires
-line-end-requires c κs = search needs
-
 -- src/lib.rt:85:25
-add-result : tie.Need-add-result
-add-result c = search needs
-
 -- src/lib.rt:81:1
 returns : tie.Need-returns
 returns c = (sym (first-at (c .before .before .before .args .text .now) (omega (arith, c .before .line-end .ensures .0, c .if1 .taken)) ∙ omega (arith, c .before .line-end .ensures .0)), omega arith)
@@ -25,4 +19,4 @@ returns-2 : tie.Need-returns-2
 returns-2 c = (sym (first-not (c .before .before .before .args .text .now) (omega (arith, c .before .line-end .ensures .0, c .if1 .left))), omega arith)
 
 pub first-end-spec : {M : Type 1} → statement M
-first-end-spec = tie.close (tie.spec line-end-requires add-result returns returns-2)
+first-end-spec = tie.close (tie.spec (λ c κs. search needs) (λ c. search needs) returns returns-2)

@@ -29,29 +29,11 @@ loop-holds c =
     (omega arith, omega arith, omega arith, refl, paste-zero (a .text .now) 0 (drop (a .from) (a .text .now)))
 
 -- src/lib.rt:138:15
-sub-loop : tie.Need-sub-loop Inv-loop μ-loop
-sub-loop c = omega arith
-
 -- src/lib.rt:139:24
-add-text : tie.Need-add-text Inv-loop μ-loop
-add-text c = omega arith
-
 -- src/lib.rt:139:19
-slice-read-text : tie.Need-slice-read-text Inv-loop μ-loop
-slice-read-text c = omega arith
-
 -- src/lib.rt:139:9
-slice-write-text : tie.Need-slice-write-text Inv-loop μ-loop
-slice-write-text c = omega arith
-
 -- src/lib.rt:140:9
-add-i : tie.Need-add-i Inv-loop μ-loop
-add-i c = omega arith
-
 -- src/lib.rt:138:5
-loop-less : tie.Need-loop-less Inv-loop μ-loop
-loop-less c = omega arith
-
 -- src/lib.rt:138:5
 loop-again : tie.Need-loop-again Inv-loop μ-loop
 loop-again c =
@@ -85,12 +67,12 @@ keep-spec =
     μ-loop
     returns
     loop-holds
-    sub-loop
-    add-text
-    slice-read-text
-    slice-write-text
-    add-i
-    loop-less
+    (λ c. omega arith)
+    (λ c. omega arith)
+    (λ c. omega arith)
+    (λ c. omega arith)
+    (λ c. omega arith)
+    (λ c. omega arith)
     loop-again
     same-length
     returns-2)

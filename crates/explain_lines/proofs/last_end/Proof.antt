@@ -21,13 +21,7 @@ loop-holds : tie.Need-loop-holds Inv-loop μ-loop
 loop-holds c = (omega arith, ap endedOf (sym (take-length (c .args .text .now))))
 
 -- src/lib.rt:72:17
-sub-if1 : tie.Need-sub-if1 Inv-loop μ-loop
-sub-if1 c = omega arith
-
 -- src/lib.rt:72:12
-shared-slice-read-if1 : tie.Need-shared-slice-read-if1 Inv-loop μ-loop
-shared-slice-read-if1 c = omega arith
-
 -- src/lib.rt:73:13
 returns : tie.Need-returns Inv-loop μ-loop
 returns c =
@@ -35,13 +29,7 @@ returns c =
     (sym (l .inv .1 ∙ last-here (c .before .before .before .before .args .text .now) (l .i) (omega arith) (omega arith) (c .if1 .taken)), omega arith)
 
 -- src/lib.rt:75:9
-sub-i : tie.Need-sub-i Inv-loop μ-loop
-sub-i c = omega arith
-
 -- src/lib.rt:71:5
-loop-less : tie.Need-loop-less Inv-loop μ-loop
-loop-less c = omega arith
-
 -- src/lib.rt:71:5
 loop-again : tie.Need-loop-again Inv-loop μ-loop
 loop-again c =
@@ -62,10 +50,10 @@ last-end-spec =
     Inv-loop
     μ-loop
     loop-holds
-    sub-if1
-    shared-slice-read-if1
+    (λ c. omega arith)
+    (λ c. omega arith)
     returns
-    sub-i
-    loop-less
+    (λ c. omega arith)
+    (λ c. omega arith)
     loop-again
     returns-2)

@@ -13,25 +13,10 @@ use Rattle.explain_words.proofs.put_words.Reads as put-words-reads
 use Rattle.explain_words.proofs.refusal_in.Reads as refusal-in-reads
 
 -- src/lib.rt:26:9
-put-requires : tie.Need-put-requires
-put-requires c κs = search needs
-
 -- src/lib.rt:27:5
-put-byte-requires : tie.Need-put-byte-requires
-put-byte-requires c κs = search needs
-
 -- src/lib.rt:29:13
-refusal-in-requires : tie.Need-refusal-in-requires
-refusal-in-requires c κs = search needs
-
 -- src/lib.rt:30:9
-put-words-requires : tie.Need-put-words-requires
-put-words-requires c κs = search needs
-
 -- src/lib.rt:30:9
-same-length : tie.Need-same-length
-same-length c = search needs
-
 -- src/lib.rt:30:9
 returns : tie.Need-returns
 returns c =
@@ -42,9 +27,6 @@ returns c =
     (wrote-as (line-words (a .line .now) (r .result) (r .ensures) (omega arith)) (wrote-then line (words .0) (omega arith)), omega arith)
 
 -- src/lib.rt:22:1
-same-length-2 : tie.Need-same-length-2
-same-length-2 c = search needs
-
 -- src/lib.rt:22:1
 returns-2 : tie.Need-returns-2
 returns-2 c =
@@ -56,11 +38,11 @@ pub put-explained-spec : {M : Type 1} → statement M
 put-explained-spec =
     tie.close
     (tie.spec
-    put-requires
-    put-byte-requires
-    refusal-in-requires
-    put-words-requires
-    same-length
+    (λ c κs. search needs)
+    (λ c κs. search needs)
+    (λ c κs. search needs)
+    (λ c κs. search needs)
+    (λ c. search needs)
     returns
-    same-length-2
+    (λ c. search needs)
     returns-2)

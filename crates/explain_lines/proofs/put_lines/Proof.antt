@@ -22,45 +22,21 @@ loop-holds : tie.Need-loop-holds Inv-loop μ-loop
 loop-holds c = (omega arith, refl, walked-start explainedLine 73728 _ _ _)
 
 -- src/lib.rt:43:12
-sub-if1 : tie.Need-sub-if1 Inv-loop μ-loop
-sub-if1 c = omega arith
-
 -- src/lib.rt:44:13
-same-length : tie.Need-same-length Inv-loop μ-loop
-same-length c = omega arith
-
 -- src/lib.rt:44:13
 returns : tie.Need-returns Inv-loop μ-loop
 returns c = walked-full explainedLine 73728 _ _ _ (c .before .before .loop .inv .2) (omega arith)
 
 -- src/lib.rt:46:13
-line-end-requires : tie.Need-line-end-requires Inv-loop μ-loop
-line-end-requires c κs = omega arith
-
 -- src/lib.rt:47:28
-sub-put-explained : tie.Need-sub-put-explained Inv-loop μ-loop
-sub-put-explained c = omega arith
-
 -- src/lib.rt:47:28
-part-put-explained-start : tie.Need-part-put-explained-start Inv-loop μ-loop
-part-put-explained-start c = omega arith
-
 -- src/lib.rt:47:28
-part-put-explained-end : tie.Need-part-put-explained-end Inv-loop μ-loop
-part-put-explained-end c = omega arith
-
 -- src/lib.rt:47:9
 put-explained-requires : tie.Need-put-explained-requires Inv-loop μ-loop
 put-explained-requires c κs = (omega arith, rw (length-take, length-drop) (omega arith))
 
 -- src/lib.rt:48:16
-add-next : tie.Need-add-next Inv-loop μ-loop
-add-next c = omega arith
-
 -- src/lib.rt:42:5
-loop-less : tie.Need-loop-less Inv-loop μ-loop
-loop-less c = omega arith
-
 -- src/lib.rt:42:5
 loop-again : tie.Need-loop-again Inv-loop μ-loop
 loop-again c =
@@ -73,9 +49,6 @@ loop-again c =
     )
 
 -- src/lib.rt:36:1
-same-length-2 : tie.Need-same-length-2 Inv-loop μ-loop
-same-length-2 c = omega arith
-
 -- src/lib.rt:36:1
 returns-2 : tie.Need-returns-2 Inv-loop μ-loop
 returns-2 c = walked-end explainedLine 73728 _ _ _ (c .before .loop .inv .2) (omega arith)
@@ -87,16 +60,16 @@ put-lines-spec =
     Inv-loop
     μ-loop
     loop-holds
-    sub-if1
-    same-length
+    (λ c. omega arith)
+    (λ c. omega arith)
     returns
-    line-end-requires
-    sub-put-explained
-    part-put-explained-start
-    part-put-explained-end
+    (λ c κs. omega arith)
+    (λ c. omega arith)
+    (λ c. omega arith)
+    (λ c. omega arith)
     put-explained-requires
-    add-next
-    loop-less
+    (λ c. omega arith)
+    (λ c. omega arith)
     loop-again
-    same-length-2
+    (λ c. omega arith)
     returns-2)

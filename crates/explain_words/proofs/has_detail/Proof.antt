@@ -10,33 +10,15 @@ use Rattle.explain_words.proofs.table.field_texts.Reads as field-texts-
 use Rattle.explain_words.proofs.table.reason_texts.Reads as reason-texts-reads
 
 -- src/lib.rt:38:30
-field-texts-requires : tie.Need-field-texts-requires
-field-texts-requires c κs = search needs
-
 -- src/lib.rt:38:29
-slice-aggregate-is-row : tie.Need-slice-aggregate-is-row
-slice-aggregate-is-row c = search needs
-
 -- src/lib.rt:38:9
-is-row-requires : tie.Need-is-row-requires
-is-row-requires c κs = search needs
-
 -- src/lib.rt:38:9
 returns : tie.Need-returns
 returns c = c .is-row .ensures ∙ row-known (c .before .before .field-texts .ensures .0) (c .before .before .before .before .before .args .r .detail) ∙ sym (has-field (c .before .before .before .before .before .args .r) (c .before .before .before .if1 .taken))
 
 -- src/lib.rt:41:30
-reason-texts-requires : tie.Need-reason-texts-requires
-reason-texts-requires c κs = search needs
-
 -- src/lib.rt:41:29
-slice-aggregate-is-row-2 : tie.Need-slice-aggregate-is-row-2
-slice-aggregate-is-row-2 c = search needs
-
 -- src/lib.rt:41:9
-is-row-requires-2 : tie.Need-is-row-requires-2
-is-row-requires-2 c κs = search needs
-
 -- src/lib.rt:41:9
 returns-2 : tie.Need-returns-2
 returns-2 c = c .is-row2 .ensures ∙ row-known (c .before .before .reason-texts .ensures .0) (c .before .before .before .before .before .before .before .args .r .detail) ∙ sym (has-reason (c .before .before .before .before .before .before .before .args .r) (c .before .before .before .before .before .if1 .left) (c .before .before .before .if2 .taken))
@@ -49,12 +31,12 @@ pub has-detail-spec : {M : Type 1} → statement M
 has-detail-spec =
     tie.close
     (tie.spec
-    field-texts-requires
-    slice-aggregate-is-row
-    is-row-requires
+    (λ c κs. search needs)
+    (λ c. search needs)
+    (λ c κs. search needs)
     returns
-    reason-texts-requires
-    slice-aggregate-is-row-2
-    is-row-requires-2
+    (λ c κs. search needs)
+    (λ c. search needs)
+    (λ c κs. search needs)
     returns-2
     returns-3)

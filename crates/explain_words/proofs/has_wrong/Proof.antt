@@ -15,21 +15,9 @@ use Rattle.explain_words.proofs.table.line_texts.Reads as line-texts-re
 use Rattle.explain_words.proofs.table.sheet_texts.Reads as sheet-texts-reads
 
 -- src/lib.rt:27:8
-is-outside-requires : tie.Need-is-outside-requires
-is-outside-requires c κs = search needs
-
 -- src/lib.rt:28:30
-sheet-texts-requires : tie.Need-sheet-texts-requires
-sheet-texts-requires c κs = search needs
-
 -- src/lib.rt:28:29
-slice-aggregate-is-row : tie.Need-slice-aggregate-is-row
-slice-aggregate-is-row c = search needs
-
 -- src/lib.rt:28:9
-is-row-requires : tie.Need-is-row-requires
-is-row-requires c κs = search needs
-
 -- src/lib.rt:28:9
 returns : tie.Need-returns
 returns c =
@@ -37,17 +25,8 @@ returns c =
     c .is-row .ensures ∙ row-known (c .before .before .sheet-texts .ensures .0) (r .number) ∙ sym (ap (λ (t : List ℕ). not (isNone t)) (wrong-outside r (sym (c .before .before .before .before .is-outside .ensures) ∙ c .before .before .before .if1 .taken)))
 
 -- src/lib.rt:30:19
-line-texts-requires : tie.Need-line-texts-requires
-line-texts-requires c κs = search needs
-
 -- src/lib.rt:30:18
-slice-aggregate-is-row-2 : tie.Need-slice-aggregate-is-row-2
-slice-aggregate-is-row-2 c = search needs
-
 -- src/lib.rt:30:5
-is-row-requires-2 : tie.Need-is-row-requires-2
-is-row-requires-2 c κs = search needs
-
 -- src/lib.rt:24:1
 returns-2 : tie.Need-returns-2
 returns-2 c =
@@ -58,12 +37,12 @@ pub has-wrong-spec : {M : Type 1} → statement M
 has-wrong-spec =
     tie.close
     (tie.spec
-    is-outside-requires
-    sheet-texts-requires
-    slice-aggregate-is-row
-    is-row-requires
+    (λ c κs. search needs)
+    (λ c κs. search needs)
+    (λ c. search needs)
+    (λ c κs. search needs)
     returns
-    line-texts-requires
-    slice-aggregate-is-row-2
-    is-row-requires-2
+    (λ c κs. search needs)
+    (λ c. search needs)
+    (λ c κs. search needs)
     returns-2)

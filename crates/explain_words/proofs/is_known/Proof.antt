@@ -8,17 +8,11 @@ use Rattle.explain_words.proofs.has_detail.Reads as has-detail-reads
 use Rattle.explain_words.proofs.has_wrong.Reads as has-wrong-reads
 
 -- src/lib.rt:49:5
-has-wrong-requires : tie.Need-has-wrong-requires
-has-wrong-requires c κs = search needs
-
 -- src/lib.rt:49:20
-has-detail-requires : tie.Need-has-detail-requires
-has-detail-requires c κs = search needs
-
 -- src/lib.rt:46:1
 returns : tie.Need-returns
 unfolding isKnown
 returns c = rw (c .has-detail .ensures, c .before .has-wrong .ensures)
 
 pub is-known-spec : {M : Type 1} → statement M
-is-known-spec = tie.close (tie.spec has-wrong-requires has-detail-requires returns)
+is-known-spec = tie.close (tie.spec (λ c κs. search needs) (λ c κs. search needs) returns)

@@ -14,21 +14,12 @@ use Rattle.explain_words.proofs.table.field_texts.Reads as field-texts-
 use Rattle.explain_words.proofs.table.reason_texts.Reads as reason-texts-reads
 
 -- src/lib.rt:82:31
-field-texts-requires : tie.Need-field-texts-requires
-field-texts-requires c κs = search needs
-
 -- src/lib.rt:82:30
-slice-aggregate-put-row : tie.Need-slice-aggregate-put-row
-slice-aggregate-put-row c = search needs
-
 -- src/lib.rt:82:9
 put-row-requires : tie.Need-put-row-requires
 put-row-requires c κs = omega (arith, row-room fieldTexts tt (c .before .before .field-texts .ensures .0) (c .before .before .before .before .before .before .args .r .detail))
 
 -- src/lib.rt:82:9
-same-length : tie.Need-same-length
-same-length c = search needs
-
 -- src/lib.rt:82:9
 returns : tie.Need-returns
 returns c =
@@ -38,21 +29,12 @@ returns c =
     (wrote-as (ap (filled r) (detail-field r (c .before .before .before .before .before .before .if1 .taken) ∙ sym (row-same e (r .detail)))) (w .0), omega (arith, w .1, row-room fieldTexts tt e (r .detail)))
 
 -- src/lib.rt:85:31
-reason-texts-requires : tie.Need-reason-texts-requires
-reason-texts-requires c κs = search needs
-
 -- src/lib.rt:85:30
-slice-aggregate-put-row-2 : tie.Need-slice-aggregate-put-row-2
-slice-aggregate-put-row-2 c = search needs
-
 -- src/lib.rt:85:9
 put-row-requires-2 : tie.Need-put-row-requires-2
 put-row-requires-2 c κs = omega (arith, row-room reasonTexts tt (c .before .before .reason-texts .ensures .0) (c .before .before .before .before .before .before .before .before .args .r .detail))
 
 -- src/lib.rt:85:9
-same-length-2 : tie.Need-same-length-2
-same-length-2 c = search needs
-
 -- src/lib.rt:85:9
 returns-2 : tie.Need-returns-2
 returns-2 c =
@@ -71,14 +53,14 @@ pub put-detail-spec : {M : Type 1} → statement M
 put-detail-spec =
     tie.close
     (tie.spec
-    field-texts-requires
-    slice-aggregate-put-row
+    (λ c κs. search needs)
+    (λ c. search needs)
     put-row-requires
-    same-length
+    (λ c. search needs)
     returns
-    reason-texts-requires
-    slice-aggregate-put-row-2
+    (λ c κs. search needs)
+    (λ c. search needs)
     put-row-requires-2
-    same-length-2
+    (λ c. search needs)
     returns-2
     returns-3)

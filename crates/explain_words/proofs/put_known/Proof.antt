@@ -13,25 +13,10 @@ use Rattle.explain_words.proofs.put_place.Reads as put-place-reads
 use Rattle.explain_words.proofs.put_wrong.Reads as put-wrong-reads
 
 -- src/lib.rt:95:9
-put-place-requires : tie.Need-put-place-requires
-put-place-requires c κs = search needs
-
 -- src/lib.rt:96:5
-put-wrong-requires : tie.Need-put-wrong-requires
-put-wrong-requires c κs = search needs
-
 -- src/lib.rt:97:5
-put-detail-requires : tie.Need-put-detail-requires
-put-detail-requires c κs = search needs
-
 -- src/lib.rt:98:5
-put-byte-requires : tie.Need-put-byte-requires
-put-byte-requires c κs = search needs
-
 -- src/lib.rt:91:1
-same-length : tie.Need-same-length
-same-length c = search needs
-
 -- src/lib.rt:91:1
 returns : tie.Need-returns
 returns c =
@@ -46,9 +31,9 @@ pub put-known-spec : {M : Type 1} → statement M
 put-known-spec =
     tie.close
     (tie.spec
-    put-place-requires
-    put-wrong-requires
-    put-detail-requires
-    put-byte-requires
-    same-length
+    (λ c κs. search needs)
+    (λ c κs. search needs)
+    (λ c κs. search needs)
+    (λ c κs. search needs)
+    (λ c. search needs)
     returns)

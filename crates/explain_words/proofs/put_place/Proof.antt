@@ -12,29 +12,14 @@ use Rattle.base_text.proofs.put.Reads as put-reads
 use Rattle.base_text.proofs.put_decimal.Reads as put-decimal-reads
 
 -- src/lib.rt:58:48
-slice-aggregate-put : tie.Need-slice-aggregate-put
-slice-aggregate-put c = search needs
-
 -- src/lib.rt:58:13
-put-requires : tie.Need-put-requires
-put-requires c κs = search needs
-
 -- src/lib.rt:59:9
-put-decimal-requires : tie.Need-put-decimal-requires
-put-decimal-requires c κs = search needs
-
 -- src/lib.rt:60:42
-slice-aggregate-put-2 : tie.Need-slice-aggregate-put-2
-slice-aggregate-put-2 c = search needs
-
 -- src/lib.rt:60:9
 put-requires-2 : tie.Need-put-requires-2
 put-requires-2 c κs = omega (arith, decimal-20 (c .before .before .before .before .before .before .before .before .before .before .before .before .before .before .before .args .r .line) (omega arith))
 
 -- src/lib.rt:60:9
-same-length : tie.Need-same-length
-same-length c = search needs
-
 -- src/lib.rt:60:9
 returns : tie.Need-returns
 returns c =
@@ -53,11 +38,11 @@ pub put-place-spec : {M : Type 1} → statement M
 put-place-spec =
     tie.close
     (tie.spec
-    slice-aggregate-put
-    put-requires
-    put-decimal-requires
-    slice-aggregate-put-2
+    (λ c. search needs)
+    (λ c κs. search needs)
+    (λ c κs. search needs)
+    (λ c. search needs)
     put-requires-2
-    same-length
+    (λ c. search needs)
     returns
     returns-2)

@@ -18,21 +18,12 @@ returns c =
     (wrote-as (words-zero (a .r) (c .if1 .taken)) (wrote-none (a .out .now) (a .at)), omega arith)
 
 -- src/lib.rt:109:8
-is-known-requires : tie.Need-is-known-requires
-is-known-requires c κs = search needs
-
 -- src/lib.rt:110:9
 put-known-requires : tie.Need-put-known-requires
 put-known-requires c κs = (omega arith, sym (c .before .before .is-known .ensures) ∙ c .before .if2 .taken)
 
 -- src/lib.rt:110:9
-same-length : tie.Need-same-length
-same-length c = search needs
-
 -- src/lib.rt:110:9
-returns-2 : tie.Need-returns-2
-returns-2 c = search needs
-
 -- src/lib.rt:102:1
 returns-3 : tie.Need-returns-3
 returns-3 c =
@@ -42,4 +33,4 @@ returns-3 c =
 pub put-words-spec : {M : Type 1} → statement M
 put-words-spec =
     tie.close
-    (tie.spec returns is-known-requires put-known-requires same-length returns-2 returns-3)
+    (tie.spec returns (λ c κs. search needs) put-known-requires (λ c. search needs) (λ c. search needs) returns-3)

@@ -14,25 +14,13 @@ use Rattle.explain_words.proofs.table.line_texts.Reads as line-texts-re
 use Rattle.explain_words.proofs.table.sheet_texts.Reads as sheet-texts-reads
 
 -- src/lib.rt:70:8
-is-outside-requires : tie.Need-is-outside-requires
-is-outside-requires c κs = search needs
-
 -- src/lib.rt:71:31
-sheet-texts-requires : tie.Need-sheet-texts-requires
-sheet-texts-requires c κs = search needs
-
 -- src/lib.rt:71:30
-slice-aggregate-put-row : tie.Need-slice-aggregate-put-row
-slice-aggregate-put-row c = search needs
-
 -- src/lib.rt:71:9
 put-row-requires : tie.Need-put-row-requires
 put-row-requires c κs = omega (arith, row-room sheetTexts tt (c .before .before .sheet-texts .ensures .0) (c .before .before .before .before .before .before .args .r .number))
 
 -- src/lib.rt:71:9
-same-length : tie.Need-same-length
-same-length c = search needs
-
 -- src/lib.rt:71:9
 returns : tie.Need-returns
 returns c =
@@ -42,21 +30,12 @@ returns c =
     (wrote-as (ap (filled r) (wrong-outside r (sym (c .before .before .before .before .before .before .before .is-outside .ensures) ∙ c .before .before .before .before .before .before .if1 .taken) ∙ sym (row-same e (r .number)))) (w .0), omega (arith, w .1, row-room sheetTexts tt e (r .number)))
 
 -- src/lib.rt:73:20
-line-texts-requires : tie.Need-line-texts-requires
-line-texts-requires c κs = search needs
-
 -- src/lib.rt:73:19
-slice-aggregate-put-row-2 : tie.Need-slice-aggregate-put-row-2
-slice-aggregate-put-row-2 c = search needs
-
 -- src/lib.rt:73:5
 put-row-requires-2 : tie.Need-put-row-requires-2
 put-row-requires-2 c κs = omega (arith, row-room lineTexts tt (c .before .before .line-texts .ensures .0) (c .before .before .before .before .before .before .args .r .number))
 
 -- src/lib.rt:66:1
-same-length-2 : tie.Need-same-length-2
-same-length-2 c = search needs
-
 -- src/lib.rt:66:1
 returns-2 : tie.Need-returns-2
 returns-2 c =
@@ -69,14 +48,14 @@ pub put-wrong-spec : {M : Type 1} → statement M
 put-wrong-spec =
     tie.close
     (tie.spec
-    is-outside-requires
-    sheet-texts-requires
-    slice-aggregate-put-row
+    (λ c κs. search needs)
+    (λ c κs. search needs)
+    (λ c. search needs)
     put-row-requires
-    same-length
+    (λ c. search needs)
     returns
-    line-texts-requires
-    slice-aggregate-put-row-2
+    (λ c κs. search needs)
+    (λ c. search needs)
     put-row-requires-2
-    same-length-2
+    (λ c. search needs)
     returns-2)

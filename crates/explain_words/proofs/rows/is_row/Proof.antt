@@ -13,9 +13,6 @@ use Rattle.explain_words.proofs.rows.is_row.Lts as lts
 use Rattle.explain_words.proofs.rows.row_start.Reads as row-start-reads
 
 -- src/rows.rt:34:9
-row-start-requires : tie.Need-row-start-requires
-row-start-requires c κs = search needs
-
 -- src/rows.rt:36:9
 returns : tie.Need-returns
 returns c =
@@ -24,9 +21,6 @@ returns c =
     sym (ap (λ (t : List ℕ). not (isNone t)) (row-none (a .rows .now) (a .n) (f .result) (f .ensures) (c .if1 .taken)))
 
 -- src/rows.rt:38:5
-shared-slice-read-result : tie.Need-shared-slice-read-result
-shared-slice-read-result c = search needs
-
 -- src/rows.rt:31:1
 returns-2 : tie.Need-returns-2
 returns-2 c =
@@ -35,4 +29,4 @@ returns-2 c =
     row-some (a .rows .now) (a .n) (f .result) (f .ensures) (omega arith)
 
 pub is-row-spec : {M : Type 1} → statement M
-is-row-spec = tie.close (tie.spec row-start-requires returns shared-slice-read-result returns-2)
+is-row-spec = tie.close (tie.spec (λ c κs. search needs) returns (λ c. search needs) returns-2)

@@ -27,21 +27,9 @@ loop-holds c =
     (omega arith, omega arith, refl, s .pre, wrote-none (s .args .out .now) (s .args .at))
 
 -- src/rows.rt:73:32
-shared-slice-read-put-filled-byte : tie.Need-shared-slice-read-put-filled-byte Inv-loop μ-loop
-shared-slice-read-put-filled-byte c = omega arith
-
 -- src/rows.rt:73:9
-put-filled-byte-requires : tie.Need-put-filled-byte-requires Inv-loop μ-loop
-put-filled-byte-requires c κs = omega arith
-
 -- src/rows.rt:74:9
-add-i : tie.Need-add-i Inv-loop μ-loop
-add-i c = omega arith
-
 -- src/rows.rt:72:5
-loop-less : tie.Need-loop-less Inv-loop μ-loop
-loop-less c = omega arith
-
 -- src/rows.rt:72:5
 loop-again : tie.Need-loop-again Inv-loop μ-loop
 loop-again c =
@@ -69,10 +57,10 @@ put-filled-spec =
     Inv-loop
     μ-loop
     loop-holds
-    shared-slice-read-put-filled-byte
-    put-filled-byte-requires
-    add-i
-    loop-less
+    (λ c. omega arith)
+    (λ c κs. omega arith)
+    (λ c. omega arith)
+    (λ c. omega arith)
     loop-again
     same-length
     returns)

@@ -12,13 +12,7 @@ use Rattle.base_text.proofs.put_decimal.Reads as put-decimal-reads
 use Rattle.explain_words.proofs.rows.put_value.Reads as put-value-reads
 
 -- src/rows.rt:58:9
-put-value-requires : tie.Need-put-value-requires
-put-value-requires c κs = search needs
-
 -- src/rows.rt:58:9
-same-length : tie.Need-same-length
-same-length c = search needs
-
 -- src/rows.rt:58:9
 returns : tie.Need-returns
 returns c =
@@ -27,13 +21,7 @@ returns c =
     (wrote-as (byte-value (a .r) (a .b) (c .before .before .before .before .if1 .taken)) (w .0), w .1)
 
 -- src/rows.rt:61:9
-put-decimal-requires : tie.Need-put-decimal-requires
-put-decimal-requires c κs = search needs
-
 -- src/rows.rt:61:9
-same-length-2 : tie.Need-same-length-2
-same-length-2 c = search needs
-
 -- src/rows.rt:61:9
 returns-2 : tie.Need-returns-2
 returns-2 c =
@@ -42,13 +30,7 @@ returns-2 c =
     (wrote-as (byte-detail (a .r) (a .b) (c .before .before .before .before .before .if1 .left) (c .before .before .before .before .if2 .taken)) (wrote (c .before .before .put-decimal .ensures)), omega arith)
 
 -- src/rows.rt:63:5
-put-byte-requires : tie.Need-put-byte-requires
-put-byte-requires c κs = search needs
-
 -- src/rows.rt:53:1
-same-length-3 : tie.Need-same-length-3
-same-length-3 c = search needs
-
 -- src/rows.rt:53:1
 returns-3 : tie.Need-returns-3
 returns-3 c =
@@ -59,12 +41,12 @@ pub put-filled-byte-spec : {M : Type 1} → statement M
 put-filled-byte-spec =
     tie.close
     (tie.spec
-    put-value-requires
-    same-length
+    (λ c κs. search needs)
+    (λ c. search needs)
     returns
-    put-decimal-requires
-    same-length-2
+    (λ c κs. search needs)
+    (λ c. search needs)
     returns-2
-    put-byte-requires
-    same-length-3
+    (λ c κs. search needs)
+    (λ c. search needs)
     returns-3)

@@ -14,9 +14,6 @@ use Rattle.explain_words.proofs.rows.put_filled.Reads as put-filled-rea
 use Rattle.explain_words.proofs.rows.row_start.Reads as row-start-reads
 
 -- src/rows.rt:84:9
-row-start-requires : tie.Need-row-start-requires
-row-start-requires c κs = search needs
-
 -- src/rows.rt:86:9
 returns : tie.Need-returns
 returns c =
@@ -25,21 +22,9 @@ returns c =
     (wrote-as (ap (filled (a .r)) (row-none (a .rows .now) (a .n) (f .result) (f .ensures) (omega arith))) (wrote-none (a .out .now) (a .at)), omega arith)
 
 -- src/rows.rt:88:9
-field-end-requires : tie.Need-field-end-requires
-field-end-requires c κs = search needs
-
 -- src/rows.rt:89:16
-sub-put-filled : tie.Need-sub-put-filled
-sub-put-filled c = search needs
-
 -- src/rows.rt:89:16
-part-put-filled-start : tie.Need-part-put-filled-start
-part-put-filled-start c = search needs
-
 -- src/rows.rt:89:16
-part-put-filled-end : tie.Need-part-put-filled-end
-part-put-filled-end c = search needs
-
 -- src/rows.rt:89:5
 put-filled-requires : tie.Need-put-filled-requires
 put-filled-requires c κs =
@@ -49,9 +34,6 @@ put-filled-requires c κs =
     omega (arith, s .pre, ap length (row-text (s .args .rows .now) (s .args .n) (f .result) (f .ensures) (e .result) (omega arith) (e .ensures .0)))
 
 -- src/rows.rt:80:1
-same-length : tie.Need-same-length
-same-length c = search needs
-
 -- src/rows.rt:80:1
 returns-2 : tie.Need-returns-2
 returns-2 c =
@@ -66,12 +48,12 @@ pub put-row-spec : {M : Type 1} → statement M
 put-row-spec =
     tie.close
     (tie.spec
-    row-start-requires
+    (λ c κs. search needs)
     returns
-    field-end-requires
-    sub-put-filled
-    part-put-filled-start
-    part-put-filled-end
+    (λ c κs. search needs)
+    (λ c. search needs)
+    (λ c. search needs)
+    (λ c. search needs)
     put-filled-requires
-    same-length
+    (λ c. search needs)
     returns-2)

@@ -11,17 +11,8 @@ use Rattle.base_text.proofs.put_byte.Reads as put-byte-reads
 use Rattle.base_text.proofs.put_decimal.Reads as put-decimal-reads
 
 -- src/rows.rt:46:13
-put-byte-requires : tie.Need-put-byte-requires
-put-byte-requires c κs = search needs
-
 -- src/rows.rt:47:9
-put-decimal-requires : tie.Need-put-decimal-requires
-put-decimal-requires c κs = search needs
-
 -- src/rows.rt:47:9
-same-length : tie.Need-same-length
-same-length c = search needs
-
 -- src/rows.rt:47:9
 returns : tie.Need-returns
 returns c =
@@ -31,13 +22,7 @@ returns c =
     (wrote-as (value-below (a .r) (c .before .before .before .before .before .before .before .before .if1 .taken)) w, omega arith)
 
 -- src/rows.rt:49:5
-put-decimal-requires-2 : tie.Need-put-decimal-requires-2
-put-decimal-requires-2 c κs = search needs
-
 -- src/rows.rt:41:1
-same-length-2 : tie.Need-same-length-2
-same-length-2 c = search needs
-
 -- src/rows.rt:41:1
 returns-2 : tie.Need-returns-2
 returns-2 c =
@@ -49,10 +34,10 @@ pub put-value-spec : {M : Type 1} → statement M
 put-value-spec =
     tie.close
     (tie.spec
-    put-byte-requires
-    put-decimal-requires
-    same-length
+    (λ c κs. search needs)
+    (λ c κs. search needs)
+    (λ c. search needs)
     returns
-    put-decimal-requires-2
-    same-length-2
+    (λ c κs. search needs)
+    (λ c. search needs)
     returns-2)

@@ -30,21 +30,12 @@ returns c =
     rows-past (c .before .before .before .before .args .rows .now) (l .from) (l .left) (c .if1 .taken) ∙ sym (l .inv .1)
 
 -- src/rows.rt:24:16
-field-end-requires : tie.Need-field-end-requires Inv-loop μ-loop
-field-end-requires c κs = omega arith
-
 -- src/rows.rt:24:16
 add-from : tie.Need-add-from Inv-loop μ-loop
 add-from c = omega (arith, c .field-end .ensures .1)
 
 -- src/rows.rt:25:9
-sub-left : tie.Need-sub-left Inv-loop μ-loop
-sub-left c = omega arith
-
 -- src/rows.rt:20:5
-loop-less : tie.Need-loop-less Inv-loop μ-loop
-loop-less c = omega arith
-
 -- src/rows.rt:20:5
 loop-again : tie.Need-loop-again Inv-loop μ-loop
 loop-again c =
@@ -67,9 +58,9 @@ row-start-spec =
     μ-loop
     loop-holds
     returns
-    field-end-requires
+    (λ c κs. omega arith)
     add-from
-    sub-left
-    loop-less
+    (λ c. omega arith)
+    (λ c. omega arith)
     loop-again
     returns-2)
