@@ -1,4 +1,4 @@
-// Passes standard input on, and after each line that is a refusal prints it in words.
+// Passes standard input on, and after each line that is a refusal prints a sentence that explains it.
 
 ghost use mathlib.Core.Path.{_≡_};
 ghost use Prim.Native.Nat.{_≤_, _<_};
@@ -7,7 +7,7 @@ ghost use Rattle.io.specs.Counts.{Counts};
 ghost use Rattle.explain_lines.specs.Pieces.{Kept};
 use explain_lines::Cut;
 
-// A text of 65,536 bytes, and the words of a line.
+// A text of 65,536 bytes, and the sentence of a line.
 fn output_places() -> [u8; 139264]
     ensures { λ r. ⌜ (r ≡ replicate 139264 0) × (139264 ≡ length r) ⌝ }
 {
@@ -22,7 +22,7 @@ fn read_some(text: &mut [u8]) -> usize
     io::count(got, text)
 }
 
-// The lines with their words, in few writes.
+// The lines with their sentences, in few writes.
 fn print_lines(lines: &[u8], out: &mut [u8])
     requires { ⌜ (length (now lines) ≤ 65536) × (73728 ≤ length (now out)) ⌝ }
 {

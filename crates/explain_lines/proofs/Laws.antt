@@ -1,6 +1,6 @@
 -- Laws of a line that is explained, of the first and the last LF, and of bytes moved to the front. Assumes nothing.
 use Prim.Native.Nat.{ℕ, zero, suc, _+_, _-_, _≤_, _<_}
-use mathlib.Core.Path.{_≡_, refl, sym, ap, subst, _∙_}
+use mathlib.Core.Path.{_≡_, refl, sym, ap, _∙_}
 use mathlib.Core.Bool.{Bool, true, false, cond}
 use mathlib.Core.List.{List, [], _∷_, _++_, append-assoc}
 use native.Mathlib.Omega.{arith}
@@ -12,20 +12,16 @@ use borrow.Author.Tests.{eq-eqb, ne-eqb, lt-ltb, le-leb, lt-leb}
 use Rattle.base_facts.specs.Tests.{Eq, same, other, eq?, cond-true, cond-false}
 use Rattle.base_spec.specs.Written.{placed}
 use Rattle.base_text.specs.Parts.{before}
-use Rattle.base_text.specs.Wrote.{Wrote}
 use Rattle.explain_spec.specs.declared.Refusal.{Refusal}
 use Rattle.explain_spec.specs.Refusal.{refusalIn}
-use Rattle.explain_spec.specs.Words.{wordsOf}
+use Rattle.explain_spec.specs.Sentence.{sentenceOf}
 use Rattle.explain_spec.specs.Explained.{explainedLine}
 use Rattle.explain_lines.specs.declared.Cut.{Cut}
 use Rattle.explain_lines.specs.Cut.{endedOf, firstEnd, cutFrom, cutOf, between}
 
-pub wrote-as : {buf out s t : List ℕ} {at r : ℕ} → s ≡ t → Wrote buf at t out r → Wrote buf at s out r
-wrote-as {buf} {out} {s} {t} {at} {r} e w = subst (λ (u : List ℕ). Wrote buf at u out r) (sym e) w
-
-pub line-words : (l : List ℕ) (r : Refusal) → r ≡ refusalIn l → length l < 65536 → explainedLine l ≡ l ++ (10 ∷ []) ++ wordsOf r
+pub line-sentence : (l : List ℕ) (r : Refusal) → r ≡ refusalIn l → length l < 65536 → explainedLine l ≡ l ++ (10 ∷ []) ++ sentenceOf r
 unfolding explainedLine
-line-words l r e h = rw (lt-ltb (length l) 65536 h) (ap (λ (q : Refusal). l ++ (10 ∷ wordsOf q)) (sym e) ∙ sym (append-assoc l (10 ∷ []) (wordsOf r)))
+line-sentence l r e h = rw (lt-ltb (length l) 65536 h) (ap (λ (q : Refusal). l ++ (10 ∷ sentenceOf q)) (sym e) ∙ sym (append-assoc l (10 ∷ []) (sentenceOf r)))
 
 -- a byte more at the end
 ended-snoc : (a : List ℕ) (b : ℕ) → endedOf (a ++ (b ∷ [])) ≡ cond (eqb b 10) (suc (length a)) (endedOf a)

@@ -13,7 +13,7 @@ use Rattle.base_spec.specs.Lines.{linesOf, answersTo, answersOf}
 use Rattle.base_text.specs.PartLaws.{partsFrom, parts-first}
 use Rattle.base_text.specs.Parts.{before}
 use Rattle.explain_spec.specs.Refusal.{refusalIn}
-use Rattle.explain_spec.specs.Words.{wordsOf}
+use Rattle.explain_spec.specs.Sentence.{sentenceOf}
 use Rattle.explain_spec.specs.Explained.{explainedLine, explainedParts, explainedFrom}
 use Rattle.explain_lines.specs.Cut.{endedOf, firstEnd}
 

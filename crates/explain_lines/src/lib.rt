@@ -1,4 +1,4 @@
-// A text with the words of its refusals, written into a lent buffer, and how a text is cut that comes in pieces.
+// A text with the sentences of its refusals, written into a lent buffer, and how a text is cut that comes in pieces.
 ghost use mathlib.Core.Path.{_≡_};
 ghost use Prim.Native.Nat.{_+_, _-_, _≤_};
 ghost use lib.ListN.{length};
@@ -18,7 +18,7 @@ pub struct Cut {
     pub begun: bool,
 }
 
-// A line, its LF and the words of its refusal.
+// A line, its LF and the sentence of its refusal.
 fn put_explained(line: &[u8], out: &mut [u8], at: usize) -> usize
     requires { ⌜ (at + 73728 ≤ length (now out)) × (length (now line) ≤ 65536) ⌝ }
     ensures { λ r. ⌜ Wrote (now (out .entry)) at (explainedLine (now (line .entry))) (now (out .exit)) r × (r ≤ at + 73728) ⌝ }
@@ -27,7 +27,7 @@ fn put_explained(line: &[u8], out: &mut [u8], at: usize) -> usize
     next = base_text::put_byte(out, next, b'\n');
     if line.len() < 65536 {
         let r = explain_refusal::refusal_in(line);
-        return explain_words::put_words(r, out, next);
+        return explain_sentence::put_sentence(r, out, next);
     }
     next
 }
@@ -50,7 +50,7 @@ fn put_lines(text: &[u8], from: usize, out: &mut [u8]) -> Step
     Step { next, count: at }
 }
 
-// The lines of a text of at most 65,536 bytes from a place on, each with its words, while the buffer has room.
+// The lines of a text of at most 65,536 bytes from a place on, each with its sentence, while the buffer has room.
 pub fn explain(text: &[u8], from: usize, out: &mut [u8]) -> Step
     ensures { λ r. ⌜ Explains (now (text .entry)) from (now (out .entry)) (now (out .exit)) r ⌝ }
 {

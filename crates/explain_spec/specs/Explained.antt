@@ -1,4 +1,4 @@
--- A text with the words of its refusals: every line is passed on, and a refusal's words follow it.
+-- A text with the sentences of its refusals: every line is passed on, and a refusal's sentence follows it.
 use Prim.Native.Nat.{ℕ}
 use mathlib.Core.Bool.{Bool, true, false, cond}
 use mathlib.Core.Path.{_≡_}
@@ -10,11 +10,11 @@ use Rattle.base_spec.specs.Parts.{parts}
 use Rattle.base_spec.specs.Lines.{answeredOf, stepOf}
 use Rattle.base_spec.specs.Written.{placed}
 use Rattle.explain_spec.specs.Refusal.{refusalIn}
-use Rattle.explain_spec.specs.Words.{wordsOf}
+use Rattle.explain_spec.specs.Sentence.{sentenceOf}
 
 -- a line of 65,536 bytes or more is passed on as it is
 unfoldable pub explainedLine : List ℕ → List ℕ
-explainedLine line = line ++ (10 ∷ cond (ltb (length line) 65536) (wordsOf (refusalIn line)) [])
+explainedLine line = line ++ (10 ∷ cond (ltb (length line) 65536) (sentenceOf (refusalIn line)) [])
 
 -- the lines of a text, parted by LF; what follows the last LF is passed on as it is
 -- `begun`: the first is the rest of a line that is passed on as it is

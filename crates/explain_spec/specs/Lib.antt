@@ -1,4 +1,4 @@
 pub mod Table
 pub mod Refusal
-pub mod Words
+pub mod Sentence
 pub mod Explained

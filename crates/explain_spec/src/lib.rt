@@ -1,4 +1,4 @@
-// Definitions alone: the words of a refusal, and a text with them.
+// Definitions alone: the sentence of a refusal, and a text with the sentences of its refusals.
 
 // A refusal as a line prints it, all 0 where it prints none; `sheet`: it has the line of a sheet.
 pub struct Refusal {

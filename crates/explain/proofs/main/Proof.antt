@@ -6,12 +6,6 @@ use native.Mathlib.Omega.{arith}
 use lib.ListN.{length, length-take}
 use Rattle.explain.proofs.main.Statement.{statement}
 use Rattle.explain.proofs.main.Tie as tie
-use Rattle.explain.proofs.main.Reads as reads
-use Rattle.explain.proofs.main.Lts as lts
-use Rattle.explain.proofs.output_places.Reads as output-places-reads
-use Rattle.explain.proofs.turn.Reads as turn-reads
-use Rattle.io.proofs.large_buffer.Reads as large-buffer-reads
-use Rattle.io.proofs.write_all.Reads as write-all-reads
 
 abbrev Inv-loop : tie.InvT-loop
 Inv-loop text₀ out₀ t₀ turns₀ text out t turns = (65536 ≡ length text) × (139264 ≡ length out) × (t .have < 65536)
@@ -19,43 +13,30 @@ Inv-loop text₀ out₀ t₀ turns₀ text out t turns = (65536 ≡ length text)
 abbrev μ-loop : tie.MeasureT-loop
 μ-loop text₀ out₀ t₀ turns₀ text out t turns = turns
 
--- src/main.rt:82:20
--- src/main.rt:83:19
--- src/main.rt:90:5
 loop-holds : tie.Need-loop-holds Inv-loop μ-loop
 loop-holds c = (c .before .large-buffer .ensures, c .output-places .ensures .1, omega arith)
 
--- src/main.rt:91:18
 slice-aggregate-turn : tie.Need-slice-aggregate-turn Inv-loop μ-loop
 slice-aggregate-turn c = c .before .before .before .loop .inv .0
 
--- src/main.rt:91:46
 slice-aggregate-turn-2 : tie.Need-slice-aggregate-turn-2 Inv-loop μ-loop
 slice-aggregate-turn-2 c = c .before .before .before .before .loop .inv .1
 
--- src/main.rt:91:9
 turn-requires : tie.Need-turn-requires Inv-loop μ-loop
 turn-requires c κs = (omega arith, omega arith, omega arith)
 
--- src/main.rt:92:9
 sub-turns : tie.Need-sub-turns Inv-loop μ-loop
 sub-turns c = omega (arith, ltb-is 0 (c .before .before .before .before .before .before .before .loop .turns) (and-true (c .before .before .before .before .before .before .before .loop .t .more) (ltb 0 (c .before .before .before .before .before .before .before .loop .turns)) (c .before .before .before .before .before .if1 .taken) .1))
 
--- src/main.rt:90:5
 loop-less : tie.Need-loop-less Inv-loop μ-loop
 loop-less c = omega (arith, ltb-is 0 (c .before .before .before .before .before .before .before .loop .turns) (and-true (c .before .before .before .before .before .before .before .loop .t .more) (ltb 0 (c .before .before .before .before .before .before .before .loop .turns)) (c .before .before .before .before .before .if1 .taken) .1))
 
--- src/main.rt:90:5
 loop-again : tie.Need-loop-again Inv-loop μ-loop
 loop-again c = (omega arith, omega arith, omega arith)
 
--- src/main.rt:95:22
--- src/main.rt:95:22
 slice-aggregate-write-all : tie.Need-slice-aggregate-write-all Inv-loop μ-loop
 slice-aggregate-write-all c = simp length-take (omega arith)
 
--- src/main.rt:95:5
--- src/main.rt:81:1
 pub main-spec : {M : Type 1} → statement M
 main-spec =
     tie.close

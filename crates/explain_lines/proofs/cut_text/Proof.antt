@@ -4,26 +4,16 @@ use Rattle.explain_lines.proofs.Laws.{cut-inside, cut-behind, cut-whole
 use borrow.Author.Needs.{needs}
 use Rattle.explain_lines.proofs.cut_text.Statement.{statement}
 use Rattle.explain_lines.proofs.cut_text.Tie as tie
-use Rattle.explain_lines.proofs.cut_text.Reads as reads
-use Rattle.explain_lines.proofs.cut_text.Lts as lts
-use Rattle.explain_lines.proofs.cut_from.Reads as cut-from-reads
-use Rattle.explain_lines.proofs.first_end.Reads as first-end-reads
 
--- src/lib.rt:115:13
--- src/lib.rt:117:13
 returns : tie.Need-returns
 returns c = cut-inside (c .before .before .before .before .args .begun) (c .before .before .before .before .args .text .now) (c .before .before .if1 .taken) (sym (c .before .first-end .ensures .0) ∙ c .if2 .taken)
 
--- src/lib.rt:124:9
--- src/lib.rt:124:9
 returns-2 : tie.Need-returns-2
 returns-2 c =
     let a = c .before .before .before .before .before .args in
     let f = c .before .before .first-end in
     c .cut-from .ensures ∙ ap (cutFrom (a .text .now)) (f .ensures .0) ∙ cut-behind (a .begun) (a .text .now) (c .before .before .before .if1 .taken) (λ e. c .before .if2 .left (f .ensures .0 ∙ e))
 
--- src/lib.rt:126:5
--- src/lib.rt:111:1
 returns-3 : tie.Need-returns-3
 returns-3 c = c .cut-from2 .ensures ∙ cut-whole (c .before .before .before .args .begun) (c .before .before .before .args .text .now) (c .before .if1 .left)
 

@@ -3,20 +3,13 @@ use borrow.Author.Tests.{le-leb, lt-leb}
 use borrow.Author.Needs.{needs}
 use Rattle.explain_lines.proofs.explain.Statement.{statement}
 use Rattle.explain_lines.proofs.explain.Tie as tie
-use Rattle.explain_lines.proofs.explain.Reads as reads
-use Rattle.explain_lines.proofs.explain.Lts as lts
-use Rattle.explain_lines.proofs.put_lines.Reads as put-lines-reads
 
--- src/lib.rt:58:9
--- src/lib.rt:58:9
--- src/lib.rt:58:9
 returns : tie.Need-returns
 returns c =
     let w = c .before .before .put-lines .ensures in
     let t = le-leb (length (c .before .before .before .before .before .before .before .args .text .now)) 65536 (c .before .before .before .before .if1 .taken) in
     record { step = rw t (w .0); buffer = rw t (w .1) }
 
--- src/lib.rt:54:1
 returns-2 : tie.Need-returns-2
 returns-2 c =
     let t = lt-leb (length (c .before .before .before .args .text .now)) 65536 (c .if1 .left) in

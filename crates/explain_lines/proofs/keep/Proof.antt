@@ -6,8 +6,6 @@ use lib.Seq.{paste, paste-zero}
 use Rattle.explain_lines.proofs.Laws.{move-next, moved, unmoved}
 use Rattle.explain_lines.proofs.keep.Statement.{statement}
 use Rattle.explain_lines.proofs.keep.Tie as tie
-use Rattle.explain_lines.proofs.keep.Reads as reads
-use Rattle.explain_lines.proofs.keep.Lts as lts
 
 abbrev Inv-loop : tie.InvT-loop
 Inv-loop text₀ from to i₀ text i =
@@ -16,25 +14,16 @@ Inv-loop text₀ from to i₀ text i =
 abbrev μ-loop : tie.MeasureT-loop
 μ-loop text₀ from to i₀ text i = to - from - i
 
--- src/lib.rt:135:9
 returns : tie.Need-returns Inv-loop μ-loop
 returns c =
     let a = c .before .args in
     (omega arith, unmoved (a .text .now) (a .from) (a .to) (c .if1 .taken) (omega arith))
 
--- src/lib.rt:138:5
 loop-holds : tie.Need-loop-holds Inv-loop μ-loop
 loop-holds c =
     let a = c .before .args in
     (omega arith, omega arith, omega arith, refl, paste-zero (a .text .now) 0 (drop (a .from) (a .text .now)))
 
--- src/lib.rt:138:15
--- src/lib.rt:139:24
--- src/lib.rt:139:19
--- src/lib.rt:139:9
--- src/lib.rt:140:9
--- src/lib.rt:138:5
--- src/lib.rt:138:5
 loop-again : tie.Need-loop-again Inv-loop μ-loop
 loop-again c =
     let l = c .before .before .loop in
@@ -48,11 +37,9 @@ loop-again c =
       rw (l .inv .4) (move-next d (a .from) (l .i) (omega arith) (omega (arith, n))),
     )
 
--- src/lib.rt:130:1
 same-length : tie.Need-same-length Inv-loop μ-loop
 same-length c = c .before .loop .inv .3
 
--- src/lib.rt:130:1
 returns-2 : tie.Need-returns-2 Inv-loop μ-loop
 returns-2 c =
     let l = c .before .loop in

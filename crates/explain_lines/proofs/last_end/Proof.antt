@@ -7,8 +7,6 @@ use Rattle.explain_lines.specs.Cut.{endedOf}
 use Rattle.explain_lines.proofs.Laws.{last-here, last-earlier}
 use Rattle.explain_lines.proofs.last_end.Statement.{statement}
 use Rattle.explain_lines.proofs.last_end.Tie as tie
-use Rattle.explain_lines.proofs.last_end.Reads as reads
-use Rattle.explain_lines.proofs.last_end.Lts as lts
 
 abbrev Inv-loop : tie.InvT-loop
 Inv-loop text i₀ i = (i ≤ length text) × (endedOf text ≡ endedOf (take i text))
@@ -16,27 +14,19 @@ Inv-loop text i₀ i = (i ≤ length text) × (endedOf text ≡ endedOf (take i 
 abbrev μ-loop : tie.MeasureT-loop
 μ-loop text i₀ i = i
 
--- src/lib.rt:71:5
 loop-holds : tie.Need-loop-holds Inv-loop μ-loop
 loop-holds c = (omega arith, ap endedOf (sym (take-length (c .args .text .now))))
 
--- src/lib.rt:72:17
--- src/lib.rt:72:12
--- src/lib.rt:73:13
 returns : tie.Need-returns Inv-loop μ-loop
 returns c =
     let l = c .before .before .before .loop in
     (sym (l .inv .1 ∙ last-here (c .before .before .before .before .args .text .now) (l .i) (omega arith) (omega arith) (c .if1 .taken)), omega arith)
 
--- src/lib.rt:75:9
--- src/lib.rt:71:5
--- src/lib.rt:71:5
 loop-again : tie.Need-loop-again Inv-loop μ-loop
 loop-again c =
     let l = c .before .before .before .loop in
     (omega arith, l .inv .1 ∙ last-earlier (c .before .before .before .before .args .text .now) (l .i) (omega arith) (omega arith) (c .if1 .left))
 
--- src/lib.rt:67:1
 returns-2 : tie.Need-returns-2 Inv-loop μ-loop
 returns-2 c =
     let l = c .before .loop in

@@ -6,10 +6,6 @@ use Rattle.explain_spec.specs.Explained.{explainedLine}
 use Rattle.base_text.specs.LinesLaws.{Walked, walked-start, walked-on, walked-full, walked-end}
 use Rattle.explain_lines.proofs.put_lines.Statement.{statement}
 use Rattle.explain_lines.proofs.put_lines.Tie as tie
-use Rattle.explain_lines.proofs.put_lines.Reads as reads
-use Rattle.explain_lines.proofs.put_lines.Lts as lts
-use Rattle.base_text.proofs.line_end.Reads as line-end-reads
-use Rattle.explain_lines.proofs.put_explained.Reads as put-explained-reads
 
 abbrev Inv-loop : tie.InvT-loop
 Inv-loop text from out₀ next₀ at₀ out next at = (at ≤ length out₀) × (length out ≡ length out₀) × Walked explainedLine 73728 text from out₀ out next at
@@ -17,27 +13,15 @@ Inv-loop text from out₀ next₀ at₀ out next at = (at ≤ length out₀) × 
 abbrev μ-loop : tie.MeasureT-loop
 μ-loop text from out₀ next₀ at₀ out next at = length text - next
 
--- src/lib.rt:42:5
 loop-holds : tie.Need-loop-holds Inv-loop μ-loop
 loop-holds c = (omega arith, refl, walked-start explainedLine 73728 _ _ _)
 
--- src/lib.rt:43:12
--- src/lib.rt:44:13
--- src/lib.rt:44:13
 returns : tie.Need-returns Inv-loop μ-loop
 returns c = walked-full explainedLine 73728 _ _ _ (c .before .before .loop .inv .2) (omega arith)
 
--- src/lib.rt:46:13
--- src/lib.rt:47:28
--- src/lib.rt:47:28
--- src/lib.rt:47:28
--- src/lib.rt:47:9
 put-explained-requires : tie.Need-put-explained-requires Inv-loop μ-loop
 put-explained-requires c κs = (omega arith, rw (length-take, length-drop) (omega arith))
 
--- src/lib.rt:48:16
--- src/lib.rt:42:5
--- src/lib.rt:42:5
 loop-again : tie.Need-loop-again Inv-loop μ-loop
 loop-again c =
     let l = c .before .before .before .before .before .before .before .before .loop in
@@ -48,8 +32,6 @@ loop-again c =
       walked-on explainedLine 73728 _ _ _ (e .result) (l .inv .2) (omega arith) (e .ensures .0) (e .ensures .1) (omega arith) (r .0) (omega arith),
     )
 
--- src/lib.rt:36:1
--- src/lib.rt:36:1
 returns-2 : tie.Need-returns-2 Inv-loop μ-loop
 returns-2 c = walked-end explainedLine 73728 _ _ _ (c .before .loop .inv .2) (omega arith)
 

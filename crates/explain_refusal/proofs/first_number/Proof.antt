@@ -4,21 +4,10 @@ use Rattle.explain_refusal.proofs.Laws.{fields-at}
 use borrow.Author.Needs.{needs}
 use Rattle.explain_refusal.proofs.first_number.Statement.{statement}
 use Rattle.explain_refusal.proofs.first_number.Tie as tie
-use Rattle.explain_refusal.proofs.first_number.Reads as reads
-use Rattle.explain_refusal.proofs.first_number.Lts as lts
-use Rattle.base_text.proofs.field_end.Reads as field-end-reads
-use Rattle.base_text.proofs.read_number.Reads as read-number-reads
 
--- src/lib.rt:14:9
 returns : tie.Need-returns
 returns c = rw (parts-past 9 (c .before .before .args .line .now) (c .before .before .args .from) (c .if1 .taken))
 
--- src/lib.rt:16:9
--- src/lib.rt:17:28
--- src/lib.rt:17:28
--- src/lib.rt:17:28
--- src/lib.rt:17:5
--- src/lib.rt:10:1
 returns-2 : tie.Need-returns-2
 returns-2 c =
     let a = c .before .before .before .before .before .args in

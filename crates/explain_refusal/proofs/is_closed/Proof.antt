@@ -4,22 +4,10 @@ use Rattle.explain_refusal.proofs.Laws.{fields-at}
 use borrow.Author.Needs.{needs}
 use Rattle.explain_refusal.proofs.is_closed.Statement.{statement}
 use Rattle.explain_refusal.proofs.is_closed.Tie as tie
-use Rattle.explain_refusal.proofs.is_closed.Reads as reads
-use Rattle.explain_refusal.proofs.is_closed.Lts as lts
-use Rattle.base_text.proofs.field_end.Reads as field-end-reads
-use Rattle.sheet_field.proofs.equal.Reads as equal-reads
 
--- src/lib.rt:35:9
 returns : tie.Need-returns
 returns c = rw (parts-past 9 (c .before .before .args .line .now) (c .before .before .args .from) (c .if1 .taken))
 
--- src/lib.rt:37:9
--- src/lib.rt:38:24
--- src/lib.rt:38:24
--- src/lib.rt:38:24
--- src/lib.rt:38:40
--- src/lib.rt:38:5
--- src/lib.rt:31:1
 returns-2 : tie.Need-returns-2
 returns-2 c =
     let a = c .before .before .before .before .before .before .args in

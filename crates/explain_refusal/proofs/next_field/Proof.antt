@@ -6,17 +6,10 @@ use Rattle.explain_spec.specs.Refusal.{others}
 use borrow.Author.Needs.{needs}
 use Rattle.explain_refusal.proofs.next_field.Statement.{statement}
 use Rattle.explain_refusal.proofs.next_field.Tie as tie
-use Rattle.explain_refusal.proofs.next_field.Reads as reads
-use Rattle.explain_refusal.proofs.next_field.Lts as lts
-use Rattle.base_text.proofs.field_end.Reads as field-end-reads
 
--- src/lib.rt:25:9
 returns : tie.Need-returns
 returns c = rw (parts-past 9 (c .before .before .args .line .now) (c .before .before .args .from) (c .if1 .taken))
 
--- src/lib.rt:27:5
--- src/lib.rt:27:5
--- src/lib.rt:21:1
 returns-2 : tie.Need-returns-2
 returns-2 c =
     let a = c .before .before .before .args in

@@ -1,33 +1,16 @@
-use mathlib.Core.Path.{_∙_, sym}
+use mathlib.Core.Path.{sym}
 use borrow.Author.Needs.{needs}
 use Rattle.explain_refusal.proofs.three_or_four.Statement.{statement}
 use Rattle.explain_refusal.proofs.three_or_four.Tie as tie
-use Rattle.explain_refusal.proofs.three_or_four.Reads as reads
-use Rattle.explain_refusal.proofs.three_or_four.Lts as lts
-use Rattle.explain_refusal.proofs.first_number.Reads as first-number-reads
-use Rattle.explain_refusal.proofs.is_closed.Reads as is-closed-reads
-use Rattle.explain_refusal.proofs.next_field.Reads as next-field-reads
-use Rattle.explain_refusal.proofs.no_refusal.Reads as no-refusal-reads
-use Rattle.explain_refusal.proofs.refusal_of.Reads as refusal-of-reads
 
--- src/lib.rt:117:8
--- src/lib.rt:122:9
--- src/lib.rt:122:9
 returns : tie.Need-returns
 returns c = rw (sym (c .before .before .is-closed .ensures), c .before .if1 .taken) (c .refusal-of .ensures)
 
--- src/lib.rt:124:9
--- src/lib.rt:125:8
--- src/lib.rt:126:42
--- src/lib.rt:126:9
--- src/lib.rt:126:9
 returns-2 : tie.Need-returns-2
 returns-2 c =
     rw (sym (c .before .before .before .before .before .before .is-closed .ensures), c .before .before .before .before .before .if1 .left, sym (c .before .before .before .before .next-field .ensures), sym (c .before .before .before .is-closed2 .ensures), c .before .before .if2 .taken, sym (c .before .first-number .ensures))
     (c .refusal-of2 .ensures)
 
--- src/lib.rt:128:5
--- src/lib.rt:114:1
 returns-3 : tie.Need-returns-3
 returns-3 c =
     rw (sym (c .before .before .before .before .before .is-closed .ensures), c .before .before .before .before .if1 .left, sym (c .before .before .before .next-field .ensures), sym (c .before .before .is-closed2 .ensures), c .before .if2 .left)
