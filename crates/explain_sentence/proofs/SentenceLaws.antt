@@ -22,8 +22,22 @@ module _ {rows ss : List (List ℕ)} (e : rows ≡ [] ∷ ss) (n : ℕ) where
   pub row-known : not (isNone (getD rows n [])) ≡ not (isNone (rowAt ss n))
   row-known = ap (λ (t : List ℕ). not (isNone t)) row-same
 
-pub row-room : {rows : List (List ℕ)} (ss : List (List ℕ)) → T (allShort 180 ([] ∷ ss)) → rows ≡ [] ∷ ss → (n : ℕ) → length (getD rows n []) ≤ 180
+row-room : {rows : List (List ℕ)} (ss : List (List ℕ)) → T (allShort 180 ([] ∷ ss)) → rows ≡ [] ∷ ss → (n : ℕ) → length (getD rows n []) ≤ 180
 row-room {rows} ss t e n = subst (λ (rs : List (List ℕ)). length (getD rs n []) ≤ 180) (sym e) (row-short 180 ([] ∷ ss) (T-true (allShort 180 ([] ∷ ss)) t) n)
+
+-- the rows of each table have room, by a computed test
+module _ {rows : List (List ℕ)} where
+  pub line-room : rows ≡ [] ∷ lineTexts → (n : ℕ) → length (getD rows n []) ≤ 180
+  line-room = row-room lineTexts tt
+
+  pub sheet-room : rows ≡ [] ∷ sheetTexts → (n : ℕ) → length (getD rows n []) ≤ 180
+  sheet-room = row-room sheetTexts tt
+
+  pub field-room : rows ≡ [] ∷ fieldTexts → (n : ℕ) → length (getD rows n []) ≤ 180
+  field-room = row-room fieldTexts tt
+
+  pub reason-room : rows ≡ [] ∷ reasonTexts → (n : ℕ) → length (getD rows n []) ≤ 180
+  reason-room = row-room reasonTexts tt
 
 module _ (r : Refusal) where
   pub wrong-outside : isOutside r ≡ true → wrongOf r ≡ rowAt sheetTexts (r .number)

@@ -1,32 +1,32 @@
 use mathlib.Core.Path.{sym, ap, _∙_}
 use native.Mathlib.Omega.{arith}
 use Rattle.base_text.specs.WroteLaws.{wrote-none}
-use Rattle.explain_spec.specs.Sentence.{filled, fieldTexts, reasonTexts}
+use Rattle.explain_spec.specs.Sentence.{filled}
 use Rattle.explain_sentence.proofs.Laws.{wrote-as}
-use Rattle.explain_sentence.proofs.SentenceLaws.{row-same, row-room, detail-field, detail-reason, detail-none}
+use Rattle.explain_sentence.proofs.SentenceLaws.{row-same, field-room, reason-room, detail-field, detail-reason, detail-none}
 use borrow.Author.Needs.{needs}
 use Rattle.explain_sentence.proofs.put_detail.Statement.{statement}
 use Rattle.explain_sentence.proofs.put_detail.Tie as tie
 
 put-row-requires : tie.Need-put-row-requires
-put-row-requires c κs = omega (arith, row-room fieldTexts tt (c .before .before .field-texts .ensures .0) (c .before .before .before .before .before .before .args .r .detail))
+put-row-requires c κs = omega (arith, field-room (c .before .before .field-texts .ensures .0) (c .before .before .before .before .before .before .args .r .detail))
 
 returns : tie.Need-returns
 returns c =
     let r = c .before .before .before .before .before .before .before .before .before .args .r in
     let e = c .before .before .before .before .before .field-texts .ensures .0 in
     let w = c .before .before .put-row .ensures in
-    (wrote-as (ap (filled r) (detail-field r (c .before .before .before .before .before .before .if1 .taken) ∙ sym (row-same e (r .detail)))) (w .0), omega (arith, w .1, row-room fieldTexts tt e (r .detail)))
+    (wrote-as (ap (filled r) (detail-field r (c .before .before .before .before .before .before .if1 .taken) ∙ sym (row-same e (r .detail)))) (w .0), omega (arith, w .1, field-room e (r .detail)))
 
 put-row-requires-2 : tie.Need-put-row-requires-2
-put-row-requires-2 c κs = omega (arith, row-room reasonTexts tt (c .before .before .reason-texts .ensures .0) (c .before .before .before .before .before .before .before .before .args .r .detail))
+put-row-requires-2 c κs = omega (arith, reason-room (c .before .before .reason-texts .ensures .0) (c .before .before .before .before .before .before .before .before .args .r .detail))
 
 returns-2 : tie.Need-returns-2
 returns-2 c =
     let r = c .before .before .before .before .before .before .before .before .before .before .before .args .r in
     let e = c .before .before .before .before .before .reason-texts .ensures .0 in
     let w = c .before .before .put-row2 .ensures in
-    (wrote-as (ap (filled r) (detail-reason r (c .before .before .before .before .before .before .before .before .if1 .left) (c .before .before .before .before .before .before .if2 .taken) ∙ sym (row-same e (r .detail)))) (w .0), omega (arith, w .1, row-room reasonTexts tt e (r .detail)))
+    (wrote-as (ap (filled r) (detail-reason r (c .before .before .before .before .before .before .before .before .if1 .left) (c .before .before .before .before .before .before .if2 .taken) ∙ sym (row-same e (r .detail)))) (w .0), omega (arith, w .1, reason-room e (r .detail)))
 
 returns-3 : tie.Need-returns-3
 returns-3 c =
