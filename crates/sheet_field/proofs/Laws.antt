@@ -14,7 +14,7 @@ use Rattle.base_text.specs.NumberLaws.{value-grows}
 use Rattle.sheet_spec.specs.declared.Kind.the-variants as kind
 use Rattle.sheet_tokens.specs.declared.Value.the-variants as value
 use Rattle.sheet_spec.specs.Line.{label, invalid, equal, placeFrom, asLabel, asNumber, token}
-use Rattle.sheet_tokens.specs.Entries.{capped, valueOf}
+use Rattle.sheet_tokens.specs.Values.{capped, valueOf}
 use Rattle.base_facts.specs.Tests as facts
 use Rattle.sheet_field.specs.LineNumber.{lineAfter}
 

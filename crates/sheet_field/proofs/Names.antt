@@ -14,7 +14,7 @@ use Rattle.sheet_spec.specs.Names.{bytes, namesOf}
 use Rattle.sheet_spec.specs.Line.{literal, invalid, equal, isNone, placeFrom, asVariant}
 use Rattle.sheet_tokens.specs.declared.Value.{Value}
 use Rattle.sheet_tokens.specs.declared.Value.the-variants as value
-use Rattle.sheet_tokens.specs.Entries.{valueOf}
+use Rattle.sheet_tokens.specs.Values.{valueOf}
 use Rattle.sheet_facts.specs.Facts.{equal-is, equal-refl}
 use Rattle.base_facts.specs.Tests.{Eq, same, other, eq?, and-true, true-not-false, ltb-is, leb-is}
 use Rattle.sheet_field.specs.Place.{keyOf, isShort, keyPlace, shortPlace, longFrom, longPlace, lengthFrom, ofLength, placeValue}

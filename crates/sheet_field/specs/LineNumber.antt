@@ -5,7 +5,7 @@ use Prim.Native.Nat.{ℕ}
 use Rattle.base_spec.specs.Number.{allDigits, valueFrom}
 use Rattle.sheet_tokens.specs.declared.Value.{Value}
 use Rattle.sheet_tokens.specs.declared.Value.the-variants as value
-use Rattle.sheet_tokens.specs.Entries.{capped}
+use Rattle.sheet_tokens.specs.Values.{capped}
 
 -- after digits that write a
 abbrev pub lineAfter : ℕ → List ℕ → Value

@@ -3,8 +3,8 @@ ghost use mathlib.Core.Path.{_≡_};
 ghost use Rattle.base_spec.specs.Number.{numberOf};
 ghost use Rattle.sheet_spec.specs.Line.{asNumber, asLabel, asVariant, token};
 ghost use Rattle.sheet_spec.specs.Line as line;
-ghost use Rattle.sheet_tokens.specs.Entries.{valueOf};
-ghost use Rattle.sheet_tokens.specs.Entries as entries;
+ghost use Rattle.sheet_tokens.specs.Values.{valueOf};
+ghost use Rattle.sheet_tokens.specs.Values as values;
 ghost use Rattle.sheet_field.specs.LineNumber.{lineAfter};
 ghost use Rattle.sheet_field.specs.Place.{placeValue};
 use crate::long::long_place;
@@ -54,7 +54,7 @@ fn number(f: &[u8]) -> Value
 
 // A line's number, 4,097 where it is more than 4,096.
 fn capped(n: u64) -> u64
-    ensures { λ r. ⌜ r ≡ entries.capped n ⌝ }
+    ensures { λ r. ⌜ r ≡ values.capped n ⌝ }
 {
     if n <= 4096 { n } else { 4097 }
 }

@@ -2,4 +2,3 @@ pub mod Packed
 pub mod Weight
 pub mod Next
 pub mod NextLaws
-pub mod Few

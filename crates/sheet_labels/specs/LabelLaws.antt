@@ -1,5 +1,5 @@
 -- What the values of a line's fields say is what the line says. Assumes nothing.
-use Prim.Native.Nat.{ℕ, zero, suc, pred, _≤_, _<_}
+use Prim.Native.Nat.{ℕ, zero, suc, _≤_, _<_}
 use mathlib.Core.Path.{_≡_, refl, sym, ap, _∙_}
 use mathlib.Core.Bool.{Bool, true, false, cond, _&&_, _||_}
 use mathlib.Core.List.{List, [], _∷_, _++_, map}
@@ -7,18 +7,17 @@ use mathlib.Core.Option.{Option, none, some, Option·getD}
 use native.Mathlib.Omega.{arith}
 use lib.Dec.{leb}
 use lib.ListN.{length, take, set, getD, length-map, List·getD-eq-default}
-use lib.IntN.{ℤ, pos}
+use lib.IntN.{pos}
 use borrow.Author.Tests.{le-leb, lt-leb, leb-false}
 use Rattle.base_facts.specs.Lists.{pad, map-more}
 use Rattle.base_facts.specs.Tests.{cond-true}
 use Rattle.base_spec.specs.Signed.{minus}
-use Rattle.numeric_spec.specs.declared.Built.{Built}
 use Rattle.numeric_spec.specs.Build.{builtOf}
 use Rattle.numeric_places.specs.declared.Numbers.{Numbers}
 use Rattle.numeric_places.specs.Places.{signedFrom, numbersHeld, builtFrom}
-use Rattle.sheet_spec.specs.Line.{Token, literal, label, invalid, Parsed, says, no}
-use Rattle.sheet_spec.specs.Made.{numberAs, isSome, resolves, resolvesAll, resolvesIn, builtAs, ofLines}
-use Rattle.sheet_tokens.specs.Entries.{capped, valueOf}
+use Rattle.sheet_spec.specs.Line.{Token, literal, label, invalid, says}
+use Rattle.sheet_spec.specs.Made.{numberAs, isSome, resolves, resolvesAll, builtAs, ofLines}
+use Rattle.sheet_tokens.specs.Values.{capped, valueOf}
 use Rattle.sheet_labels.specs.Labels.{addressIn, numberIn, isNegative, isLabel, namesLine, listed, labelledAll}
 
 -- by whether a number is above 4,096

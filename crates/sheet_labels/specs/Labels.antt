@@ -9,7 +9,7 @@ use Rattle.sheet_spec.specs.Line.{Token, Parsed, says, no}
 use Rattle.sheet_spec.specs.Made.{ofLines}
 use Rattle.sheet_tokens.specs.declared.Value.{Value}
 use Rattle.sheet_tokens.specs.declared.Value.the-variants as value
-use Rattle.sheet_tokens.specs.Entries.{valueOf}
+use Rattle.sheet_tokens.specs.Values.{valueOf}
 
 -- the address of line k, 0 where there is none
 abbrev pub addressIn : List ℕ → ℕ → ℕ

@@ -22,7 +22,7 @@ use Rattle.sheet_spec.specs.Line.{Token, literal, label, invalid, token, Parsed
 use Rattle.sheet_spec.specs.Made.{resolvesAll, builtAs, ofLines}
 use Rattle.sheet_spec.specs.Spell.{Suits}
 use Rattle.sheet_facts.specs.Fields.{Sorted, of-number, of-target, of-place, of-variant, sorted, token-suits, suits-some}
-use Rattle.sheet_tokens.specs.Entries.{valueOf}
+use Rattle.sheet_tokens.specs.Values.{valueOf}
 use Rattle.sheet_kinds.specs.Packed.{packed, kindAt}
 use Rattle.sheet_kinds.specs.Weight.{room, most, total, room-next, most-next, length-room}
 use Rattle.sheet_kinds.specs.Next.{kindsAfter}

@@ -23,7 +23,7 @@ use Rattle.sheet_spec.specs.Translate.{Outcome, inOrder, refused, inTurn, sizeO
 use Rattle.sheet_facts.specs.Fields.{Sorted, of-number, of-target, of-place, of-variant, sorted}
 use Rattle.sheet_facts.specs.Lines.{by-line}
 use Rattle.sheet_facts.specs.Listing.{both-in-order, in-order-zero}
-use Rattle.sheet_tokens.specs.Entries.{valueOf}
+use Rattle.sheet_tokens.specs.Values.{valueOf}
 use Rattle.sheet_labels.specs.Labels as labels
 use Rattle.sheet_labels.specs.Labels.{listed, labelledAll, labelledIn}
 use Rattle.sheet_passes.specs.PassLaws.{sized-least}

@@ -18,7 +18,7 @@ use Rattle.sheet_spec.specs.declared.Listed.{Listed}
 use Rattle.isa.specs.declared.Encoded.{Encoded}
 use Rattle.sheet_spec.specs.Line.{no, lineOf}
 use Rattle.sheet_spec.specs.Made.{isSome, resolvesIn, ofLines}
-use Rattle.sheet_spec.specs.Sheet.{feeds, isSheet, startLine, startOf, sizedOf, sizesOf, halfOf, Sheet, startIn, sheetIn, lineCount, total, wordCount, endOf, addresses, addressOfLine, resolved, encoded, allWords}
+use Rattle.sheet_spec.specs.Sheet.{feeds, isSheet, startLine, startOf, sizedOf, sizesOf, Sheet, startIn, sheetIn, lineCount, wordCount, endOf, addresses, addressOfLine, resolved, encoded, allWords}
 use Rattle.sheet_spec.specs.Translate.{Outcome, inOrder, refused, andThen, require, asOutcome, opening, sizing, closing, encoding, sheetOutcome, outcomeAt, outcomeOf, listedAs, over}
 use Rattle.sheet_spec.specs.Promises.{Translated}
 use Rattle.sheet_facts.specs.Listing.{as-in-order, as-refused, over-length}

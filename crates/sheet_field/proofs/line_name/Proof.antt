@@ -1,5 +1,5 @@
 use mathlib.Core.Path.{sym, ap, _∙_}
-use Rattle.sheet_tokens.specs.Entries.{valueOf}
+use Rattle.sheet_tokens.specs.Values.{valueOf}
 use Rattle.sheet_field.proofs.Laws.{name-short, name-other, name-zeros, name-digits}
 use borrow.Author.Needs.{needs}
 use Rattle.sheet_field.proofs.line_name.Statement.{statement}

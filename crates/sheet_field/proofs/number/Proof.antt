@@ -1,7 +1,7 @@
 use mathlib.Core.Path.{sym, ap, _∙_}
 use Rattle.base_spec.specs.declared.Number.{Number}
 use Rattle.sheet_spec.specs.Line.{asNumber}
-use Rattle.sheet_tokens.specs.Entries.{valueOf}
+use Rattle.sheet_tokens.specs.Values.{valueOf}
 use borrow.Author.Needs.{needs}
 use Rattle.sheet_field.proofs.number.Statement.{statement}
 use Rattle.sheet_field.proofs.number.Tie as tie

@@ -1,5 +1,5 @@
 use mathlib.Core.Path.{sym, ap, _∙_}
-use Rattle.sheet_tokens.specs.Entries.{valueOf}
+use Rattle.sheet_tokens.specs.Values.{valueOf}
 use Rattle.sheet_field.proofs.Laws.{token-none, token-name, token-number}
 use borrow.Author.Needs.{needs}
 use Rattle.sheet_field.proofs.place.Statement.{statement}

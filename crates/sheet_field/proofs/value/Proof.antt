@@ -1,4 +1,4 @@
-use Rattle.sheet_tokens.specs.Entries.{valueOf}
+use Rattle.sheet_tokens.specs.Values.{valueOf}
 use mathlib.Core.Path.{sym, ap, _∙_}
 use borrow.Author.Needs.{needs}
 use Rattle.sheet_field.proofs.value.Statement.{statement}

@@ -1,7 +1,7 @@
 use Rattle.sheet_field.proofs.Names.{by-key, by-length, lent-keyed, no-zero}
 use Rattle.sheet_field.proofs.Laws.{place-none}
 use Rattle.sheet_field.specs.Place.{shortPlace, placeValue}
-use Rattle.sheet_tokens.specs.Entries.{valueOf}
+use Rattle.sheet_tokens.specs.Values.{valueOf}
 use Rattle.sheet_spec.specs.Names.{bytes, namesOf}
 use lib.ListN.{length}
 use Prim.Native.Nat.{_-_, _<_}

@@ -3,7 +3,6 @@ use mathlib.Core.Path.{sym, _∙_}
 use native.Mathlib.Omega.{arith}
 use lib.ListN.{length}
 use borrow.Author.Tests.{not-true, not-false}
-use borrow.Author.Needs.{needs}
 use Rattle.sheet_line.specs.Reading.{Reading, reading-start, reading-over, reading-place, reading-whole, reading-end, reading-short, next-fits, reading-none, reading-on}
 use Rattle.sheet_line.proofs.read_line.Statement.{statement}
 use Rattle.sheet_line.proofs.read_line.Tie as tie

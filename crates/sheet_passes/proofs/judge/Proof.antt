@@ -1,8 +1,6 @@
-use Prim.Native.Nat.{_≤_}
 use mathlib.Core.Path.{_∙_}
 use native.Mathlib.Omega.{arith}
 use borrow.Author.Needs.{needs}
-use borrow.Author.Tests.{not-true, not-false}
 use Rattle.sheet_passes.proofs.Laws.{judged-labelled, judged-unlabelled}
 use Rattle.sheet_passes.proofs.judge.Statement.{statement}
 use Rattle.sheet_passes.proofs.judge.Tie as tie

@@ -4,9 +4,9 @@ use std::collections::HashSet;
 use std::io::{self, Write};
 use std::ops::RangeInclusive;
 
-use super::cases::{ends, instructions, large, lines, order, reach};
+use super::cases::{ends, instructions, large, lines, order, reach, shown};
 use super::generate::record;
-use super::manual;
+use super::manual::{self, Example};
 use super::record::Record;
 use crate::random::Random;
 
@@ -23,9 +23,8 @@ pub fn write(seed: u64, output: &mut impl Write) -> io::Result<()> {
 /// The records, none twice.
 pub fn records(seed: u64) -> Vec<Record> {
     let mut random = Random::new(seed);
-    let worked = manual::examples().into_iter();
     let all = [
-        worked.map(|example| example.record).collect(),
+        worked(manual::examples()),
         instructions::all(&mut random),
         order::all(),
         lines::all(),
@@ -33,11 +32,17 @@ pub fn records(seed: u64) -> Vec<Record> {
         reach::all(),
         large::all(),
         sampled(&mut random),
+        worked(manual::guide()),
+        shown::all(),
     ];
     let mut seen = HashSet::new();
     let mut all = all.concat();
     all.retain(|record| seen.insert(record.clone()));
     all
+}
+
+fn worked(examples: Vec<Example>) -> Vec<Record> {
+    examples.into_iter().map(|example| example.record).collect()
 }
 
 fn sampled(random: &mut Random) -> Vec<Record> {

@@ -1,10 +1,11 @@
-//! Worked sheets written down by hand.
+//! Worked sheets written down by hand, and those of the guide.
 
 use super::answer::answer;
 use super::record::Record;
 use crate::manual::{count_different, Outcome};
 
 const SHEETS: &str = include_str!("../../sheets.txt");
+const GUIDE: &str = include_str!("../../guide.txt");
 
 pub struct Example {
     pub what: &'static str,
@@ -12,9 +13,19 @@ pub struct Example {
     pub answer: String,
 }
 
-/// The examples in order; a line that begins with `;` is a remark.
+/// The worked sheets in order.
 pub fn examples() -> Vec<Example> {
-    let lines = SHEETS.lines().filter(|line| !line.starts_with(';'));
+    read(SHEETS)
+}
+
+/// The sheets of the guide, docs/SHEET.md, in order.
+pub fn guide() -> Vec<Example> {
+    read(GUIDE)
+}
+
+/// The examples of a text; a line that begins with `;` is a remark.
+fn read(text: &'static str) -> Vec<Example> {
+    let lines = text.lines().filter(|line| !line.starts_with(';'));
     lines.map(example).collect()
 }
 
@@ -43,7 +54,8 @@ fn spelled_out(text: &str) -> String {
 
 /// Checks every example; gives how many differ.
 pub fn check() -> usize {
-    let outcomes = examples().into_iter().map(|example| Outcome {
+    let outcomes = examples().into_iter().chain(guide());
+    let outcomes = outcomes.map(|example| Outcome {
         text: example.what,
         answer: answer(&example.record),
         by_hand: example.answer,

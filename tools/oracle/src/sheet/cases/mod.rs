@@ -1,4 +1,4 @@
-//! The sheets of the stored list that are made by rule.
+//! The sheets of the stored list that are made by rule, and those of examples/.
 
 pub mod ends;
 pub mod instructions;
@@ -6,6 +6,7 @@ pub mod large;
 pub mod lines;
 pub mod order;
 pub mod reach;
+pub mod shown;
 
 use super::record::Record;
 

@@ -1,0 +1,141 @@
+// The texts of the table: what is wrong, the fields and the reasons. A row more is a text more.
+ghost use mathlib.Core.Path.{_≡_};
+ghost use mathlib.Core.List.{[], _∷_};
+ghost use lib.ListN.{length};
+ghost use Rattle.base_spec.specs.Parts.{fields};
+ghost use Rattle.explain_spec.specs.Sentence.{lineTexts, sheetTexts, fieldTexts, reasonTexts};
+
+// What is wrong with a line of a sheet, or with what is printed without a line.
+pub fn line_texts() -> [u8; 409]
+    ensures { λ r. ⌜ (fields r ≡ [] ∷ lineTexts) × (409 ≡ length r) ⌝ }
+{
+    *b"\
+          \tno such instruction: a base above 8, a full extension word that is not canonical, or a line A or F word outside its line\
+          \tthe value # does not fit field &, \
+          \tno encoding (reason &): \
+          \tfewer bytes are lent than the size\
+          \tthe words end before an instruction does\
+          \tthe words begin with no instruction, and no instruction begins with them\
+          \tnot in the form\
+          \t`@` names no instruction line\
+          \t\
+          \tthe input is longer than 1 MiB\
+          \t"
+}
+
+// What is wrong with a sheet outside its lines.
+pub fn sheet_texts() -> [u8; 295]
+    ensures { λ r. ⌜ (fields r ≡ [] ∷ sheetTexts) × (295 ≡ length r) ⌝ }
+{
+    *b"\
+          \t\
+          \t\
+          \t\
+          \t\
+          \t\
+          \t\
+          \tthe START line is not in the form\
+          \t\
+          \tthe start is odd, or the end is above 2^32\
+          \tthe sheet is empty, is longer than 65,536 bytes, does not end in a line feed, or does not have 1 to 4,096 instruction lines\
+          \tthe sheet has more lines than the scratch has places, or more words than the image has"
+}
+
+// The fields of 2.
+pub fn field_texts() -> [u8; 1253]
+    ensures { λ r. ⌜ (fields r ≡ [] ∷ fieldTexts) × (1253 ≡ length r) ⌝ }
+{
+    *b"\
+          \tthe displacement byte of a short branch, which holds -128 to 127, not 0\
+          \tthe displacement word of a word branch or a DBcc, which holds -32768 to 32767\
+          \tthe displacement word of d16(PC), which holds -32768 to 32767\
+          \tthe displacement byte of d8(PC,Xn), which holds -128 to 127\
+          \tthe displacement word of d16(An), and of MOVEP, which holds -32768 to 32767\
+          \tthe displacement byte of d8(An,Xn), which holds -128 to 127\
+          \tan absolute short address, read as signed, which holds -32768 to 32767\
+          \tan absolute long address, which holds 0 to 4294967295\
+          \tan immediate, which holds 0 to 255, 65535 or 4294967295, by its size\
+          \tthe count of ADDQ, SUBQ and a shift by an immediate, which holds 1 to 8\
+          \tthe vector of TRAP, which holds 0 to 15\
+          \ta static bit number, which holds 0 to 255\
+          \tthe displacement of LINK, which holds -32768 to 32767\
+          \ta register number, which holds 0 to 7\
+          \tthe displacement of RTD, which holds -32768 to 32767\
+          \tthe vector of BKPT, which holds 0 to 7\
+          \ta base displacement written in a word, which holds -32768 to 32767\
+          \tan outer displacement written in a word, which holds -32768 to 32767\
+          \ta displacement written as none, which holds 0\
+          \tthe offset or the width of a bit field, or its register, which holds 0 to 31, a register 0 to 7; the larger of the two is reported"
+}
+
+// The reasons of 3.
+pub fn reason_texts() -> [u8; 2785]
+    ensures { λ r. ⌜ (fields r ≡ [] ∷ reasonTexts) × (2785 ≡ length r) ⌝ }
+{
+    *b"\
+          \tthe register there is a data register\
+          \tthe register there is an address register\
+          \tthe operand there is a data register\
+          \tan index register is a word or a long\
+          \t`movep` reaches memory through `d16(An)` only\
+          \t`movep` moves a word or a long\
+          \tan address register is never read a byte at a time\
+          \t`move` reads any operand\
+          \t`move` writes a data alterable operand; into an address register it is `movea`\
+          \t`movea` moves a word or a long\
+          \t`movea` reads any operand\
+          \t`tst` reads any operand\
+          \t`move sr` writes a data alterable operand\
+          \t`move ccr` writes a data alterable operand\
+          \t`move` into `ccr` reads a data operand\
+          \t`move` into `sr` reads a data operand\
+          \t`nbcd` writes a data alterable operand\
+          \t`pea` takes a control operand\
+          \t`ext` widens a byte to a word or a long, or a word to a long\
+          \t`movem` moves words or longs\
+          \t`movem` writes registers to a control alterable operand or `-(An)`\
+          \t`movem` reads registers from a control operand or `(An)+`\
+          \t`tas` writes a data alterable operand\
+          \t`moves` takes a memory alterable operand\
+          \t`jsr` takes a control operand\
+          \t`jmp` takes a control operand\
+          \t`chk` reads a data operand\
+          \ta multiply reads a data operand\
+          \ta divide reads a data operand\
+          \t`cas` takes a memory alterable operand\
+          \t`cas2` compares words or longs\
+          \ta bit field written is in a data register or a control alterable operand\
+          \ta bit field read is in a data register or a control operand\
+          \t`lea` takes a control operand\
+          \t`Scc` writes a data alterable operand\
+          \tthe conditions `t` and `f` of a branch are `bra` and `bsr`\
+          \t`suba` reads any operand\
+          \ta line A word begins with `$A`\
+          \t`cmp` reads any operand\
+          \t`cmpa` reads any operand\
+          \t`cmpm` compares two `(An)+` operands\
+          \t`eor` writes a data alterable operand\
+          \t`exg` of a data and an address register is written data register first\
+          \t`adda` reads any operand\
+          \ta line F word begins with `$F`\
+          \t`cmpi` compares with a data operand other than an immediate\
+          \tan immediate instruction writes a data alterable operand\
+          \t`pack` and `unpk` take two data registers or two `-(An)`\
+          \t`chk2` and `cmp2` read their bounds from a control operand\
+          \t`btst` reads a data operand\
+          \ta bit instruction writes a data alterable operand\
+          \ta static `btst` reads a data operand other than an immediate\
+          \ta bit number is a data register or an immediate\
+          \tthe instruction takes a data alterable operand\
+          \tan address register is never written a byte at a time\
+          \ta quick form writes an alterable operand\
+          \t`and` and `or` read a data operand\
+          \t`and` and `or` write a data register or memory; an immediate is `andi` or `ori`\
+          \t`add` and `sub` read any operand\
+          \t`add` and `sub` write a register or memory, from a data register\
+          \tan address register takes a word or a long\
+          \tthe extend group takes `Dy,Dx` or `-(Ay),-(Ax)`\
+          \ta shift count is a data register or 1 to 8\
+          \ta shift in memory shifts a word by one place\
+          \ta shift in memory writes a memory alterable operand"
+}

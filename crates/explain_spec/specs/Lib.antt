@@ -1,0 +1,4 @@
+pub mod Table
+pub mod Refusal
+pub mod Sentence
+pub mod Explained
