@@ -4,7 +4,7 @@ use mathlib.Core.Path.{_≡_, sym, ap, _∙_}
 use native.Mathlib.Omega.{arith}
 use Rattle.sheet_spec.specs.declared.Kind.{Kind}
 use Rattle.sheet_spec.specs.Grammar.{kindsOf}
-use Rattle.sheet_kinds.specs.Next.{below, above, kindsAfter}
+use Rattle.sheet_kinds.specs.Next.{below, kindsAfter}
 use Rattle.sheet_kinds.specs.NextLaws.{below-above, packed-small}
 use Rattle.sheet_kinds.specs.Weight.{fields-few}
 use Rattle.sheet_kinds.proofs.next.Statement.{statement}

@@ -1,20 +1,10 @@
 use borrow.Author.Needs.{needs}
 use Rattle.sheet_labels.proofs.number_in.Statement.{statement}
 use Rattle.sheet_labels.proofs.number_in.Tie as tie
-use Rattle.sheet_labels.proofs.number_in.Reads as reads
-use Rattle.sheet_labels.proofs.number_in.Lts as lts
-use Rattle.sheet_labels.proofs.address_in.Reads as address-in-reads
 
--- src/lib.rt:33:13
--- src/lib.rt:35:21
--- src/lib.rt:35:27
--- src/lib.rt:36:24
--- src/lib.rt:27:1
--- src/lib.rt:27:1
 returns-2 : tie.Need-returns-2
 returns-2 c = rw (c .address-in .ensures, c .before .before .v2 .given .1)
 
--- src/lib.rt:27:1
 pub number-in-spec : {M : Type 1} → statement M
 number-in-spec =
     tie.close
