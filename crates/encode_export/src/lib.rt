@@ -49,7 +49,7 @@ fn answered(e: Encoded) -> Answer
     }
 }
 
-fn answer(built: Built, address: u32) -> Answer
+fn placed(built: Built, address: u32) -> Answer
     ensures { λ r. ⌜ r ≡ answerFor built address ⌝ }
 {
     match built {
@@ -79,7 +79,7 @@ pub extern "C" fn encode_export_once(
         negative: *negative,
         magnitude: *magnitude,
     };
-    answer(numeric_build::build(numbers, 0), address)
+    placed(numeric_build::build(numbers, 0), address)
 }
 
 // The same at two addresses: built once, encoded twice.
@@ -99,7 +99,7 @@ pub extern "C" fn encode_export_twice(
         magnitude: *magnitude,
     };
     let built = numeric_build::build(numbers, 0);
-    let first = answer(built, address);
-    let second = answer(built, other);
+    let first = placed(built, address);
+    let second = placed(built, other);
     Answers { first, second }
 }
