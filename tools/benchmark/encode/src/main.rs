@@ -23,7 +23,7 @@ use export::{once, twice, Answer, Line};
 use machine::encode::encode;
 
 const USAGE: &str = "benchmark-encode LIST [ROUNDS | original | original-twice | once | twice | none]";
-const BATCHES: usize = 10;
+const BATCHES: usize = 100;
 
 type Pass = fn(&[Line]);
 
@@ -48,7 +48,7 @@ fn main() -> ExitCode {
             return ExitCode::FAILURE;
         }
     };
-    let what = arguments.get(1).map_or("20", String::as_str);
+    let what = arguments.get(1).map_or("2", String::as_str);
     if let Ok(rounds) = what.parse() {
         report(least(&accepted, rounds));
     } else if let Some((_, pass)) = PASSES.iter().find(|(name, _)| *name == what) {
@@ -136,7 +136,7 @@ fn ours_twice(lines: &[Line]) {
     }
 }
 
-/// Nanoseconds a line of each pass, in turn: the least of ten batches.
+/// Nanoseconds a line of each pass, in turn: the least of a hundred short batches.
 fn least(lines: &[Line], rounds: usize) -> [f64; PASSES.len()] {
     let mut least = [f64::INFINITY; PASSES.len()];
     for _ in 0..BATCHES {
