@@ -48,7 +48,7 @@ fn main() -> ExitCode {
             return ExitCode::FAILURE;
         }
     };
-    let what = arguments.get(1).map_or("2", String::as_str);
+    let what = arguments.get(1).map_or("10", String::as_str);
     if let Ok(rounds) = what.parse() {
         report(least(&accepted, rounds));
     } else if let Some((_, pass)) = PASSES.iter().find(|(name, _)| *name == what) {
@@ -136,7 +136,7 @@ fn ours_twice(lines: &[Line]) {
     }
 }
 
-/// Nanoseconds a line of each pass, in turn: the least of a hundred short batches.
+/// Nanoseconds a line of each pass, in turn: the least of a hundred batches.
 fn least(lines: &[Line], rounds: usize) -> [f64; PASSES.len()] {
     let mut least = [f64::INFINITY; PASSES.len()];
     for _ in 0..BATCHES {
