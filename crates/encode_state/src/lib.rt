@@ -1,6 +1,9 @@
 // The encoder's state: the words so far, or the first refusal. Once refused it stays as it is.
 ghost use mathlib.Core.Path.{_≡_};
-ghost use Prim.Native.Nat.{_<_, _%_};
+ghost use Prim.Native.Nat.{_+_, _<_, _%_};
+ghost use mathlib.Core.Bool.{cond};
+ghost use lib.Dec.{ltb, eqb};
+ghost use lib.ListN.{set, getD};
 ghost use Rattle.encode_state.specs.Encoder.{refused, marked, step, run, nextAddress, holding};
 ghost use mathlib.Core.List.{[]};
 ghost use Rattle.encode_spec.specs.Item as item;
@@ -21,13 +24,13 @@ pub use isa_values::code::to_memory;
 
 // The words of one instruction at an address. `size` does not check ranges.
 pub struct Encoder {
-    pub address: u32,
-    pub check: bool,
     pub words: [u16; 11],
     pub count: usize,
-    pub number: u8,
-    pub detail: u8,
     pub value: i64,
+    pub address: u32,
+    pub check: bool,
+    pub detail: u8,
+    pub number: u8,
 }
 
 // No words yet.
@@ -53,22 +56,71 @@ pub fn next(e: Encoder) -> u32
     std::num::wrapping_add_u32(e.address, 2 * n)
 }
 
-// One word more.
-pub fn word(e: Encoder, w: u16) -> Encoder
-    ensures { λ r. ⌜ r ≡ step e (item.word w) ⌝ }
+// The word at place k, once w stands at a place.
+fn word_at(words: [u16; 11], place: u16, w: u16, k: usize) -> u16
+    requires { ⌜ k < 11 ⌝ }
+    ensures { λ r. ⌜ r ≡ cond (eqb place k) w (getD words k 0) ⌝ }
+{
+    if place as usize == k { w } else { words[k] }
+}
+
+// The words with w at a place, none past the last.
+fn put(words: [u16; 11], place: u16, w: u16) -> [u16; 11]
+    ensures { λ r. ⌜ r ≡ cond (ltb place 11) (set words place w) words ⌝ }
+{
+    [
+        word_at(words, place, w, 0),
+        word_at(words, place, w, 1),
+        word_at(words, place, w, 2),
+        word_at(words, place, w, 3),
+        word_at(words, place, w, 4),
+        word_at(words, place, w, 5),
+        word_at(words, place, w, 6),
+        word_at(words, place, w, 7),
+        word_at(words, place, w, 8),
+        word_at(words, place, w, 9),
+        word_at(words, place, w, 10),
+    ]
+}
+
+// The place of the next word, 11 where there is none.
+fn place(e: Encoder) -> u16
+    ensures { λ r. ⌜ r ≡ cond (eqb (e .number) 0) (cond (ltb (e .count) 11) (e .count) 11) 11 ⌝ }
 {
     let at = e.count;
     if e.number == 0 {
-        if at < 11 {
-            let mut n = e;
-            n.words[at] = w;
-            n.count = at + 1;
-            n
-        } else {
-            e
-        }
+        if at < 11 { at as u16 } else { 11 }
     } else {
-        e
+        11
+    }
+}
+
+// The count after a word at a place.
+fn counted(place: u16, count: usize) -> usize
+    ensures { λ r. ⌜ r ≡ cond (ltb place 11) (place + 1) count ⌝ }
+{
+    if place < 11 {
+        place as usize + 1
+    } else {
+        count
+    }
+}
+
+// One word more. Each place is written anew: after a store at one place the next copy of the state would wait for it.
+pub fn word(e: Encoder, w: u16) -> Encoder
+    ensures { λ r. ⌜ r ≡ step e (item.word w) ⌝ }
+{
+    let at = place(e);
+    let before = e.words;
+    let words = put(before, at, w);
+    Encoder {
+        words,
+        count: counted(at, e.count),
+        value: e.value,
+        address: e.address,
+        check: e.check,
+        detail: e.detail,
+        number: e.number,
     }
 }
 

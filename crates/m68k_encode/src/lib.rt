@@ -19,7 +19,19 @@ pub fn finish(e: Encoder) -> Encoded
     if e.number == 0 {
         let words = e.words;
         Encoded {
-            words,
+            words: [
+                words[0],
+                words[1],
+                words[2],
+                words[3],
+                words[4],
+                words[5],
+                words[6],
+                words[7],
+                words[8],
+                words[9],
+                words[10],
+            ],
             count: e.count,
             number: 0,
             detail: 0,

@@ -1,0 +1,13 @@
+use borrow.Author.Needs.{needs}
+use Rattle.encode_state.proofs.counted.Statement.{statement}
+use Rattle.encode_state.proofs.counted.Tie as tie
+use borrow.Author.Tests.{lt-ltb, le-ltb}
+
+returns : tie.Need-returns
+returns c = rw (lt-ltb _ _ (c .if1 .taken))
+
+returns-2 : tie.Need-returns-2
+returns-2 c = rw (le-ltb _ _ (c .if1 .left))
+
+pub counted-spec : {M : Type 1} → statement M
+counted-spec = tie.close (tie.spec (λ c. search needs) returns returns-2)
