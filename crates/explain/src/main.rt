@@ -7,7 +7,7 @@ ghost use Rattle.io.specs.Counts.{Counts};
 ghost use Rattle.explain_lines.specs.Pieces.{Kept};
 use explain_lines::Cut;
 
-// A text of 65,536 bytes, and the sentence of a line.
+// 65,536 bytes, and room for a line and its sentence (73,728).
 fn output_places() -> [u8; 139264]
     ensures { λ r. ⌜ (r ≡ replicate 139264 0) × (139264 ≡ length r) ⌝ }
 {

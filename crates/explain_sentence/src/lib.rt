@@ -28,8 +28,8 @@ fn has_wrong(r: Refusal) -> bool
     rows::is_row(&table::line_texts(), r.number)
 }
 
-// Whether the table has the field of 2, the reason of 3.
-fn has_detail(r: Refusal) -> bool
+// Whether the table has the field of 2 and the reason of 3; no other number wants one.
+fn knows_detail(r: Refusal) -> bool
     ensures { λ b. ⌜ b ≡ not (hasDetail r && isNone (detailOf r)) ⌝ }
 {
     if r.number == 2 {
@@ -44,7 +44,7 @@ fn has_detail(r: Refusal) -> bool
 fn is_known(r: Refusal) -> bool
     ensures { λ b. ⌜ b ≡ isKnown r ⌝ }
 {
-    has_wrong(r) & has_detail(r)
+    has_wrong(r) & knows_detail(r)
 }
 
 // `line`, its number and a colon.

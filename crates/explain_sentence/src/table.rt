@@ -6,17 +6,17 @@ ghost use Rattle.base_spec.specs.Parts.{fields};
 ghost use Rattle.explain_spec.specs.Sentence.{lineTexts, sheetTexts, fieldTexts, reasonTexts};
 
 // What is wrong with a line of a sheet, or with what is printed without a line.
-pub fn line_texts() -> [u8; 409]
-    ensures { λ r. ⌜ (fields r ≡ [] ∷ lineTexts) × (409 ≡ length r) ⌝ }
+pub fn line_texts() -> [u8; 548]
+    ensures { λ r. ⌜ (fields r ≡ [] ∷ lineTexts) × (548 ≡ length r) ⌝ }
 {
     *b"\
-          \tno such instruction: a base above 8, a full extension word that is not canonical, or a line A or F word outside its line\
+          \tno such instruction: an `Extended` base above 8, a full word there that is reserved or has another spelling, or a word outside 40960 to 45055 for LINEA, 61440 to 65535 for LINEF\
           \tthe value # does not fit field &, \
-          \tno encoding (reason &): \
+          \tno encoding, by this rule (reason &): \
           \tfewer bytes are lent than the size\
           \tthe words end before an instruction does\
           \tthe words begin with no instruction, and no instruction begins with them\
-          \tnot in the form\
+          \tnot in the form: a field that does not belong there, or a field too many or too few\
           \t`@` names no instruction line\
           \t\
           \tthe input is longer than 1 MiB\
@@ -24,8 +24,8 @@ pub fn line_texts() -> [u8; 409]
 }
 
 // What is wrong with a sheet outside its lines.
-pub fn sheet_texts() -> [u8; 295]
-    ensures { λ r. ⌜ (fields r ≡ [] ∷ sheetTexts) × (295 ≡ length r) ⌝ }
+pub fn sheet_texts() -> [u8; 387]
+    ensures { λ r. ⌜ (fields r ≡ [] ∷ sheetTexts) × (387 ≡ length r) ⌝ }
 {
     *b"\
           \t\
@@ -34,16 +34,16 @@ pub fn sheet_texts() -> [u8; 295]
           \t\
           \t\
           \t\
-          \tthe START line is not in the form\
+          \tthe START line is not in the form: `START`, a tab and an address from 0 to 4294967295\
           \t\
           \tthe start is odd, or the end is above 2^32\
           \tthe sheet is empty, is longer than 65,536 bytes, does not end in a line feed, or does not have 1 to 4,096 instruction lines\
-          \tthe sheet has more lines than the scratch has places, or more words than the image has"
+          \tthe sheet has more lines than places are lent (`sheet` lends 4,096), or more words than there is room for (`sheet` has 16,384)"
 }
 
 // The fields of 2.
-pub fn field_texts() -> [u8; 1253]
-    ensures { λ r. ⌜ (fields r ≡ [] ∷ fieldTexts) × (1253 ≡ length r) ⌝ }
+pub fn field_texts() -> [u8; 1480]
+    ensures { λ r. ⌜ (fields r ≡ [] ∷ fieldTexts) × (1480 ≡ length r) ⌝ }
 {
     *b"\
           \tthe displacement byte of a short branch, which holds -128 to 127, not 0\
@@ -52,20 +52,20 @@ pub fn field_texts() -> [u8; 1253]
           \tthe displacement byte of d8(PC,Xn), which holds -128 to 127\
           \tthe displacement word of d16(An), and of MOVEP, which holds -32768 to 32767\
           \tthe displacement byte of d8(An,Xn), which holds -128 to 127\
-          \tan absolute short address, read as signed, which holds -32768 to 32767\
-          \tan absolute long address, which holds 0 to 4294967295\
+          \tan absolute short address, read as signed, which holds -32768 to 32767, written with 4294967296 added where below 0\
+          \tan absolute address, which holds 0 to 4294967295 (a value from 2^63 on is shown below 0)\
           \tan immediate, which holds 0 to 255, 65535 or 4294967295, by its size\
           \tthe count of ADDQ, SUBQ and a shift by an immediate, which holds 1 to 8\
           \tthe vector of TRAP, which holds 0 to 15\
           \ta static bit number, which holds 0 to 255\
-          \tthe displacement of LINK, which holds -32768 to 32767\
+          \tthe displacement of LINK, read as signed, which holds -32768 to 32767, written with 4294967296 added where below 0\
           \ta register number, which holds 0 to 7\
-          \tthe displacement of RTD, which holds -32768 to 32767\
+          \tthe displacement of RTD, read as signed, which holds -32768 to 32767, written with 4294967296 added where below 0\
           \tthe vector of BKPT, which holds 0 to 7\
           \ta base displacement written in a word, which holds -32768 to 32767\
           \tan outer displacement written in a word, which holds -32768 to 32767\
           \ta displacement written as none, which holds 0\
-          \tthe offset or the width of a bit field, or its register, which holds 0 to 31, a register 0 to 7; the larger of the two is reported"
+          \tthe offset and the width of a bit field, of which the larger is reported even where the smaller is at fault, which holds 0 to 31 each, in a register 0 to 7"
 }
 
 // The reasons of 3.

@@ -6,17 +6,17 @@ use mathlib.Core.List.{List, [], _∷_}
 -- the field of 2 and the reason of 3 follow; an empty text is no row; in every text # stands for the value and & for the detail
 abbrev pub numberRows : List (String × String)
 numberRows =
-    ("no such instruction: a base above 8, a full extension word that is not canonical, or a line A or F word outside its line", "")
+    ("no such instruction: an `Extended` base above 8, a full word there that is reserved or has another spelling, or a word outside 40960 to 45055 for LINEA, 61440 to 65535 for LINEF", "")
     ∷ ("the value # does not fit field &, ", "")
-    ∷ ("no encoding (reason &): ", "")
+    ∷ ("no encoding, by this rule (reason &): ", "")
     ∷ ("fewer bytes are lent than the size", "")
     ∷ ("the words end before an instruction does", "")
     ∷ ("the words begin with no instruction, and no instruction begins with them", "")
-    ∷ ("not in the form", "the START line is not in the form")
+    ∷ ("not in the form: a field that does not belong there, or a field too many or too few", "the START line is not in the form: `START`, a tab and an address from 0 to 4294967295")
     ∷ ("`@` names no instruction line", "")
     ∷ ("", "the start is odd, or the end is above 2^32")
     ∷ ("the input is longer than 1 MiB", "the sheet is empty, is longer than 65,536 bytes, does not end in a line feed, or does not have 1 to 4,096 instruction lines")
-    ∷ ("", "the sheet has more lines than the scratch has places, or more words than the image has")
+    ∷ ("", "the sheet has more lines than places are lent (`sheet` lends 4,096), or more words than there is room for (`sheet` has 16,384)")
     ∷ []
 
 -- by the detail of 2: the field, and what it holds
@@ -28,20 +28,20 @@ fieldRows =
     ∷ ("the displacement byte of d8(PC,Xn)", "-128 to 127")
     ∷ ("the displacement word of d16(An), and of MOVEP", "-32768 to 32767")
     ∷ ("the displacement byte of d8(An,Xn)", "-128 to 127")
-    ∷ ("an absolute short address, read as signed", "-32768 to 32767")
-    ∷ ("an absolute long address", "0 to 4294967295")
+    ∷ ("an absolute short address, read as signed", "-32768 to 32767, written with 4294967296 added where below 0")
+    ∷ ("an absolute address", "0 to 4294967295 (a value from 2^63 on is shown below 0)")
     ∷ ("an immediate", "0 to 255, 65535 or 4294967295, by its size")
     ∷ ("the count of ADDQ, SUBQ and a shift by an immediate", "1 to 8")
     ∷ ("the vector of TRAP", "0 to 15")
     ∷ ("a static bit number", "0 to 255")
-    ∷ ("the displacement of LINK", "-32768 to 32767")
+    ∷ ("the displacement of LINK, read as signed", "-32768 to 32767, written with 4294967296 added where below 0")
     ∷ ("a register number", "0 to 7")
-    ∷ ("the displacement of RTD", "-32768 to 32767")
+    ∷ ("the displacement of RTD, read as signed", "-32768 to 32767, written with 4294967296 added where below 0")
     ∷ ("the vector of BKPT", "0 to 7")
     ∷ ("a base displacement written in a word", "-32768 to 32767")
     ∷ ("an outer displacement written in a word", "-32768 to 32767")
     ∷ ("a displacement written as none", "0")
-    ∷ ("the offset or the width of a bit field, or its register", "0 to 31, a register 0 to 7; the larger of the two is reported")
+    ∷ ("the offset and the width of a bit field, of which the larger is reported even where the smaller is at fault", "0 to 31 each, in a register 0 to 7")
     ∷ []
 
 -- by the detail of 3

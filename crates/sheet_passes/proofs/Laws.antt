@@ -31,7 +31,7 @@ use Rattle.sheet_passes.specs.declared.Passed.{Passed}
 use Rattle.sheet_passes.specs.declared.LineJudged.{LineJudged}
 use Rattle.sheet_passes.specs.declared.Sized.{Sized}
 use Rattle.sheet_passes.specs.Passes.{parsedAt, passedOf, filledOf, lineEncoded, Placed, encodedAt}
-use Rattle.sheet_passes.specs.Settle.{judgedInstruction, judgedMade, settledAt, judgedLine, settledFrom, sizedBy, sizedSheet, hasLabel, noRefusal, refusalIn, rangeOf, Settled}
+use Rattle.sheet_passes.specs.Settle.{judgedInstruction, judgedMade, settledAt, judgedLine, settledFrom, sizedBy, sizedSheet, hasAt, notRefused, refusalParts, whyRefused, Settled}
 use Rattle.sheet_passes.specs.SettleLaws.{resolves-without, built-zero, line-unlabelled}
 use Rattle.sheet_passes.specs.PassLaws.{counted-most, as-most, as-words, line-is}
 
@@ -73,16 +73,16 @@ and-assoc false b c = refl
 
 -- ---- the byte `@`, a byte at a time
 module _ (line : List ℕ) (i : ℕ) where
-  label-on : i < length line → hasLabel (drop i line) ≡ eqb (getD line i 0) 64 || hasLabel (drop (i + 1) line)
+  label-on : i < length line → hasAt (drop i line) ≡ eqb (getD line i 0) 64 || hasAt (drop (i + 1) line)
   label-on h = rw (add-one, drop-cons line i 0 h)
 
-  pub label-here : i < length line → getD line i 0 ≡ 64 → hasLabel (drop i line) ≡ true
+  pub label-here : i < length line → getD line i 0 ≡ 64 → hasAt (drop i line) ≡ true
   label-here h e = label-on h ∙ rw (eq-eqb (getD line i 0) 64 e)
 
-  pub label-next : i < length line → (getD line i 0 ≡ 64 → ⊥) → hasLabel (drop i line) ≡ hasLabel (drop (i + 1) line)
+  pub label-next : i < length line → (getD line i 0 ≡ 64 → ⊥) → hasAt (drop i line) ≡ hasAt (drop (i + 1) line)
   label-next h e = label-on h ∙ rw (ne-eqb (getD line i 0) 64 e)
 
-  pub label-end : length line ≤ i → hasLabel (drop i line) ≡ false
+  pub label-end : length line ≤ i → hasAt (drop i line) ≡ false
   label-end h = rw (drop-of-length-le line {i = i} h)
 
 -- ---- one line, by what it makes
@@ -130,13 +130,13 @@ pub line-encoded : (addresses line : List ℕ) (a n : ℕ) {m : LineMade} → m 
 unfolding lineEncoded lineMade
 line-encoded addresses line a n e = rw e
 
-module _ (addresses line : List ℕ) (a : ℕ) (settled b : Bool) (h : b ≡ hasLabel line) where
-  pub range-looked : (e : Encoded) → e ≡ lineEncoded addresses (lineOf line) a → b || not settled ≡ true → refusalIn e ≡ rangeOf addresses line a settled
-  unfolding rangeOf
+module _ (addresses line : List ℕ) (a : ℕ) (settled b : Bool) (h : b ≡ hasAt line) where
+  pub range-looked : (e : Encoded) → e ≡ lineEncoded addresses (lineOf line) a → b || not settled ≡ true → refusalParts e ≡ whyRefused addresses line a settled
+  unfolding whyRefused
   range-looked e is t = rw (is, rw h at t)
 
-  pub range-passed : (m : Measured) → m ≡ noRefusal → b || not settled ≡ false → m ≡ rangeOf addresses line a settled
-  unfolding rangeOf
+  pub range-passed : (m : Measured) → m ≡ notRefused → b || not settled ≡ false → m ≡ whyRefused addresses line a settled
+  unfolding whyRefused
   range-passed m is t = is ∙ rw (rw h at t)
 
 -- ---- sizes: from `next` on it goes as it went from `from` on, after k lines and so many words
@@ -306,7 +306,7 @@ module _ (text : List ℕ) (from : ℕ) (addresses : List ℕ) where
     pub ranging-end : length text ≤ next → (r : Passed) → r ≡ passedOf inOrder 0 → r ≡ passedOf (encoding (encodedAt addresses (parsedAt text from))) 0
     ranging-end h r is = is ∙ rw (s .verdict, nothing-left next k h)
 
-    module _ (e : ℕ) (h : next < length text) (g : e ≡ partEnd 10 text next) (m : Measured) (is : m ≡ rangeOf addresses (lineTo text next e) (getD addresses k 0) settled) where
+    module _ (e : ℕ) (h : next < length text) (g : e ≡ partEnd 10 text next) (m : Measured) (is : m ≡ whyRefused addresses (lineTo text next e) (getD addresses k 0) settled) where
       abbrev line : List ℕ
       line = lineTo text next e
 
@@ -317,28 +317,28 @@ module _ (text : List ℕ) (from : ℕ) (addresses : List ℕ) where
       here-is = encoded-here (s .go) e h g here refl
 
       -- a line that is passed over is accepted
-      passed-fine : hasLabel line ≡ false → settled ≡ true → here .number ≡ 0
+      passed-fine : hasAt line ≡ false → settled ≡ true → here .number ≡ 0
       passed-fine u t =
           let first = (rw (lines-here (s .go) e h g) at (s .settles t)) 0 (omega arith) (line-unlabelled line u) in
           let place : k + 0 ≡ k = omega arith in
           rw here-is (rw place at first)
 
       accepted-here : m .number ≡ 0 → here .number ≡ 0
-      unfolding rangeOf
-      accepted-here z = go (hasLabel line) settled refl refl
+      unfolding whyRefused
+      accepted-here z = go (hasAt line) settled refl refl
         where
-          go : (b t : Bool) → hasLabel line ≡ b → settled ≡ t → here .number ≡ 0
-          go true t p q = let r : m ≡ refusalIn here = is ∙ rw p in sym (ap (λ (x : Measured). x .number) r) ∙ z
-          go false false p q = let r : m ≡ refusalIn here = is ∙ rw (p, q) in sym (ap (λ (x : Measured). x .number) r) ∙ z
+          go : (b t : Bool) → hasAt line ≡ b → settled ≡ t → here .number ≡ 0
+          go true t p q = let r : m ≡ refusalParts here = is ∙ rw p in sym (ap (λ (x : Measured). x .number) r) ∙ z
+          go false false p q = let r : m ≡ refusalParts here = is ∙ rw (p, q) in sym (ap (λ (x : Measured). x .number) r) ∙ z
           go false true p q = passed-fine p q
 
-      refused-here : (m .number ≡ 0 → ⊥) → m ≡ refusalIn here
-      unfolding rangeOf
-      refused-here z = go (hasLabel line || not settled) refl
+      refused-here : (m .number ≡ 0 → ⊥) → m ≡ refusalParts here
+      unfolding whyRefused
+      refused-here z = go (hasAt line || not settled) refl
         where
-          go : (b : Bool) → hasLabel line || not settled ≡ b → m ≡ refusalIn here
+          go : (b : Bool) → hasAt line || not settled ≡ b → m ≡ refusalParts here
           go true p = is ∙ rw p
-          go false p = let r : m ≡ noRefusal = is ∙ rw p in absurd (z (ap (λ (x : Measured). x .number) r))
+          go false p = let r : m ≡ notRefused = is ∙ rw p in absurd (z (ap (λ (x : Measured). x .number) r))
 
       ranging-here : encoding (encodedAt addresses (parsedAt text from)) ≡ andThen (encodeOutcome (suc k) here) (inTurn encodeOutcome (suc (suc k)) (encodedLeft (e + 1) (k + 1)))
       ranging-here = s .verdict ∙ ap (inTurn encodeOutcome (suc k)) (left-here (s .go) e h g here refl)

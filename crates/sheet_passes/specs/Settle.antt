@@ -46,19 +46,19 @@ unfoldable pub sizedSheet : ℕ → List Parsed → Sized
 sizedSheet start ps = sizedBy (sizing ps) (total (map halfOf (sizesOf ps))) (settledFrom (length ps) start ps)
 
 -- a line has the byte `@`
-abbrev pub hasLabel : List ℕ → Bool
-hasLabel [] = false
-hasLabel (b ∷ bs) = eqb b 64 || hasLabel bs
+abbrev pub hasAt : List ℕ → Bool
+hasAt [] = false
+hasAt (b ∷ bs) = eqb b 64 || hasAt bs
 
 -- why `encode` refuses a line at an address, its labels made addresses; a line without a label is passed over where the lines are settled
-abbrev pub noRefusal : Measured
-noRefusal = record { size = 0; number = 0; detail = 0; value = pos 0 }
+abbrev pub notRefused : Measured
+notRefused = record { size = 0; number = 0; detail = 0; value = pos 0 }
 
-abbrev pub refusalIn : Encoded → Measured
-refusalIn e = record { size = 0; number = e .number; detail = e .detail; value = e .value }
+abbrev pub refusalParts : Encoded → Measured
+refusalParts e = record { size = 0; number = e .number; detail = e .detail; value = e .value }
 
-unfoldable pub rangeOf : List ℕ → List ℕ → ℕ → Bool → Measured
-rangeOf addresses line a settled = cond (hasLabel line || not settled) (refusalIn (lineEncoded addresses (lineOf line) a)) noRefusal
+unfoldable pub whyRefused : List ℕ → List ℕ → ℕ → Bool → Measured
+whyRefused addresses line a settled = cond (hasAt line || not settled) (refusalParts (lineEncoded addresses (lineOf line) a)) notRefused
 
 -- `encode` accepts each line without a label
 abbrev pub Settled : List ℕ → List Parsed → Type 0

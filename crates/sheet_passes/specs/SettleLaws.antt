@@ -28,7 +28,7 @@ use Rattle.sheet_labels.specs.Labels as labels
 use Rattle.sheet_labels.specs.Labels.{listed, labelledAll, labelledIn}
 use Rattle.sheet_passes.specs.PassLaws.{sized-least}
 use Rattle.sheet_passes.specs.Passes.{passedOf}
-use Rattle.sheet_passes.specs.Settle.{settledAt, settledFrom, sizedBy, sizedSheet, hasLabel}
+use Rattle.sheet_passes.specs.Settle.{settledAt, settledFrom, sizedBy, sizedSheet, hasAt}
 
 both : (a b : Bool) → a && b ≡ true → (a ≡ true) × (b ≡ true)
 both true b e = (refl, e)
@@ -106,25 +106,25 @@ built-zero n no = refl
 -- ---- a line without `@` has no label
 abbrev noneHas : List (List ℕ) → Type 0
 noneHas [] = Unit {0}
-noneHas (f ∷ fs) = (hasLabel f ≡ false) × noneHas fs
+noneHas (f ∷ fs) = (hasAt f ≡ false) × noneHas fs
 
 onto-has : (b : ℕ) (fs : List (List ℕ)) → eqb b 64 ≡ false → noneHas fs → noneHas (onto b fs)
 onto-has b [] e h = (none-of (eqb b 64) false e refl, tt)
-onto-has b (f ∷ fs) e h = (none-of (eqb b 64) (hasLabel f) e (h .0), h .1)
+onto-has b (f ∷ fs) e h = (none-of (eqb b 64) (hasAt f) e (h .0), h .1)
 
-parts-have : (line : List ℕ) → hasLabel line ≡ false → noneHas (fields line)
+parts-have : (line : List ℕ) → hasAt line ≡ false → noneHas (fields line)
 parts-have [] h = (refl, tt)
 parts-have (b ∷ bs) h =
-    let n = neither (eqb b 64) (hasLabel bs) h in
+    let n = neither (eqb b 64) (hasAt bs) h in
     go (eqb b 9) (parts-have bs (n .1))
   where
     go : (t : Bool) → noneHas (parts 9 bs) → noneHas (cond t ([] ∷ parts 9 bs) (onto b (parts 9 bs)))
     go true g = (refl, g)
-    go false g = onto-has b (parts 9 bs) (neither (eqb b 64) (hasLabel bs) h .0) g
+    go false g = onto-has b (parts 9 bs) (neither (eqb b 64) (hasAt bs) h .0) g
 
-not-label : (f : List ℕ) → hasLabel f ≡ false → isLabel f ≡ false
+not-label : (f : List ℕ) → hasAt f ≡ false → isLabel f ≡ false
 not-label [] h = refl
-not-label (b ∷ bs) h = neither (eqb b 64) (hasLabel bs) h .0
+not-label (b ∷ bs) h = neither (eqb b 64) (hasAt bs) h .0
 
 abbrev unlabelled : Token → Type 0
 unlabelled v = labels.isLabel (valueOf v) ≡ false
@@ -133,9 +133,9 @@ number-says : (n : Number) → unlabelled (asNumber n)
 number-says (number.Is s m) = refl
 number-says number.No = refl
 
-label-says : (f : List ℕ) → hasLabel f ≡ false → unlabelled (asLabel f)
+label-says : (f : List ℕ) → hasAt f ≡ false → unlabelled (asLabel f)
 label-says [] h = refl
-label-says (b ∷ bs) h = rw (neither (eqb b 64) (hasLabel bs) h .0)
+label-says (b ∷ bs) h = rw (neither (eqb b 64) (hasAt bs) h .0)
 
 place-says : (k : ℕ) (f : List ℕ) (ns : List (List ℕ)) → unlabelled (placeFrom k f ns)
 place-says k f [] = refl
@@ -145,7 +145,7 @@ place-says k f (n ∷ ns) = go (equal f n && not (isNone f)) (place-says (suc k)
     go true r = refl
     go false r = r
 
-token-says : (k : Kind) (f : List ℕ) → hasLabel f ≡ false → unlabelled (token k f)
+token-says : (k : Kind) (f : List ℕ) → hasAt f ≡ false → unlabelled (token k f)
 token-says k f h = go (sorted k)
   where
     go : {k : Kind} → Sorted k → unlabelled (token k f)
@@ -154,7 +154,7 @@ token-says k f h = go (sorted k)
     go of-place = rw (not-label f h) (number-says (numberOf f))
     go (of-variant {k} x) = rw (x .token f) (place-says 0 f (map bytes (namesOf k)))
 
-pub line-unlabelled : (line : List ℕ) → hasLabel line ≡ false → labelledIn (lineOf line) ≡ false
+pub line-unlabelled : (line : List ℕ) → hasAt line ≡ false → labelledIn (lineOf line) ≡ false
 line-unlabelled line h = go (lineOf line) refl
   where
     go : (p : Parsed) → lineOf line ≡ p → labelledIn p ≡ false

@@ -8,13 +8,13 @@ ghost use Rattle.sheet_spec.specs.Made.{turnedBack, judged};
 ghost use Rattle.sheet_spec.specs.Sheet.{sizedAs, sizesOf, encodedLine, encodedWords, allWords};
 ghost use Rattle.sheet_spec.specs.Translate.{inOrder, refused, encoding, over};
 ghost use Rattle.sheet_passes.specs.Passes.{parsedAt, passedOf, filledOf, lineEncoded, Placed, encodedAt};
-ghost use Rattle.sheet_passes.specs.Settle.{judgedInstruction, judgedMade, judgedLine, sizedSheet, hasLabel, noRefusal, rangeOf, Settled};
+ghost use Rattle.sheet_passes.specs.Settle.{judgedInstruction, judgedMade, judgedLine, sizedSheet, hasAt, notRefused, whyRefused, Settled};
 use isa::Encoded;
 use isa::Instruction;
 use isa::Measured;
 use numeric_spec::Built;
 
-// What `size` says of a line, and whether nothing is left to look at once all lines are measured: it has a label, or `encode` accepts it.
+// What `size` says of a line, and whether the line, unless it has a label, is accepted by `encode`.
 struct LineJudged {
     measured: Measured,
     settled: bool,
@@ -199,8 +199,8 @@ pub fn sizes(text: &[u8], from: usize, lines: usize, start: u32, scratch: &mut [
     Sized { passed, settled }
 }
 
-fn has_label(line: &[u8]) -> bool
-    ensures { λ r. ⌜ r ≡ hasLabel (now (line .entry)) ⌝ }
+fn has_at(line: &[u8]) -> bool
+    ensures { λ r. ⌜ r ≡ hasAt (now (line .entry)) ⌝ }
 {
     let mut i: usize = 0;
     while i < line.len() {
@@ -212,8 +212,8 @@ fn has_label(line: &[u8]) -> bool
     false
 }
 
-fn no_refusal() -> Measured
-    ensures { λ r. ⌜ r ≡ noRefusal ⌝ }
+fn not_refused() -> Measured
+    ensures { λ r. ⌜ r ≡ notRefused ⌝ }
 {
     Measured {
         size: 0,
@@ -224,11 +224,11 @@ fn no_refusal() -> Measured
 }
 
 // Why `encode` refuses a line at its address. Where the lines are settled, it accepts one without a label.
-fn range(line: &[u8], addresses: &[u32], address: u32, settled: bool) -> Measured
+fn why_refused(line: &[u8], addresses: &[u32], address: u32, settled: bool) -> Measured
     requires { ⌜ length (now addresses) ≤ 4096 ⌝ }
-    ensures { λ r. ⌜ r ≡ rangeOf (now (addresses .entry)) (now (line .entry)) address settled ⌝ }
+    ensures { λ r. ⌜ r ≡ whyRefused (now (addresses .entry)) (now (line .entry)) address settled ⌝ }
 {
-    if has_label(line) | !settled {
+    if has_at(line) | !settled {
         let e = encoded(line, addresses, address);
         return Measured {
             size: 0,
@@ -237,7 +237,7 @@ fn range(line: &[u8], addresses: &[u32], address: u32, settled: bool) -> Measure
             value: e.value,
         };
     }
-    no_refusal()
+    not_refused()
 }
 
 // Each line encoded at its address, to the first that is refused.
@@ -249,7 +249,7 @@ pub fn ranges(text: &[u8], from: usize, addresses: &[u32], settled: bool) -> Pas
     let mut k: usize = 0;
     while next < text.len() {
         let end = base_text::line_end(text, next);
-        let m = range(&text[next..end], addresses, addresses[k], settled);
+        let m = why_refused(&text[next..end], addresses, addresses[k], settled);
         if m.number != 0 {
             return refused_at(k, m.number, m.detail, m.value);
         }

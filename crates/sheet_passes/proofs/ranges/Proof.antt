@@ -20,8 +20,8 @@ loop-holds c =
     let a = s .args in
     (omega arith, ranging (a .text .now) (a .from) (a .addresses .now) (a .settled) (s .pre .0) (s .pre .1))
 
-shared-slice-read-range : tie.Need-shared-slice-read-range Inv-loop μ-loop
-shared-slice-read-range c =
+shared-slice-read-why-refused : tie.Need-shared-slice-read-why-refused Inv-loop μ-loop
+shared-slice-read-why-refused c =
     let a = c .before .before .before .before .before .before .before .args in
     let l = c .before .before .before .before .loop in
     place-inside (a .text .now) (a .from) (a .addresses .now) (l .inv .1 .go) (c .before .before .line-end .result) (omega arith) (c .before .before .line-end .ensures .0)
@@ -36,7 +36,7 @@ returns : tie.Need-returns Inv-loop μ-loop
 returns c =
     let a = c .before .before .before .before .before .before .before .before .before .before .before .before .args in
     let l = c .before .before .before .before .before .before .before .before .before .loop in
-    let m = c .before .before .before .before .range in
+    let m = c .before .before .before .before .why-refused in
     ranging-stop (a .text .now) (a .from) (a .addresses .now) (l .inv .1) (c .before .before .before .before .before .before .before .line-end .result) (omega arith) (c .before .before .before .before .before .before .before .line-end .ensures .0) (m .result) (m .ensures) (c .before .before .if1 .taken) (c .refused-at .result)
     (rw (toZ-ofZ {w = w64} {z = m .result .value} (search needs)) at (c .refused-at .ensures))
 
@@ -44,7 +44,7 @@ loop-again : tie.Need-loop-again Inv-loop μ-loop
 loop-again c =
     let a = c .before .before .before .before .before .before .before .before .before .before .args in
     let l = c .before .before .before .before .before .before .before .loop in
-    let m = c .before .before .range in
+    let m = c .before .before .why-refused in
     let inside = place-inside (a .text .now) (a .from) (a .addresses .now) (l .inv .1 .go) (c .before .before .before .before .before .line-end .result) (omega arith) (c .before .before .before .before .before .line-end .ensures .0) in
     (omega arith, ranging-next (a .text .now) (a .from) (a .addresses .now) (l .inv .1) (c .before .before .before .before .before .line-end .result) (omega arith) (c .before .before .before .before .before .line-end .ensures .0) (m .result) (m .ensures) (c .if1 .left))
 
@@ -66,7 +66,7 @@ ranges-spec =
     (λ c. omega arith)
     (λ c. omega arith)
     (λ c. omega arith)
-    shared-slice-read-range
+    shared-slice-read-why-refused
     (λ c κs. c .before .before .before .before .before .before .before .pre .0 .few)
     refused-at-requires
     returns
