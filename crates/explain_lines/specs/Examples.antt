@@ -16,11 +16,11 @@ unfolding explainedFrom explainedLine refusalIn refusalOf noRefusal sentenceOf i
 sheet = refl
 
 -- three numbers, with a reason that has no row and one that has
-reasons : equal (explained (bytes "refused\t3\t66\t0\nrefused\t3\t41\t0\t=>\t2\n")) (bytes "refused\t3\t66\t0\nrefused\t3\t41\t0\t=>\t2\nno encoding (reason 41): `cmpm` compares two `(An)+` operands\n") ≡ true
+reasons : equal (explained (bytes "refused\t3\t66\t0\nrefused\t3\t41\t0\t=>\t2\n")) (bytes "refused\t3\t66\t0\nrefused\t3\t41\t0\t=>\t2\nno encoding, by this rule (reason 41): `cmpm` compares two `(An)+` operands\n") ≡ true
 unfolding explainedFrom explainedLine refusalIn refusalOf noRefusal sentenceOf isKnown wrongOf detailOf whereOf decimalOf
 reasons = refl
 
 -- what stands outside the lines of a sheet, and what is no refusal
-outside : equal (explained (bytes "refused\t7\t0\t0\t0\nrefused\t7\t0\t0\nrefused\t7\t0\t-1\t0\n")) (bytes "refused\t7\t0\t0\t0\nthe START line is not in the form\nrefused\t7\t0\t0\nnot in the form\nrefused\t7\t0\t-1\t0\n") ≡ true
+outside : equal (explained (bytes "refused\t7\t0\t0\t0\nrefused\t7\t0\t0\nrefused\t7\t0\t-1\t0\n")) (bytes "refused\t7\t0\t0\t0\nthe START line is not in the form: `START`, a tab and an address from 0 to 4294967295\nrefused\t7\t0\t0\nnot in the form: a field that does not belong there, or a field too many or too few\nrefused\t7\t0\t-1\t0\n") ≡ true
 unfolding explainedFrom explainedLine refusalIn refusalOf noRefusal sentenceOf isKnown wrongOf detailOf whereOf decimalOf
 outside = refl
