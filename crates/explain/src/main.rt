@@ -54,7 +54,7 @@ struct State {
     more: bool,
 }
 
-// One read behind what is kept, and what is printed of both.
+// One read after what is kept, and what is printed of both.
 fn turn(text: &mut [u8], have: usize, begun: bool, out: &mut [u8]) -> State
     requires { ⌜ (65536 ≡ length (now text)) × (have < 65536) × (73728 ≤ length (now out)) ⌝ }
     ensures { λ r. ⌜ r .have < 65536 ⌝ }

@@ -17,7 +17,7 @@ use Rattle.sheet_tokens.specs.declared.Value.the-variants as value
 use Rattle.sheet_tokens.specs.Values.{valueOf}
 use Rattle.sheet_facts.specs.Facts.{equal-is, equal-refl}
 use Rattle.base_facts.specs.Tests.{Eq, same, other, eq?, and-true, true-not-false, ltb-is, leb-is}
-use Rattle.sheet_field.specs.Place.{keyOf, isShort, keyPlace, shortPlace, longFrom, longPlace, lengthFrom, ofLength, placeValue}
+use Rattle.sheet_field.specs.Place.{keyOf, hasKey, keyPlace, shortPlace, longFrom, longPlace, lengthFrom, ofLength, placeValue}
 use Rattle.sheet_field.proofs.Laws.{equal-lengths}
 
 -- the key of a field of n bytes, a byte at a time
@@ -110,19 +110,19 @@ place-value k h = rw (ne-eqb k 99 (λ e. omega arith))
 
 -- the place of a field of at most eight bytes
 module _ (b : ℕ) (bs : List ℕ) (few : length (b ∷ bs) ≤ 8) (h : Keyed (b ∷ bs)) where
-  key-same : (n : List ℕ) → keyed n ≡ true → isShort n && eqb (keyOf (b ∷ bs)) (keyOf n) ≡ equal (b ∷ bs) n && true
-  key-same n t = go (equal f n) refl (isShort n && eqb (keyOf f) (keyOf n)) refl
+  key-same : (n : List ℕ) → keyed n ≡ true → hasKey n && eqb (keyOf (b ∷ bs)) (keyOf n) ≡ equal (b ∷ bs) n && true
+  key-same n t = go (equal f n) refl (hasKey n && eqb (keyOf f) (keyOf n)) refl
     where
       f : List ℕ
       f = b ∷ bs
 
-      own : isShort (b ∷ bs) && eqb (keyOf (b ∷ bs)) (keyOf (b ∷ bs)) ≡ true
+      own : hasKey (b ∷ bs) && eqb (keyOf (b ∷ bs)) (keyOf (b ∷ bs)) ≡ true
       own = rw (le-leb (length (b ∷ bs)) 8 few, eq-eqb (keyOf (b ∷ bs)) (keyOf (b ∷ bs)) refl)
 
-      go : (u : Bool) → equal f n ≡ u → (v : Bool) → isShort n && eqb (keyOf f) (keyOf n) ≡ v → v ≡ u && true
-      go true e v d = sym d ∙ ap (λ (m : List ℕ). isShort m && eqb (keyOf f) (keyOf m)) (sym (equal-is f n e)) ∙ own
+      go : (u : Bool) → equal f n ≡ u → (v : Bool) → hasKey n && eqb (keyOf f) (keyOf n) ≡ v → v ≡ u && true
+      go true e v d = sym d ∙ ap (λ (m : List ℕ). hasKey m && eqb (keyOf f) (keyOf m)) (sym (equal-is f n e)) ∙ own
       go false e true d =
-          let k = eqb-true (keyOf f) (keyOf n) (and-true (isShort n) (eqb (keyOf f) (keyOf n)) d .1) in
+          let k = eqb-true (keyOf f) (keyOf n) (and-true (hasKey n) (eqb (keyOf f) (keyOf n)) d .1) in
           true-not-false (ap (equal f) (sym (key-is f n h (keyed-is n t) k)) ∙ equal-refl f) e
       go false e false d = refl
 
@@ -229,11 +229,11 @@ apart-in (k ∷ ks) m n t a e = go (eqb m k) refl t (λ q. apart-in ks m n q (a 
 -- a key that no name has
 abbrev pub keysOf : List (List ℕ) → List ℕ
 keysOf [] = []
-keysOf (n ∷ ns) = cond (isShort n) (keyOf n ∷ keysOf ns) (keysOf ns)
+keysOf (n ∷ ns) = cond (hasKey n) (keyOf n ∷ keysOf ns) (keysOf ns)
 
 no-key-from : (key k : ℕ) (ns : List (List ℕ)) → Apart (keysOf ns) key → keyPlace key k ns ≡ 99
 no-key-from key k [] a = refl
-no-key-from key k (n ∷ ns) a = go (isShort n) a (no-key-from key (suc k) ns)
+no-key-from key k (n ∷ ns) a = go (hasKey n) a (no-key-from key (suc k) ns)
   where
     go : (t : Bool) → Apart (cond t (keyOf n ∷ keysOf ns) (keysOf ns)) key → (Apart (keysOf ns) key → keyPlace key (suc k) ns ≡ 99) → cond (t && eqb key (keyOf n)) k (keyPlace key (suc k) ns) ≡ 99
     go true r next = rw (ne-eqb key (keyOf n) (r .0)) (next (r .1))

@@ -22,14 +22,14 @@ abbrev pub fourAt : List ℕ → ℕ → ℕ
 fourAt f i = twoAt f i + 65536 * twoAt f (i + 2)
 
 -- has a key
-abbrev pub isShort : List ℕ → Bool
-isShort [] = false
-isShort (b ∷ bs) = leb (length (b ∷ bs)) 8
+abbrev pub hasKey : List ℕ → Bool
+hasKey [] = false
+hasKey (b ∷ bs) = leb (length (b ∷ bs)) 8
 
 -- the first place from k on whose name has a key
 abbrev pub keyPlace : ℕ → ℕ → List (List ℕ) → ℕ
 keyPlace key k [] = 99
-keyPlace key k (n ∷ ns) = cond (isShort n && eqb key (keyOf n)) k (keyPlace key (suc k) ns)
+keyPlace key k (n ∷ ns) = cond (hasKey n && eqb key (keyOf n)) k (keyPlace key (suc k) ns)
 
 unfoldable pub shortPlace : Kind → ℕ → ℕ
 shortPlace kind key = keyPlace key 0 (map bytes (namesOf kind))

@@ -6,12 +6,12 @@ use mathlib.Core.List.{List, [], _∷_, _++_}
 use native.Mathlib.Omega.{arith}
 use lib.Dec.{ltb}
 use lib.ListN.{length, getD, List·getD-eq-default}
-use borrow.Author.Tests.{ltb-true}
+use borrow.Author.Tests.{ltb-true, ne-eqb}
 use Rattle.sheet_spec.specs.declared.Kind.{Kind}
 use Rattle.sheet_spec.specs.declared.Kind.the-variants as kind
 use Rattle.sheet_spec.specs.Grammar.{kindsOf}
 use Rattle.sheet_kinds.specs.Packed.{codeOf, packed, kindAt}
-use Rattle.sheet_kinds.specs.Next.{below, above, Shifts, kindsAfter}
+use Rattle.sheet_kinds.specs.Next.{below, above, powerAbove, kindsAfter}
 use Rattle.base_facts.specs.Tests.{and-true}
 
 codes : (k : Kind) → (ltb 0 (codeOf k) && ltb (codeOf k) 32 ≡ true) × (kindAt (codeOf k) ≡ k)
@@ -72,13 +72,28 @@ pub below-above : (ks : List Kind) (n : ℕ) → below ks n ≡ packed ks + abov
 below-above [] n = omega arith
 below-above (k ∷ ks) n = omega (arith, below-above ks n)
 
-pub above-none : Shifts 0 1
-above-none [] e = refl
-above-none (k ∷ ks) e = absurd (omega (arith, code-fits k))
+-- the power of 32 above a number, and above fields
+power-one : (k : ℕ) → 1 ≤ 32 ^ k
+power-one zero = omega arith
+power-one (suc k) = omega (arith, power-one k)
 
-pub above-some : (n : ℕ) (ks : List Kind) → 32 ^ n ≤ packed ks → packed ks < 32 ^ suc n → 32 ^ suc n ≡ above ks
-above-some zero [] h g = absurd (omega arith)
-above-some zero (k ∷ []) h g = refl
-above-some zero (k ∷ (l ∷ ks)) h g = absurd (omega (arith, code-fits l))
-above-some (suc n) [] h g = absurd (omega (arith, packed-small n [] (omega arith)))
-above-some (suc n) (k ∷ ks) h g = omega (arith, above-some n ks (omega (arith, code-fits k)) (omega (arith, code-fits k)))
+power-none : (d : ℕ) → powerAbove d 0 ≡ 1
+power-none zero = refl
+power-none (suc d) = refl
+
+pub power-is : (d k n : ℕ) → k < d → 32 ^ k ≤ n → n < 32 ^ suc k → 32 ^ suc k ≡ powerAbove d n
+power-is zero k n h lo hi = absurd (omega arith)
+power-is (suc d) zero n h lo hi =
+    let z : n / 32 ≡ 0 = omega arith in
+    rw (ne-eqb n 0 (λ e. omega arith), z, power-none d)
+power-is (suc d) (suc k) n h lo hi =
+    let some : n ≡ 0 → ⊥ = λ e. omega (arith, power-one k) in
+    let later : 32 ^ suc k ≡ powerAbove d (n / 32) = power-is d k (n / 32) (omega arith) (omega arith) (omega arith) in
+    rw (ne-eqb n 0 some) (omega arith)
+
+pub power-packed : (d : ℕ) (ks : List Kind) → length ks ≤ d → powerAbove d (packed ks) ≡ above ks
+power-packed d [] h = power-none d
+power-packed zero (k ∷ ks) h = absurd (omega arith)
+power-packed (suc d) (k ∷ ks) h =
+    let some : packed (k ∷ ks) ≡ 0 → ⊥ = λ e. omega (arith, code-fits k) in
+    rw (ne-eqb (packed (k ∷ ks)) 0 some, packed-rest k ks) (ap (λ (x : ℕ). 32 * x) (power-packed d ks (omega arith)))

@@ -3,7 +3,7 @@ ghost use mathlib.Core.Path.{_≡_};
 ghost use Prim.Native.Nat.{_%_, _^_, _<_};
 ghost use Rattle.sheet_spec.specs.Grammar.{kindsOf};
 ghost use Rattle.sheet_kinds.specs.Packed.{packed, kindAt};
-ghost use Rattle.sheet_kinds.specs.Next.{kindsAfter, Shifts};
+ghost use Rattle.sheet_kinds.specs.Next.{kindsAfter, powerAbove};
 use sheet_spec::Kind;
 
 // The next kind.
@@ -306,7 +306,7 @@ fn fields_of(kind: Kind, place: u64) -> u64
 // The power of 32 above fields.
 fn shift(fields: u64) -> u64
     requires { ⌜ fields < 32 ^ 7 ⌝ }
-    ensures { λ r. ⌜ Shifts fields r ⌝ }
+    ensures { λ r. ⌜ r ≡ powerAbove 7 fields ⌝ }
 {
     if fields < 32 {
         if fields == 0 {

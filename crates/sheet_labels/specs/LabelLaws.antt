@@ -10,7 +10,7 @@ use lib.ListN.{length, take, set, getD, length-map, List·getD-eq-default}
 use lib.IntN.{pos}
 use borrow.Author.Tests.{le-leb, lt-leb, leb-false}
 use Rattle.base_facts.specs.Lists.{pad, map-more}
-use Rattle.base_facts.specs.Tests.{cond-true}
+use Rattle.base_facts.specs.Tests.{and-yes, cond-true}
 use Rattle.base_spec.specs.Signed.{minus}
 use Rattle.numeric_spec.specs.Build.{builtOf}
 use Rattle.numeric_places.specs.declared.Numbers.{Numbers}
@@ -18,7 +18,7 @@ use Rattle.numeric_places.specs.Places.{signedFrom, numbersHeld, builtFrom}
 use Rattle.sheet_spec.specs.Line.{Token, literal, label, invalid, says}
 use Rattle.sheet_spec.specs.Made.{numberAs, isSome, resolves, resolvesAll, builtAs, ofLines}
 use Rattle.sheet_tokens.specs.Values.{capped, valueOf}
-use Rattle.sheet_labels.specs.Labels.{addressIn, numberIn, isNegative, isLabel, namesLine, listed, labelledAll}
+use Rattle.sheet_labels.specs.Labels.{addressIn, numberIn, belowZero, saysLabel, namesLine, listed, labelledAll}
 
 -- by whether a number is above 4,096
 capped-cases : (P : ℕ → Type 0) (k : ℕ) → P k → (4096 < k → P 4097) → P (capped k)
@@ -45,16 +45,12 @@ module _ (n : ℕ) (few : n ≤ 4096) (g : ℕ → ℕ) where
   names-token invalid = refl
 
 -- ---- one value more
-and-assoc : (a b c : Bool) → a && (b && c) ≡ (a && b) && c
+pub and-assoc : (a b c : Bool) → a && (b && c) ≡ (a && b) && c
 and-assoc true b c = refl
 and-assoc false b c = refl
 
-and-one : (a : Bool) → a && true ≡ a
-and-one true = refl
-and-one false = refl
-
 pub resolves-more : (f : ℕ → Option ℕ) (vs : List Token) (v : Token) → resolvesAll f (vs ++ (v ∷ [])) ≡ resolvesAll f vs && resolves f v
-resolves-more f [] v = and-one (resolves f v)
+resolves-more f [] v = and-yes (resolves f v)
 resolves-more f (x ∷ xs) v = ap (λ (t : Bool). resolves f x && t) (resolves-more f xs v) ∙ and-assoc (resolves f x) (resolvesAll f xs) (resolves f v)
 
 module _ {A : Type 0} where
@@ -72,21 +68,21 @@ module _ {A : Type 0} where
 
 -- a list of what tokens say, in 24 places
 module _ {A : Type 0} (z : A) (f : Token → A) where
-  abbrev pub placed : List Token → List A
-  placed vs = pad 24 z (map f vs)
+  abbrev pub inPlaces : List Token → List A
+  inPlaces vs = pad 24 z (map f vs)
 
-  pub placed-more : (vs : List Token) (v : Token) (k : ℕ) → k ≡ length vs → k < 24 → set (placed vs) k (f v) ≡ placed (vs ++ (v ∷ []))
-  placed-more vs v k e h = pad-more 24 z (map f vs) k (f v) (length-map vs f ∙ sym e) h ∙ ap (pad 24 z) (sym (map-more f vs v))
+  pub in-places-more : (vs : List Token) (v : Token) (k : ℕ) → k ≡ length vs → k < 24 → set (inPlaces vs) k (f v) ≡ inPlaces (vs ++ (v ∷ []))
+  in-places-more vs v k e h = pad-more 24 z (map f vs) k (f v) (length-map vs f ∙ sym e) h ∙ ap (pad 24 z) (sym (map-more f vs v))
 
 -- ---- the numbers of a line's values are what its tokens say
 abbrev pub negativeAs : Token → Bool
-negativeAs v = isNegative (valueOf v)
+negativeAs v = belowZero (valueOf v)
 
 abbrev pub magnitudeAs : List ℕ → Token → ℕ
 magnitudeAs addresses v = numberIn addresses (valueOf v)
 
 abbrev pub heldBy : List ℕ → List Token → Numbers
-heldBy addresses vs = record { count = length vs; negative = placed false negativeAs vs; magnitude = placed 0 (magnitudeAs addresses) vs }
+heldBy addresses vs = record { count = length vs; negative = inPlaces false negativeAs vs; magnitude = inPlaces 0 (magnitudeAs addresses) vs }
 
 module _ (addresses : List ℕ) (few : length addresses ≤ 4096) where
   listed-is : (k : ℕ) → addressIn addresses k ≡ Option·getD (listed addresses k) 0
@@ -132,6 +128,6 @@ or-none : (a : Bool) → a || false ≡ a
 or-none true = refl
 or-none false = refl
 
-pub labelled-more : (vs : List Token) (v : Token) → labelledAll (vs ++ (v ∷ [])) ≡ labelledAll vs || isLabel (valueOf v)
-labelled-more [] v = or-none (isLabel (valueOf v))
-labelled-more (x ∷ xs) v = ap (λ (t : Bool). isLabel (valueOf x) || t) (labelled-more xs v) ∙ or-assoc (isLabel (valueOf x)) (labelledAll xs) (isLabel (valueOf v))
+pub labelled-more : (vs : List Token) (v : Token) → labelledAll (vs ++ (v ∷ [])) ≡ labelledAll vs || saysLabel (valueOf v)
+labelled-more [] v = or-none (saysLabel (valueOf v))
+labelled-more (x ∷ xs) v = ap (λ (t : Bool). saysLabel (valueOf x) || t) (labelled-more xs v) ∙ or-assoc (saysLabel (valueOf x)) (labelledAll xs) (saysLabel (valueOf v))

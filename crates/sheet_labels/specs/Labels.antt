@@ -21,15 +21,15 @@ numberIn addresses (value.Number negative n) = n
 numberIn addresses (value.Line k) = addressIn addresses k
 numberIn addresses value.None = 0
 
-abbrev pub isNegative : Value → Bool
-isNegative (value.Number negative n) = negative
-isNegative (value.Line k) = false
-isNegative value.None = false
+abbrev pub belowZero : Value → Bool
+belowZero (value.Number negative n) = negative
+belowZero (value.Line k) = false
+belowZero value.None = false
 
-abbrev pub isLabel : Value → Bool
-isLabel (value.Number negative n) = false
-isLabel (value.Line k) = true
-isLabel value.None = false
+abbrev pub saysLabel : Value → Bool
+saysLabel (value.Number negative n) = false
+saysLabel (value.Line k) = true
+saysLabel value.None = false
 
 -- a label is the number of one of n lines
 abbrev pub namesLine : ℕ → Value → Bool
@@ -44,7 +44,7 @@ listed addresses = ofLines (length addresses) (λ k. getD addresses (pred k) 0)
 -- what a line says has a label
 abbrev pub labelledAll : List Token → Bool
 labelledAll [] = false
-labelledAll (v ∷ vs) = isLabel (valueOf v) || labelledAll vs
+labelledAll (v ∷ vs) = saysLabel (valueOf v) || labelledAll vs
 
 abbrev pub labelledIn : Parsed → Bool
 labelledIn (says vs) = labelledAll vs

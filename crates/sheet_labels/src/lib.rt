@@ -1,6 +1,6 @@
 // What a field's value says of a label: the address that it is made, and whether it names a line.
 ghost use mathlib.Core.Path.{_≡_};
-ghost use Rattle.sheet_labels.specs.Labels.{addressIn, numberIn, isNegative, isLabel, namesLine};
+ghost use Rattle.sheet_labels.specs.Labels.{addressIn, numberIn, belowZero, saysLabel, namesLine};
 use sheet_tokens::Value;
 
 fn wide(x: u32) -> u64
@@ -37,8 +37,8 @@ pub fn number_in(addresses: &[u32], v: Value) -> u64
     }
 }
 
-pub fn is_negative(v: Value) -> bool
-    ensures { λ r. ⌜ r ≡ isNegative v ⌝ }
+pub fn below_zero(v: Value) -> bool
+    ensures { λ r. ⌜ r ≡ belowZero v ⌝ }
 {
     match v {
         Value::Number {
@@ -50,8 +50,8 @@ pub fn is_negative(v: Value) -> bool
     }
 }
 
-pub fn is_label(v: Value) -> bool
-    ensures { λ r. ⌜ r ≡ isLabel v ⌝ }
+pub fn says_label(v: Value) -> bool
+    ensures { λ r. ⌜ r ≡ saysLabel v ⌝ }
 {
     match v {
         Value::Number {

@@ -27,8 +27,8 @@ use Rattle.sheet_kinds.specs.Packed.{packed, kindAt}
 use Rattle.sheet_kinds.specs.Weight.{room, most, total, room-next, most-next, length-room}
 use Rattle.sheet_kinds.specs.Next.{kindsAfter}
 use Rattle.sheet_kinds.specs.NextLaws.{packed-first, packed-none, next-packed, packed-small}
-use Rattle.sheet_labels.specs.Labels.{numberIn, isNegative, isLabel, namesLine, listed, labelledAll}
-use Rattle.sheet_labels.specs.LabelLaws.{names-token, resolves-more, length-pad, placed, placed-more, negativeAs, magnitudeAs, heldBy, built-held, labelled-more}
+use Rattle.sheet_labels.specs.Labels.{numberIn, belowZero, saysLabel, namesLine, listed, labelledAll}
+use Rattle.sheet_labels.specs.LabelLaws.{names-token, resolves-more, length-pad, inPlaces, in-places-more, negativeAs, magnitudeAs, heldBy, built-held, labelled-more}
 use Rattle.sheet_line.specs.Value.{isSaid, variantPlace}
 use Rattle.sheet_line.specs.LineMade.{notMade, lineMade}
 
@@ -49,8 +49,8 @@ first-more vs v no = refl
 pub record Reading (n : ℕ) (addresses line : List ℕ) (negative : List Bool) (magnitude : List ℕ) (count : ℕ) (labelled resolved : Bool) (kinds from : ℕ) : Type 0 where
   pub done : List Token
   pub ahead : List Kind
-  pub negatives : negative ≡ placed false negativeAs done
-  pub magnitudes : magnitude ≡ placed 0 (magnitudeAs addresses) done
+  pub negatives : negative ≡ inPlaces false negativeAs done
+  pub magnitudes : magnitude ≡ inPlaces 0 (magnitudeAs addresses) done
   pub counted : count ≡ length done
   pub labels : labelled ≡ labelledAll done
   pub resolves : resolved ≡ resolvesAll (ofLines n (λ k. 0)) done
@@ -188,7 +188,7 @@ module _ (n : ℕ) (addresses line : List ℕ) {negative : List Bool} {magnitude
       reading-none t = split (λ ks a. refused (rw (a, ← q, parts-on) (from-none k ks f rest (rw i at t))))
 
       pub reading-on : n ≤ 4096 → isSaid w ≡ true
-          → Reading n addresses line (set negative count (isNegative w)) (set magnitude count (numberIn addresses w)) (count + 1) (labelled || isLabel w) (resolved && namesLine n w)
+          → Reading n addresses line (set negative count (belowZero w)) (set magnitude count (numberIn addresses w)) (count + 1) (labelled || saysLabel w) (resolved && namesLine n w)
           (kindsAfter kinds (variantPlace w)) (end + 1)
       reading-on few-lines t =
           split (λ ks a.
@@ -203,10 +203,10 @@ module _ (n : ℕ) (addresses line : List ℕ) {negative : List Bool} {magnitude
           (record {
             done = r .done ++ (v ∷ []);
             ahead = kindsOf k m ++ ks;
-            negatives = ap (λ (x : List Bool). set x count (isNegative (valueOf v))) (r .negatives) ∙ placed-more false negativeAs (r .done) v count (r .counted) place;
-            magnitudes = ap (λ (x : List ℕ). set x count (numberIn addresses (valueOf v))) (r .magnitudes) ∙ placed-more 0 (magnitudeAs addresses) (r .done) v count (r .counted) place;
+            negatives = ap (λ (x : List Bool). set x count (belowZero (valueOf v))) (r .negatives) ∙ in-places-more false negativeAs (r .done) v count (r .counted) place;
+            magnitudes = ap (λ (x : List ℕ). set x count (numberIn addresses (valueOf v))) (r .magnitudes) ∙ in-places-more 0 (magnitudeAs addresses) (r .done) v count (r .counted) place;
             counted = rw length-append (omega (arith, r .counted));
-            labels = ap (λ (x : Bool). x || isLabel (valueOf v)) (r .labels) ∙ sym (labelled-more (r .done) v);
+            labels = ap (λ (x : Bool). x || saysLabel (valueOf v)) (r .labels) ∙ sym (labelled-more (r .done) v);
             resolves = (λ j. r .resolves j && names-token n few-lines (λ y. 0) v j) ∙ sym (resolves-more (ofLines n (λ y. 0)) (r .done) v);
             packs = ap (λ (x : ℕ). kindsAfter x m) (r .packs ∙ ap packed b) ∙ next-packed k ks m;
             fits = omega (arith, room-next k ks m);

@@ -74,9 +74,9 @@ pub fn read_line(line: &[u8], lines: usize, addresses: &[u32]) -> LineMade
         if !says(v) {
             return not_made();
         }
-        negative[count] = sheet_labels::is_negative(v);
+        negative[count] = sheet_labels::below_zero(v);
         magnitude[count] = sheet_labels::number_in(addresses, v);
-        labelled = labelled | sheet_labels::is_label(v);
+        labelled = labelled | sheet_labels::says_label(v);
         resolves = resolves & sheet_labels::names_line(v, lines);
         count += 1;
         kinds = sheet_kinds::next(kinds, variant_place(v));

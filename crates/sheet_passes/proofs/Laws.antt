@@ -20,6 +20,7 @@ use Rattle.m68k_facts.specs.Laws.{size-law}
 use Rattle.base_text.specs.Parts.{partEnd}
 use Rattle.sheet_spec.specs.Line.{Parsed, no, lineOf}
 use Rattle.sheet_labels.specs.Labels.{listed, labelledIn}
+use Rattle.sheet_labels.specs.LabelLaws.{and-assoc}
 use Rattle.sheet_line.specs.declared.LineMade.{LineMade}
 use Rattle.sheet_line.specs.LineMade.{lineMade}
 use Rattle.base_text.specs.LinesLaws.{lines-next}
@@ -66,10 +67,6 @@ lines-end text next h = rw (drop-of-length-le text {i = next} h)
 
 parsed-next : (text : List ℕ) (next e : ℕ) → next < length text → e ≡ partEnd 10 text next → parsedAt text next ≡ lineOf (lineTo text next e) ∷ parsedAt text (e + 1)
 parsed-next text next e h g = ap (λ (ls : List (List ℕ)). map lineOf ls) (lines-next text next e h g)
-
-and-assoc : (a b c : Bool) → a && (b && c) ≡ (a && b) && c
-and-assoc true b c = refl
-and-assoc false b c = refl
 
 -- ---- the byte `@`, a byte at a time
 module _ (line : List ℕ) (i : ℕ) where

@@ -14,6 +14,7 @@ use Rattle.base_spec.specs.declared.Number.the-variants as number
 use Rattle.base_spec.specs.Number.{numberOf}
 use Rattle.base_spec.specs.Parts.{onto, parts, fields}
 use Rattle.numeric_spec.specs.Build.{builtOf}
+use Rattle.base_facts.specs.Tests.{and-true}
 use Rattle.sheet_spec.specs.declared.Kind.{Kind}
 use Rattle.sheet_spec.specs.Names.{bytes, namesOf}
 use Rattle.sheet_spec.specs.Line.{Token, literal, label, invalid, asNumber, asLabel, isLabel, equal, isNone, placeFrom, token, Parsed, says, no, lineOf}
@@ -30,10 +31,6 @@ use Rattle.sheet_passes.specs.PassLaws.{sized-least}
 use Rattle.sheet_passes.specs.Passes.{passedOf}
 use Rattle.sheet_passes.specs.Settle.{settledAt, settledFrom, sizedBy, sizedSheet, hasAt}
 
-both : (a b : Bool) → a && b ≡ true → (a ≡ true) × (b ≡ true)
-both true b e = (refl, e)
-both false b e = absurd (false≢true e)
-
 neither : (a b : Bool) → a || b ≡ false → (a ≡ false) × (b ≡ false)
 neither true b e = absurd (false≢true (sym e))
 neither false b e = (refl, e)
@@ -43,7 +40,7 @@ none-of a b e f = rw (e, f)
 
 -- ---- the addresses do not matter
 module _ (f g : ℕ → Option ℕ) where
-  number-unlabelled : (v : Token) → labels.isLabel (valueOf v) ≡ false → numberAs f v ≡ numberAs g v
+  number-unlabelled : (v : Token) → labels.saysLabel (valueOf v) ≡ false → numberAs f v ≡ numberAs g v
   number-unlabelled (literal true n) h = refl
   number-unlabelled (literal false n) h = refl
   number-unlabelled (label n) h = absurd (false≢true (sym h))
@@ -52,7 +49,7 @@ module _ (f g : ℕ → Option ℕ) where
   numbers-unlabelled : (vs : List Token) → labelledAll vs ≡ false → map (numberAs f) vs ≡ map (numberAs g) vs
   numbers-unlabelled [] h = refl
   numbers-unlabelled (v ∷ vs) h =
-      let n = neither (labels.isLabel (valueOf v)) (labelledAll vs) h in
+      let n = neither (labels.saysLabel (valueOf v)) (labelledAll vs) h in
       λ i. number-unlabelled v (n .0) i ∷ numbers-unlabelled vs (n .1) i
 
   built-unlabelled : (p : Parsed) → labelledIn p ≡ false → builtAs f p ≡ builtAs g p
@@ -75,13 +72,6 @@ unfolding made
 made-unlabelled f g p h = rw (resolves-without f p h, resolves-without g p h) (ap (λ b. judged b true) (built-unlabelled f g p h))
 
 -- with no addresses `@` is as 0
-no-address : (k : ℕ) → Option·getD (listed [] k) 0 ≡ 0
-no-address k = go (leb 1 k && leb k 0)
-  where
-    go : (b : Bool) → _≡_ {A = ℕ} (Option·getD (cond b (some 0) none) 0) 0
-    go true = refl
-    go false = refl
-
 zero-address : (n k : ℕ) → Option·getD (ofLines n (λ j. 0) k) 0 ≡ 0
 zero-address n k = go (leb 1 k && leb k n)
   where
@@ -92,7 +82,7 @@ zero-address n k = go (leb 1 k && leb k n)
 number-zero : (n : ℕ) (v : Token) → numberAs (listed []) v ≡ numberAs (ofLines n (λ k. 0)) v
 number-zero n (literal true m) = refl
 number-zero n (literal false m) = refl
-number-zero n (label k) = ap pos (no-address k ∙ sym (zero-address n k))
+number-zero n (label k) = ap pos (zero-address 0 k ∙ sym (zero-address n k))
 number-zero n invalid = refl
 
 numbers-zero : (n : ℕ) (vs : List Token) → map (numberAs (listed [])) vs ≡ map (numberAs (ofLines n (λ k. 0))) vs
@@ -127,7 +117,7 @@ not-label [] h = refl
 not-label (b ∷ bs) h = neither (eqb b 64) (hasAt bs) h .0
 
 abbrev unlabelled : Token → Type 0
-unlabelled v = labels.isLabel (valueOf v) ≡ false
+unlabelled v = labels.saysLabel (valueOf v) ≡ false
 
 number-says : (n : Number) → unlabelled (asNumber n)
 number-says (number.Is s m) = refl
@@ -160,7 +150,7 @@ line-unlabelled line h = go (lineOf line) refl
     go : (p : Parsed) → lineOf line ≡ p → labelledIn p ≡ false
     go (says vs) e =
         by-line (λ ks fs ws. noneHas fs → labelledAll ws ≡ false) (λ n. refl)
-        (λ k ks f fs v ws q s r n. none-of (labels.isLabel (valueOf v)) (labelledAll ws) (rw q at (token-says k f (n .0))) (r (n .1)))
+        (λ k ks f fs v ws q s r n. none-of (labels.saysLabel (valueOf v)) (labelledAll ws) (rw q at (token-says k f (n .0))) (r (n .1)))
         line vs e (parts-have line h)
     go no e = refl
 
@@ -194,8 +184,8 @@ module _ (n : ℕ) (f : ℕ → Option ℕ) where
       let g = both-in-order (sizeOutcome k m) (inTurn sizeOutcome (suc k) (map (sizedOf n) ps)) e in
       let z = in-order-zero k (m .number) (m .detail) (m .value) (g .0) in
       let low : a % 2 ^ 32 ≡ a = omega (arith, sized-least n p z) in
-      head-fine n a f p (rw low at (both (settledAt n (a % 2 ^ 32) p) (settledFrom n (a + 2 * halfOf m) ps) s .0)) u
+      head-fine n a f p (rw low at (and-true (settledAt n (a % 2 ^ 32) p) (settledFrom n (a + 2 * halfOf m) ps) s .0)) u
   settled-fine k a (p ∷ ps) e h s (suc j) q u =
       let m = sizedOf n p in
       let g = both-in-order (sizeOutcome k m) (inTurn sizeOutcome (suc k) (map (sizedOf n) ps)) e in
-      settled-fine (suc k) (a + 2 * halfOf m) ps (g .1) (omega arith) (both (settledAt n (a % 2 ^ 32) p) (settledFrom n (a + 2 * halfOf m) ps) s .1) j (omega arith) u
+      settled-fine (suc k) (a + 2 * halfOf m) ps (g .1) (omega arith) (and-true (settledAt n (a % 2 ^ 32) p) (settledFrom n (a + 2 * halfOf m) ps) s .1) j (omega arith) u

@@ -4,8 +4,8 @@ use mathlib.Core.Path.{_≡_, sym, ap, _∙_}
 use native.Mathlib.Omega.{arith}
 use Rattle.sheet_spec.specs.declared.Kind.{Kind}
 use Rattle.sheet_spec.specs.Grammar.{kindsOf}
-use Rattle.sheet_kinds.specs.Next.{below, kindsAfter}
-use Rattle.sheet_kinds.specs.NextLaws.{below-above, packed-small}
+use Rattle.sheet_kinds.specs.Next.{below, powerAbove, kindsAfter}
+use Rattle.sheet_kinds.specs.NextLaws.{below-above, packed-small, power-packed}
 use Rattle.sheet_kinds.specs.Weight.{fields-few}
 use Rattle.sheet_kinds.proofs.next.Statement.{statement}
 use Rattle.sheet_kinds.proofs.next.Tie as tie
@@ -26,7 +26,7 @@ joined c =
     let n = s .args .kinds / 32 in
     let ks = kindsOf (k .result) (s .args .place) in
     let e = c .before .fields-of .ensures in
-    (λ i. e i + c .shift .ensures ks e i * n)
+    (λ i. e i + (c .shift .ensures ∙ ap (powerAbove 7) e ∙ power-packed 7 ks (fields-few (k .result) (s .args .place))) i * n)
     ∙ sym (below-above ks n)
     ∙ ap (λ (k : Kind). below (kindsOf k (s .args .place)) n) (k .ensures)
 

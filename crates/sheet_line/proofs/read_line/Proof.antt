@@ -71,7 +71,7 @@ loop-again c =
     let l = c .before .before .before .before .before .before .before .before .before .before .before .before .before .before .loop in
     let t = c .before .before .before .before .before .before .before .says in (
       omega arith,
-      rw (c .next .ensures, c .before .variant-place .ensures, c .before .before .names-line .ensures, c .before .before .before .is-label .ensures, c .before .before .before .before .number-in .ensures, c .before .before .before .before .before .is-negative .ensures)
+      rw (c .next .ensures, c .before .variant-place .ensures, c .before .before .names-line .ensures, c .before .before .before .says-label .ensures, c .before .before .before .before .number-in .ensures, c .before .before .before .before .before .below-zero .ensures)
           (reading-on (a .lines) (a .addresses .now) (a .line .now) (l .inv .1) (c .before .before .before .before .before .before .before .before .before .before .before .before .if1 .left) (c .before .before .before .before .before .before .before .before .before .before .before .field-end .result) (omega arith) (c .before .before .before .before .before .before .before .before .before .before .before .field-end .ensures .0) (c .before .before .before .before .before .before .before .before .before .before .first .result) (c .before .before .before .before .before .before .before .before .before .before .first .ensures) (c .before .before .before .before .before .before .before .before .value .result) (c .before .before .before .before .before .before .before .before .value .ensures) (c .before .before .before .before .before .before .before .before .before .before .before .before .before .before .before .before .before .pre .0)
           (sym (t .ensures) ∙ not-false (t .result) (c .before .before .before .before .before .before .if2 .left))),
     )
