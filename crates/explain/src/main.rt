@@ -5,6 +5,7 @@ ghost use Prim.Native.Nat.{_≤_, _<_};
 ghost use lib.ListN.{length, replicate};
 ghost use Rattle.io.specs.Counts.{Counts};
 ghost use Rattle.explain_lines.specs.Pieces.{Kept};
+ghost use Rattle.explain.specs.Turn.{Turned};
 use explain_lines::Cut;
 
 // 65,536 bytes, and room for a line and its sentence (73,728).
@@ -57,7 +58,7 @@ struct State {
 // One read after what is kept, and what is printed of both.
 fn turn(text: &mut [u8], have: usize, begun: bool, out: &mut [u8]) -> State
     requires { ⌜ (65536 ≡ length (now text)) × (have < 65536) × (73728 ≤ length (now out)) ⌝ }
-    ensures { λ r. ⌜ r .have < 65536 ⌝ }
+    ensures { λ r. ⌜ Turned (now (text .entry)) have begun (now (text .exit)) r × (r .have < 65536) ⌝ }
 {
     let n = read_some(&mut text[have..]);
     if n == 0 {
