@@ -33,13 +33,13 @@ unfoldable pub listingOf : Sheet → List ℕ
 listingOf s = listingFrom 1 (addresses s) (encoded s)
 
 -- refused⇥number⇥line⇥detail⇥value
-unfoldable pub sheetRefusal : ℕ → ℕ → ℕ → ℤ → List ℕ
-sheetRefusal number line detail value =
+unfoldable pub lineRefusal : ℕ → ℕ → ℕ → ℤ → List ℕ
+lineRefusal number line detail value =
     bytes "refused\t" ++ fieldText number ++ fieldText line ++ fieldText detail ++ signedOf value ++ (10 ∷ [])
 
 abbrev pub printedAs : Outcome → List ℕ → List ℕ
 printedAs inOrder listing = listing
-printedAs (refused number line detail value) listing = sheetRefusal number line detail value
+printedAs (refused number line detail value) listing = lineRefusal number line detail value
 
 -- with so many scratch places and image words
 unfoldable pub printedOf : List ℕ → ℕ → ℕ → List ℕ
@@ -59,6 +59,6 @@ pub record Printed (text v s out v′ s′ out′ : List ℕ) (r : Output) : Typ
   pub image : v′ ≡ cond (isWide out) (imageOf text (length s) v) v
   pub scratch : s′ ≡ cond (isWide out) (scratchOf text s v) s
 
--- what is printed for a text of more than 65,536 bytes
-abbrev pub tooLongSheet : List ℕ
-tooLongSheet = sheetRefusal 10 0 0 (pos 0)
+-- what is printed for an input that is longer than a program takes
+abbrev pub tooLongInput : List ℕ
+tooLongInput = lineRefusal 10 0 0 (pos 0)

@@ -57,7 +57,7 @@ fn main() {
     let n = io::read_full(0, &mut text);
     if n == 65536 {
         if has_more() {
-            io::write_all(1, &sheet_print::too_long());
+            io::write_all(1, &print_parts::too_long());
             return;
         }
     }

@@ -1,13 +1,16 @@
 -- Facts about the outcomes of a sheet, and about lent places.
-use Prim.Native.Nat.{ℕ, _≤_}
+use Prim.Native.Nat.{ℕ, suc, _+_, _-_, _≤_, _<_}
 use mathlib.Core.Path.{_≡_, refl}
 use mathlib.Core.Bool.{Bool, true, false, cond}
-use mathlib.Core.List.{List}
+use mathlib.Core.List.{List, [], _∷_, _++_, append-assoc, append-nil}
 use native.Mathlib.Omega.{arith}
+use native.Mathlib.Numerals.{add-one}
 use lib.Dec.{eqb}
 use lib.IntN.{ℤ}
-use lib.ListN.{length, length-append, length-drop}
+use lib.ListN.{length, take, drop, getD, set, length-append, length-drop, drop-of-length-le}
+use lib.Seq.{drop-cons, drop-drop, drop-append-seam, take-append-seam, take-all, set-at, append-snoc}
 use borrow.Author.Tests.{eqb-true, ne-eqb}
+use borrow.Rule.Slice.PartMut.{putMid}
 use Rattle.sheet_spec.specs.Translate.{Outcome, inOrder, refused, andThen, require, asOutcome, over}
 
 -- ---- outcomes
@@ -38,3 +41,20 @@ in-order-zero k number detail value e = go (eqb number 0) refl e
 -- ---- places written in front of others
 pub over-length : (x v : List ℕ) → length x ≤ length v → length (over x v) ≡ length v
 over-length x v h = rw (length-append, length-drop) (omega arith)
+
+-- one place more
+pub over-set : (x v : List ℕ) (k w : ℕ) → length x ≡ k → k < length v → set (over x v) k w ≡ over (x ++ (w ∷ [])) v
+over-set x v k w e h =
+    rw (e, drop-cons v k 0 h, set-at x (getD v k 0) (drop (suc k) v) w k e, length-append x (w ∷ []), e, add-one, append-snoc x w (drop (suc k) v))
+
+-- a part from `at` on, lent, and ws written in its front
+pub over-more : (x ws v last : List ℕ) (at : ℕ) → at ≡ length x → at + length ws ≤ length v
+    → last ≡ over ws (take (length (over x v) - at) (drop at (over x v)))
+    → putMid at (length (over x v) - at) (over x v) last ≡ over (x ++ ws) v
+over-more x ws v last at p h e =
+    let d : drop at (over x v) ≡ drop at v = rw p (drop-append-seam x (drop (length x) v)) in
+    let t : take at (over x v) ≡ x = rw p (take-append-seam x (drop (length x) v)) in
+    let n : length (over x v) ≡ length v = over-length x v (omega arith) in
+    let a : take (length v - at) (drop at v) ≡ drop at v = take-all (length v - at) (drop at v) (rw length-drop (omega arith)) in
+    let z : drop (length v - at) (drop at v) ≡ [] = drop-of-length-le (drop at v) {i = length v - at} (rw length-drop (omega arith)) in
+    rw (e, d, t, n, a, z, append-nil, drop-drop (length ws) at v, length-append x ws, p, append-assoc)

@@ -8,8 +8,8 @@ use native.Mathlib.Numerals.{add-one}
 use native.Mathlib.Nat.{add-zero}
 use lib.Dec.{eqb}
 use lib.IntN.{pos}
-use lib.ListN.{length, take, drop, getD, set, length-append, length-drop, drop-of-length-le}
-use lib.Seq.{drop-cons, drop-drop, drop-append-seam, take-append-seam, take-all, take-suc, length-take-le, set-at, append-snoc}
+use lib.ListN.{length, take, drop, getD, set, length-append, drop-of-length-le}
+use lib.Seq.{drop-cons, take-suc, length-take-le, append-snoc}
 use borrow.Author.Tests.{eq-eqb, ne-eqb}
 use borrow.Rule.Slice.PartMut.{putMid}
 use Rattle.isa.specs.declared.Measured.{Measured}
@@ -27,7 +27,7 @@ use Rattle.base_text.specs.LinesLaws.{lines-next}
 use Rattle.sheet_spec.specs.Made.{resolvesIn, builtAs, judged, made, ofLines}
 use Rattle.sheet_spec.specs.Sheet.{sizedAs, sizedOf, sizesOf, halfOf, total, encodedLine, encodedFrom, encodedWords, allWords}
 use Rattle.sheet_spec.specs.Translate.{inOrder, refused, andThen, inTurn, sizeOutcome, encodeOutcome, encoding, over}
-use Rattle.sheet_facts.specs.Listing.{over-length}
+use Rattle.sheet_facts.specs.Listing.{over-set, over-more}
 use Rattle.sheet_passes.specs.declared.Passed.{Passed}
 use Rattle.sheet_passes.specs.declared.LineJudged.{LineJudged}
 use Rattle.sheet_passes.specs.declared.Sized.{Sized}
@@ -37,26 +37,9 @@ use Rattle.sheet_passes.specs.SettleLaws.{resolves-without, built-zero, 
 use Rattle.sheet_passes.specs.PassLaws.{counted-most, as-most, as-words, line-is}
 
 -- ---- places written in front of others
--- one place more
-pub over-set : (x v : List ℕ) (k w : ℕ) → length x ≡ k → k < length v → set (over x v) k w ≡ over (x ++ (w ∷ [])) v
-over-set x v k w e h =
-    rw (e, drop-cons v k 0 h, set-at x (getD v k 0) (drop (suc k) v) w k e, length-append x (w ∷ []), e, add-one, append-snoc x w (drop (suc k) v))
-
 -- one word more in the front
 pub put-more : (w p : List ℕ) (i : ℕ) → i < length w → i < length p → set (over (take i w) p) i (getD w i 0) ≡ over (take (i + 1) w) p
 put-more w p i h g = rw (add-one, take-suc w i 0 h) (over-set (take i w) p i (getD w i 0) (length-take-le i w (omega arith)) g)
-
--- a part from `at` on, lent, and ws written in its front
-pub over-more : (x ws v last : List ℕ) (at : ℕ) → at ≡ length x → at + length ws ≤ length v
-    → last ≡ over ws (take (length (over x v) - at) (drop at (over x v)))
-    → putMid at (length (over x v) - at) (over x v) last ≡ over (x ++ ws) v
-over-more x ws v last at p h e =
-    let d : drop at (over x v) ≡ drop at v = rw p (drop-append-seam x (drop (length x) v)) in
-    let t : take at (over x v) ≡ x = rw p (take-append-seam x (drop (length x) v)) in
-    let n : length (over x v) ≡ length v = over-length x v (omega arith) in
-    let a : take (length v - at) (drop at v) ≡ drop at v = take-all (length v - at) (drop at v) (rw length-drop (omega arith)) in
-    let z : drop (length v - at) (drop at v) ≡ [] = drop-of-length-le (drop at v) {i = length v - at} (rw length-drop (omega arith)) in
-    rw (e, d, t, n, a, z, append-nil, drop-drop (length ws) at v, length-append x ws, p, append-assoc)
 
 -- the line from `next` to e
 abbrev pub lineTo : List ℕ → ℕ → ℕ → List ℕ

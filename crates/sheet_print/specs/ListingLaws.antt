@@ -14,14 +14,6 @@ use Rattle.sheet_size_facts.specs.Image.{Counts, later-counts}
 use Rattle.print_spec.specs.Printed.{listedWords, lineText, listingFrom}
 use Rattle.sheet_print.specs.Listing.{firstCount, linesText, Rises, Laid}
 
-words-more : (ws : List ℕ) (w : ℕ) → listedWords (ws ++ (w ∷ [])) ≡ listedWords ws ++ (tab ++ hex4Of w)
-words-more [] w = refl
-words-more (v ∷ ws) w = ap (λ (t : List ℕ). tab ++ hex4Of v ++ t) (words-more ws w)
-
--- one word more
-pub words-next : (ws : List ℕ) (i : ℕ) → i < length ws → listedWords (take (i + 1) ws) ≡ listedWords (take i ws) ++ (tab ++ hex4Of (getD ws i 0))
-words-next ws i h = rw (add-one, take-suc ws i 0 h) (words-more (take i ws) (getD ws i 0))
-
 -- ---- the first count
 pub count-last : (addresses : List ℕ) (left : ℕ) → length addresses < 2 → firstCount addresses left ≡ left
 count-last [] left h = refl

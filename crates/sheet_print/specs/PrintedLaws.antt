@@ -22,7 +22,7 @@ use Rattle.sheet_passes.specs.PassLaws.{counted-most}
 use Rattle.sheet_spec.specs.Promises.{Translated}
 use Rattle.sheet_translate.specs.OutcomeLaws.{Sound, outcome-sound}
 use Rattle.sheet_translate.specs.PlaceLaws.{sheet-places}
-use Rattle.print_spec.specs.Printed.{listingOf, sheetRefusal, printedOf, Put, Printed, tooLongSheet}
+use Rattle.print_spec.specs.Printed.{listingOf, printedOf, Put, Printed, tooLongInput}
 use Rattle.sheet_print.specs.Listing.{linesText, Laid, wideBy, notWide}
 use Rattle.sheet_print.specs.ListingLaws.{listing-is, laid}
 
@@ -80,15 +80,6 @@ module _ {text v s v′ s′ : List ℕ} {r : Listed} (t : Translated text v s v
       go inOrder e n = rw (t .listed, t .image, t .scratch, e) (accepted-listable text v s e)
       go (refused number line detail value) e n = absurd (n (rw (t .listed, e) at h))
 
-  pub refusal-is : (r .number ≡ 0 → ⊥) → sheetRefusal (r .number) (r .line) (r .detail) (r .value) ≡ printedOf text (length s) (length v)
-  unfolding listedOf printedOf
-  refusal-is h = go (outcomeOf text (length s) (length v)) refl
-    where
-      go : (w : Outcome) → outcomeOf text (length s) (length v) ≡ w
-          → sheetRefusal (r .number) (r .line) (r .detail) (r .value) ≡ printedOf text (length s) (length v)
-      go inOrder e = absurd (h (rw (t .listed, e)))
-      go (refused number line detail value) e = rw (t .listed, e)
-
 -- a text from the first place on
 pub from-first : {buf out t : List ℕ} {r : ℕ} (p : List ℕ) → Wrote buf 0 t out r → t ≡ p → (r ≡ length p) × (out ≡ placed buf 0 p)
 from-first p w e = rw (sym e) (omega (arith, w .next), w .image)
@@ -120,6 +111,6 @@ sheet-long text h = rw (lt-leb (length text) 65536 h) (long (leb 1 (length text)
     long true = refl
     long false = refl
 
-pub long-refused : (text : List ℕ) (places room : ℕ) → 65536 < length text → printedOf text places room ≡ tooLongSheet
+pub long-refused : (text : List ℕ) (places room : ℕ) → 65536 < length text → printedOf text places room ≡ tooLongInput
 unfolding printedOf outcomeAt
 long-refused text places room h = rw (sheet-long text h)

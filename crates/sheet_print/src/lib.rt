@@ -5,24 +5,9 @@ ghost use lib.ListN.{length};
 ghost use Rattle.base_spec.specs.Written.{placed};
 ghost use Rattle.base_text.specs.Wrote.{Wrote};
 ghost use Rattle.sheet_spec.specs.Translate.{imageOf, scratchOf};
-ghost use Rattle.print_spec.specs.Printed.{listedWords, lineText, sheetRefusal, printedOf, Printed, tooLongSheet};
+ghost use Rattle.print_spec.specs.Printed.{lineText, printedOf, Printed};
 ghost use Rattle.sheet_print.specs.Listing.{firstCount, linesText, Rises, Laid, notWide, wideBy};
 use print_spec::Output;
-
-// A tab and each word.
-fn put_words(out: &mut [u8], at: usize, words: &[u16]) -> usize
-    requires { ⌜ (at + 55 ≤ length (now out)) × (length (now words) ≤ 11) ⌝ }
-    ensures { λ r. ⌜ Wrote (now (out .entry)) at (listedWords (now (words .entry))) (now (out .exit)) r × (r ≤ at + 55) ⌝ }
-{
-    let mut next = at;
-    let mut i: usize = 0;
-    while i < words.len() {
-        next = base_text::put_byte(out, next, b'\t');
-        next = base_text::put_hex4(out, next, words[i]);
-        i += 1;
-    }
-    next
-}
 
 // A line's number, address and words.
 fn put_line(out: &mut [u8], at: usize, k: usize, address: u32, words: &[u16]) -> usize
@@ -31,7 +16,7 @@ fn put_line(out: &mut [u8], at: usize, k: usize, address: u32, words: &[u16]) ->
 {
     let mut next = base_text::put_field(out, at, k as u64);
     next = base_text::put_hex8(out, next, address);
-    next = put_words(out, next, words);
+    next = print_parts::put_words(out, next, words);
     base_text::put_byte(out, next, b'\n')
 }
 
@@ -71,19 +56,6 @@ fn put_listing(addresses: &[u32], words: &[u16], out: &mut [u8]) -> usize
     at
 }
 
-// `refused`, number, line, detail and value.
-fn put_refusal(out: &mut [u8], number: u8, line: usize, detail: u8, value: i64) -> usize
-    requires { ⌜ 92 ≤ length (now out) ⌝ }
-    ensures { λ r. ⌜ Wrote (now (out .entry)) 0 (sheetRefusal number line detail value) (now (out .exit)) r × (r ≤ 92) ⌝ }
-{
-    let mut next = base_text::put(out, 0, b"refused\t");
-    next = base_text::put_field(out, next, number as u64);
-    next = base_text::put_field(out, next, line as u64);
-    next = base_text::put_field(out, next, detail as u64);
-    next = base_text::put_signed(out, next, value);
-    base_text::put_byte(out, next, b'\n')
-}
-
 // The listing or the refusal of a sheet, from the first place on; how many places it takes.
 fn print_wide(text: &[u8], image: &mut [u16], scratch: &mut [u32], out: &mut [u8]) -> usize
     requires { ⌜ 282624 ≤ length (now out) ⌝ }
@@ -96,7 +68,7 @@ fn print_wide(text: &[u8], image: &mut [u16], scratch: &mut [u32], out: &mut [u8
         let words = r.words;
         return put_listing(&scratch[..lines], &image[..words], out);
     }
-    put_refusal(out, r.number, r.line, r.detail, r.value)
+    print_parts::put_refusal(out, r.number, r.line, r.detail, r.value)
 }
 
 fn not_wide() -> Output
@@ -125,11 +97,4 @@ pub fn print(text: &[u8], image: &mut [u16], scratch: &mut [u32], out: &mut [u8]
         return not_wide();
     }
     wide(print_wide(text, image, scratch, out))
-}
-
-// What is printed for a text of more than 65,536 bytes.
-pub fn too_long() -> [u8; 17]
-    ensures { λ r. ⌜ r ≡ tooLongSheet ⌝ }
-{
-    *b"refused\t10\t0\t0\t0\n"
 }

@@ -5,7 +5,9 @@ use native.Mathlib.Omega.{arith}
 use mir.Facts.{toZ-ofZ}
 use mir.Syntax.{w64}
 use lib.ListN.{length-take}
-use Rattle.sheet_print.specs.PrintedLaws.{listable, refusal-is, from-first}
+use Rattle.print_spec.specs.Printed.{printedOf}
+use Rattle.print_parts.specs.RefusalLaws.{refusal-is}
+use Rattle.sheet_print.specs.PrintedLaws.{listable, from-first}
 
 slice-reshare-prefix-put-listing : tie.Need-slice-reshare-prefix-put-listing
 slice-reshare-prefix-put-listing c = listable (c .before .before .before .before .before .before .translate .ensures) (c .if1 .taken) .held
@@ -31,10 +33,11 @@ returns c =
     ((f .0, f .1, omega (arith, l .few)), (t .image, t .scratch))
 
 returns-2 : tie.Need-returns-2
+unfolding printedOf
 returns-2 c =
     let t = c .before .before .before .before .before .before .before .before .before .before .before .translate in
     let p = rw (toZ-ofZ {w = w64} {z = t .result .value} (search needs)) at (c .before .before .put-refusal .ensures) in
-    let f = from-first _ (p .0) (refusal-is (t .ensures) (c .before .before .before .before .before .if1 .left)) in
+    let f = from-first _ (p .0) (refusal-is (t .ensures) (c .before .before .before .before .before .if1 .left) _) in
     ((f .0, f .1, omega arith), (t .ensures .image, t .ensures .scratch))
 
 pub print-wide-spec : {M : Type 1} → statement M

@@ -13,7 +13,7 @@ put-words-requires : tie.Need-put-words-requires
 put-words-requires c κs =
     let k = c .before .before .before .before .before .before .before .before .before .before .before .args .k in
     let n = c .before .before .before .before .before .before .before .put-field .ensures .0 .next in
-    (omega (arith, n, length-append (decimalOf k) tab, decimal-length 3 k (omega arith)), omega arith)
+    omega (arith, n, length-append (decimalOf k) tab, decimal-length 3 k (omega arith))
 
 put-byte-requires : tie.Need-put-byte-requires
 put-byte-requires c κs =

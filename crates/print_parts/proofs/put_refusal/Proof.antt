@@ -1,12 +1,12 @@
 use borrow.Author.Needs.{needs}
-use Rattle.sheet_print.proofs.put_refusal.Statement.{statement}
-use Rattle.sheet_print.proofs.put_refusal.Tie as tie
+use Rattle.print_parts.proofs.put_refusal.Statement.{statement}
+use Rattle.print_parts.proofs.put_refusal.Tie as tie
 use native.Mathlib.Omega.{arith}
 use mir.Facts.{toZ-ofZ}
 use mir.Syntax.{w64}
 use Rattle.sheet_spec.specs.Names.{bytes}
 use Rattle.base_text.specs.WroteLaws.{wrote, wrote-then, signed-20}
-use Rattle.print_spec.specs.Printed.{sheetRefusal}
+use Rattle.print_spec.specs.Printed.{lineRefusal}
 
 put-byte-requires : tie.Need-put-byte-requires
 put-byte-requires c κs =
@@ -16,7 +16,7 @@ put-byte-requires c κs =
     omega arith
 
 returns : tie.Need-returns
-unfolding sheetRefusal
+unfolding lineRefusal
 returns c =
     let s = c .before .before .before .before .before .before .before .before .before .before .before .before .before .before .before .before .before .before .before .before .before .before .before .before .before .before in
     let l = signed-20 (s .args .value) (s .fits .value) in

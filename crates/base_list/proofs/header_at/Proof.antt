@@ -1,9 +1,9 @@
 use borrow.Author.Needs.{needs}
-use Rattle.sheets.proofs.read_header.Statement.{statement}
-use Rattle.sheets.proofs.read_header.Tie as tie
+use Rattle.base_list.proofs.header_at.Statement.{statement}
+use Rattle.base_list.proofs.header_at.Tie as tie
 use native.Mathlib.Omega.{arith}
 use mathlib.Core.Path.{_∙_}
-use Rattle.sheets.specs.Headers.{header-yes, header-no, none-within, widen}
+use Rattle.base_list.specs.Headers.{header-yes, header-no, none-inside, widen}
 
 returns : tie.Need-returns
 returns c =
@@ -18,10 +18,10 @@ returns-2 c =
     let n = c .before .before .before .before .before in
     let l = n .before .before in
     let a = l .before .before .args in
-    (c .no-header .ensures ∙ header-no (a .list .now) (a .from) (l .line-end .result) (n .read-numbers .result) (l .line-end .ensures .0) (n .read-numbers .ensures) (c .before .if1 .left), none-within (a .from) _ _ (c .no-header .ensures))
+    (c .no-header .ensures ∙ header-no (a .list .now) (a .from) (l .line-end .result) (n .read-numbers .result) (l .line-end .ensures .0) (n .read-numbers .ensures) (c .before .if1 .left), none-inside (a .from) _ _ (c .no-header .ensures))
 
-pub read-header-spec : {M : Type 1} → statement M
-read-header-spec =
+pub header-at-spec : {M : Type 1} → statement M
+header-at-spec =
     tie.close
     (tie.spec
     (λ c κs. search needs)

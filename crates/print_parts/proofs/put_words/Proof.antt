@@ -1,5 +1,5 @@
-use Rattle.sheet_print.proofs.put_words.Statement.{statement}
-use Rattle.sheet_print.proofs.put_words.Tie as tie
+use Rattle.print_parts.proofs.put_words.Statement.{statement}
+use Rattle.print_parts.proofs.put_words.Tie as tie
 use mathlib.Core.Path.{_≡_, refl}
 use Prim.Native.Nat.{_+_, _*_, _-_, _≤_}
 use native.Mathlib.Omega.{arith}
@@ -8,7 +8,7 @@ use lib.Seq.{take-all}
 use Rattle.base_text.specs.Wrote.{Wrote}
 use Rattle.base_text.specs.WroteLaws.{wrote, wrote-none, wrote-then}
 use Rattle.print_spec.specs.Printed.{listedWords}
-use Rattle.sheet_print.specs.ListingLaws.{words-next}
+use Rattle.print_parts.specs.WordsLaws.{words-next}
 
 abbrev Inv-loop : tie.InvT-loop
 Inv-loop out₀ at words next₀ i₀ out next i =
