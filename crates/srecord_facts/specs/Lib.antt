@@ -1,0 +1,5 @@
+pub mod Bytes
+pub mod Digits
+pub mod Writing
+pub mod Lines
+pub mod Refused

@@ -1,0 +1,5 @@
+pub mod Text
+pub mod TextLaws
+pub mod LengthLaws
+pub mod WrittenLaws
+pub mod Examples
