@@ -1,0 +1,3 @@
+pub mod LineForm
+pub mod Line
+pub mod LineLaws
