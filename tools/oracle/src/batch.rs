@@ -72,3 +72,16 @@ pub fn output_of(program: &str, input: Vec<u8>) -> io::Result<Vec<u8>> {
     drop(writer.join());
     Ok(output.stdout)
 }
+
+/// The answers of an output, each followed by an empty line.
+pub fn answers(output: &[u8]) -> Vec<&[u8]> {
+    let mut answers = Vec::new();
+    let mut rest = output;
+    while !rest.is_empty() {
+        let end = rest.windows(2).position(|bytes| bytes == b"\n\n");
+        let end = end.map_or(rest.len(), |end| end + 1);
+        answers.push(&rest[..end]);
+        rest = rest.get(end + 1..).unwrap_or_default();
+    }
+    answers
+}

@@ -34,6 +34,19 @@ impl Comparison {
         }
     }
 
+    /// Compares two answers of several lines by the first that differ.
+    pub fn answer(&mut self, asked: &[u8], expected: &[u8], found: Option<&[u8]>) {
+        if found == Some(expected) {
+            return self.line(asked, expected, expected);
+        }
+        let lines = |text| <[u8]>::split(text, |byte| *byte == b'\n').collect();
+        let (expected, found): (Vec<_>, Vec<_>) = (lines(expected), found.map_or(vec![], lines));
+        let most = expected.len().max(found.len());
+        let differs = (0..most).find(|at| expected.get(*at) != found.get(*at));
+        let at = differs.unwrap_or_default();
+        self.line(asked, at_or_none(&expected, at), at_or_none(&found, at));
+    }
+
     pub fn report(&self) {
         println!("{} compared, {} different", self.compared, self.different);
     }

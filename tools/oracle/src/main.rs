@@ -1,5 +1,6 @@
-//! Compares an encoder, a reader, the functions on values and a sheet translator
-//! with the Rust original. README.md says how.
+//! Compares an encoder, a reader, the functions on values, a sheet translator
+//! and a writer and reader of S-records with the Rust original and with judges.
+//! README.md says how.
 
 mod answer;
 mod batch;
@@ -22,6 +23,7 @@ mod reading;
 mod replay;
 mod schema;
 mod sheet;
+mod srecord;
 mod systematic;
 mod values;
 mod written;
@@ -39,7 +41,8 @@ const USAGE: &str =
        | bytes-answer | bytes-list SEED | bytes-replay PROGRAM SEED COUNT
        | values-answer | values-list | values-replay PROGRAM
        | sheet-answer | sheet-one | sheet-list SEED | sheet-replay PROGRAM SEED COUNT
-       | sheet-whole | sheet-whole-source | sheet-whole-image | sheet-whole-time ROUNDS";
+       | sheet-whole | sheet-whole-source | sheet-whole-image | sheet-whole-time ROUNDS
+       | srecord-answer | srecord-list SEED | srecord-replay PROGRAM SEED COUNT";
 
 fn main() -> ExitCode {
     let arguments: Vec<String> = env::args().skip(1).collect();
@@ -78,6 +81,8 @@ fn run(arguments: &[&str]) -> Result<usize, Box<dyn Error>> {
         ["sheet-answer"] => sheet::answer::answer_list(&input()?, &mut output())?,
         ["sheet-one"] => sheet::answer::answer_one(input()?, &mut output())?,
         ["sheet-list", seed] => sheet::list::write(seed.parse()?, &mut output())?,
+        ["srecord-answer"] => srecord::answer::answer_list(&input()?, &mut output())?,
+        ["srecord-list", seed] => srecord::list::write(seed.parse()?, &mut output())?,
         ["sheet-whole"] => output().write_all(sheet::whole::sheet().as_bytes())?,
         ["sheet-whole-source"] => output().write_all(sheet::whole::source().as_bytes())?,
         ["sheet-whole-image"] => output().write_all(&sheet::whole::image())?,
@@ -97,6 +102,7 @@ fn against(command: &str, program: &str, seed: u64, count: usize) -> Result<usiz
         "read-objdump" => unexplained(reading::objdump::compare(program, seed, count)?),
         "bytes-replay" => different(bytes::replay::replay(program, seed, count)?),
         "sheet-replay" => different(sheet::replay::replay(program, seed, count)?),
+        "srecord-replay" => different(srecord::replay::replay(program, seed, count)?),
         _ => Err(USAGE.into()),
     }
 }

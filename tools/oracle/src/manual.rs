@@ -1,6 +1,6 @@
 //! Worked encodings and readings written down by hand: the text, the line and the answer.
 
-use crate::{answer, reading, sheet};
+use crate::{answer, reading, sheet, srecord};
 
 const MANUAL: &str = include_str!("../manual.txt");
 const READING: &str = include_str!("../reading.txt");
@@ -41,6 +41,7 @@ pub fn check() -> usize {
     differing("encodings", &examples(), answer::answer_line)
         + differing("readings", &readings(), reading::answer::answer_line)
         + sheet::manual::check()
+        + srecord::manual::check()
 }
 
 fn differing(what: &str, examples: &[Example], answer_line: fn(&[u8]) -> String) -> usize {

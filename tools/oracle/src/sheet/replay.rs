@@ -6,11 +6,9 @@ use super::answer::answer;
 use super::generate::record;
 use super::manual;
 use super::record::Record;
-use crate::batch::{output_of, MOST};
+use crate::batch::{answers, output_of, MOST};
 use crate::compare::Comparison;
 use crate::random::Random;
-
-const MISSING: &[u8] = b"<no line>";
 
 /// Records given to a program in batches.
 struct Batches<'p> {
@@ -59,45 +57,12 @@ impl Batches<'_> {
             return Err(io::Error::other(counts));
         }
         for (at, record) in self.records.drain(..).enumerate() {
+            let mut asked = Vec::new();
+            record.write(&mut asked)?;
             let expected = answer(&record);
-            let found = found.get(at).copied().unwrap_or(MISSING);
-            compare(&mut self.comparison, &record, expected.as_bytes(), found);
+            let found = found.get(at).copied();
+            self.comparison.answer(&asked, expected.as_bytes(), found);
         }
         Ok(())
     }
-}
-
-/// The answers of an output, each followed by an empty line.
-fn answers(output: &[u8]) -> Vec<&[u8]> {
-    let mut answers = Vec::new();
-    let mut rest = output;
-    while !rest.is_empty() {
-        let end = rest.windows(2).position(|bytes| bytes == b"\n\n");
-        let end = end.map_or(rest.len(), |end| end + 1);
-        answers.push(&rest[..end]);
-        rest = rest.get(end + 1..).unwrap_or_default();
-    }
-    answers
-}
-
-/// Compares two answers by their first lines that differ.
-fn compare(comparison: &mut Comparison, record: &Record, expected: &[u8], found: &[u8]) {
-    if expected == found {
-        return comparison.line(b"", expected, found);
-    }
-    let mut asked = Vec::new();
-    record.write(&mut asked).expect("a vector takes all");
-    let lines = |text: &[u8]| {
-        text.split(|byte| *byte == b'\n')
-            .map(<[u8]>::to_vec)
-            .collect()
-    };
-    let (expected, found): (Vec<_>, Vec<_>) = (lines(expected), lines(found));
-    let most = expected.len().max(found.len());
-    let differs = (0..most).find(|at| expected.get(*at) != found.get(*at));
-    let line = |lines: &[Vec<u8>]| {
-        let line = differs.and_then(|at| lines.get(at).cloned());
-        line.unwrap_or(MISSING.to_vec())
-    };
-    comparison.line(&asked, &line(&expected), &line(&found));
 }

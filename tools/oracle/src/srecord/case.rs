@@ -1,0 +1,89 @@
+//! What a stored list asks: an image to write, or a text to read, with what is
+//! lent for it.
+
+use std::io::{self, Write};
+
+use super::image::Image;
+use crate::numeric::digits;
+
+/// The bytes that may be lent for a text, and the words for an image.
+pub const MOST_BYTES: usize = 262_144;
+pub const MOST_WORDS: usize = 45_056;
+
+#[derive(Debug, Clone, Copy, PartialEq, Eq, Hash)]
+pub enum Way {
+    Write,
+    Read,
+}
+
+#[derive(Debug, Clone, PartialEq, Eq, Hash)]
+pub struct Case {
+    pub way: Way,
+    pub lent: usize,
+    pub payload: Vec<u8>,
+}
+
+impl Way {
+    pub fn number(self) -> u64 {
+        match self {
+            Way::Write => 0,
+            Way::Read => 1,
+        }
+    }
+
+    pub fn of_number(number: u64) -> Option<Way> {
+        let ways = [Way::Write, Way::Read];
+        ways.into_iter().find(|way| way.number() == number)
+    }
+
+    /// The most that may be lent.
+    pub fn most(self) -> usize {
+        match self {
+            Way::Write => MOST_BYTES,
+            Way::Read => MOST_WORDS,
+        }
+    }
+}
+
+impl Case {
+    pub fn to_write(image: &Image, lent: usize) -> Case {
+        Case {
+            way: Way::Write,
+            lent,
+            payload: image.line().into_bytes(),
+        }
+    }
+
+    pub fn to_read(text: impl Into<Vec<u8>>, lent: usize) -> Case {
+        Case {
+            way: Way::Read,
+            lent,
+            payload: text.into(),
+        }
+    }
+
+    pub fn write(&self, output: &mut impl Write) -> io::Result<()> {
+        let (bytes, way) = (self.payload.len(), self.way.number());
+        writeln!(output, "{bytes}\t{way}\t{}", self.lent)?;
+        output.write_all(&self.payload)
+    }
+
+    /// The first case of a list and the rest, if it is in the form.
+    pub fn first(list: &[u8]) -> Option<(Case, &[u8])> {
+        let end = list.iter().position(|byte| *byte == b'\n')?;
+        let (header, rest) = (&list[..end], &list[end + 1..]);
+        let fields = header.split(|byte| *byte == b'\t').map(digits);
+        let [Some(bytes), Some(way), Some(lent)] = fields.collect::<Vec<_>>()[..] else {
+            return None;
+        };
+        let way = Way::of_number(way)?;
+        let lent = usize::try_from(lent).ok()?;
+        let bytes = usize::try_from(bytes).ok()?;
+        if lent > way.most() {
+            return None;
+        }
+        let payload = rest.get(..bytes)?.to_vec();
+        let case = Case { way, lent, payload };
+        Some((case, &rest[bytes..]))
+    }
+}
