@@ -5,9 +5,9 @@ ghost use lib.ListN.{length};
 ghost use Rattle.base_spec.specs.Parts.{fields};
 ghost use Rattle.explain_spec.specs.Sentence.{lineTexts, sheetTexts, fieldTexts, reasonTexts};
 
-// What is wrong with a line of a sheet, or with what is printed without a line.
-pub fn line_texts() -> [u8; 548]
-    ensures { λ r. ⌜ (fields r ≡ [] ∷ lineTexts) × (548 ≡ length r) ⌝ }
+// What is wrong with a line of a sheet or a record of a text, or with what is printed without a line.
+pub fn line_texts() -> [u8; 854]
+    ensures { λ r. ⌜ (fields r ≡ [] ∷ lineTexts) × (854 ≡ length r) ⌝ }
 {
     *b"\
           \tno such instruction: an `Extended` base above 8, a full word there that is reserved or has another spelling, or a word outside 40960 to 45055 for LINEA, 61440 to 65535 for LINEF\
@@ -20,12 +20,15 @@ pub fn line_texts() -> [u8; 548]
           \t`@` names no instruction line\
           \t\
           \tthe input is longer than 1 MiB\
-          \t"
+          \t\
+          \tnot S1, S2, S3, or S7, S8, S9 without data; not capitals and a line feed; a wrong length; data bytes odd in number; or the record is missing, or stands after the closing one\
+          \tthe checksum of this S-record is wrong\
+          \tthis S-record does not begin where the last ended, passes 2^32, or closes with another start"
 }
 
-// What is wrong with a sheet outside its lines.
-pub fn sheet_texts() -> [u8; 387]
-    ensures { λ r. ⌜ (fields r ≡ [] ∷ sheetTexts) × (387 ≡ length r) ⌝ }
+// What is wrong outside lines.
+pub fn sheet_texts() -> [u8; 489]
+    ensures { λ r. ⌜ (fields r ≡ [] ∷ sheetTexts) × (489 ≡ length r) ⌝ }
 {
     *b"\
           \t\
@@ -36,9 +39,12 @@ pub fn sheet_texts() -> [u8; 387]
           \t\
           \tthe START line is not in the form: `START`, a tab and an address from 0 to 4294967295\
           \t\
-          \tthe start is odd, or the end is above 2^32\
-          \tthe sheet is empty, is longer than 65,536 bytes, does not end in a line feed, or does not have 1 to 4,096 instruction lines\
-          \tthe sheet has more lines than places are lent (`sheet` lends 4,096), or more words than there is room for (`sheet` has 16,384)"
+          \tthe start of a sheet is odd, or the end is above 2^32\
+          \tthe sheet is empty, is longer than 65,536 bytes, does not end in a line feed, or does not have 1 to 4,096 instruction lines; or S-records are longer than 1 MiB\
+          \tmore lines than places are lent (`sheet` lends 4,096), more words than there is room for (`sheet` and `srecord` have 16,384, `image` 45,056), or a text longer than the bytes lent\
+          \t\
+          \t\
+          \t"
 }
 
 // The fields of 2.

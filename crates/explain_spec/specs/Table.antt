@@ -2,7 +2,7 @@
 use Prim.Native.String.{String}
 use mathlib.Core.List.{List, [], _∷_}
 
--- by number: what is wrong with a line of a sheet, or with what is printed without a line; what is wrong with a sheet outside its lines
+-- by number: what is wrong with a line of a sheet or a record of a text, or with what is printed without a line; what is wrong outside lines
 -- the field of 2 and the reason of 3 follow; an empty text is no row; in every text # stands for the value and & for the detail
 abbrev pub numberRows : List (String × String)
 numberRows =
@@ -14,9 +14,12 @@ numberRows =
     ∷ ("the words begin with no instruction, and no instruction begins with them", "")
     ∷ ("not in the form: a field that does not belong there, or a field too many or too few", "the START line is not in the form: `START`, a tab and an address from 0 to 4294967295")
     ∷ ("`@` names no instruction line", "")
-    ∷ ("", "the start is odd, or the end is above 2^32")
-    ∷ ("the input is longer than 1 MiB", "the sheet is empty, is longer than 65,536 bytes, does not end in a line feed, or does not have 1 to 4,096 instruction lines")
-    ∷ ("", "the sheet has more lines than places are lent (`sheet` lends 4,096), or more words than there is room for (`sheet` has 16,384)")
+    ∷ ("", "the start of a sheet is odd, or the end is above 2^32")
+    ∷ ("the input is longer than 1 MiB", "the sheet is empty, is longer than 65,536 bytes, does not end in a line feed, or does not have 1 to 4,096 instruction lines; or S-records are longer than 1 MiB")
+    ∷ ("", "more lines than places are lent (`sheet` lends 4,096), more words than there is room for (`sheet` and `srecord` have 16,384, `image` 45,056), or a text longer than the bytes lent")
+    ∷ ("not S1, S2, S3, or S7, S8, S9 without data; not capitals and a line feed; a wrong length; data bytes odd in number; or the record is missing, or stands after the closing one", "")
+    ∷ ("the checksum of this S-record is wrong", "")
+    ∷ ("this S-record does not begin where the last ended, passes 2^32, or closes with another start", "")
     ∷ []
 
 -- by the detail of 2: the field, and what it holds
