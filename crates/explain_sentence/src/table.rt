@@ -27,8 +27,8 @@ pub fn line_texts() -> [u8; 854]
 }
 
 // What is wrong outside lines.
-pub fn sheet_texts() -> [u8; 489]
-    ensures { λ r. ⌜ (fields r ≡ [] ∷ sheetTexts) × (489 ≡ length r) ⌝ }
+pub fn sheet_texts() -> [u8; 475]
+    ensures { λ r. ⌜ (fields r ≡ [] ∷ sheetTexts) × (475 ≡ length r) ⌝ }
 {
     *b"\
           \t\
@@ -41,7 +41,7 @@ pub fn sheet_texts() -> [u8; 489]
           \t\
           \tthe start of a sheet is odd, or the end is above 2^32\
           \tthe sheet is empty, is longer than 65,536 bytes, does not end in a line feed, or does not have 1 to 4,096 instruction lines; or S-records are longer than 1 MiB\
-          \tmore lines than places are lent (`sheet` lends 4,096), more words than there is room for (`sheet` and `srecord` have 16,384, `image` 45,056), or a text longer than the bytes lent\
+          \tmore lines than places are lent (4,096), more words than there is room for (`sheet` and `srecord` have 16,384, `image` 45,056), or a text longer than the bytes lent\
           \t\
           \t\
           \t"

@@ -16,7 +16,7 @@ numberRows =
     ∷ ("`@` names no instruction line", "")
     ∷ ("", "the start of a sheet is odd, or the end is above 2^32")
     ∷ ("the input is longer than 1 MiB", "the sheet is empty, is longer than 65,536 bytes, does not end in a line feed, or does not have 1 to 4,096 instruction lines; or S-records are longer than 1 MiB")
-    ∷ ("", "more lines than places are lent (`sheet` lends 4,096), more words than there is room for (`sheet` and `srecord` have 16,384, `image` 45,056), or a text longer than the bytes lent")
+    ∷ ("", "more lines than places are lent (4,096), more words than there is room for (`sheet` and `srecord` have 16,384, `image` 45,056), or a text longer than the bytes lent")
     ∷ ("not S1, S2, S3, or S7, S8, S9 without data; not capitals and a line feed; a wrong length; data bytes odd in number; or the record is missing, or stands after the closing one", "")
     ∷ ("the checksum of this S-record is wrong", "")
     ∷ ("this S-record does not begin where the last ended, passes 2^32, or closes with another start", "")

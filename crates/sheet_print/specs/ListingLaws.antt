@@ -5,13 +5,11 @@ use Prim.Native.Nat.{ℕ, suc, _+_, _*_, _-_, _/_, _≤_, _<_}
 use native.Mathlib.Omega.{arith}
 use native.Mathlib.Numerals.{add-one}
 use lib.ListN.{length, take, drop, getD, length-append, length-drop}
-use lib.Seq.{take-all, take-suc, take-at, drop-at, drop-cons, drop-drop}
-use Rattle.base_spec.specs.Written.{hex4Of}
-use Rattle.base_spec.specs.Refused.{tab}
+use lib.Seq.{take-all, take-at, drop-at, drop-cons, drop-drop}
 use Rattle.isa.specs.declared.Encoded.{Encoded}
 use Rattle.sheet_spec.specs.Sheet.{addressesFrom, encodedWords, allWords}
 use Rattle.sheet_size_facts.specs.Image.{Counts, later-counts}
-use Rattle.print_spec.specs.Printed.{listedWords, lineText, listingFrom}
+use Rattle.print_spec.specs.Printed.{lineText, listingFrom}
 use Rattle.sheet_print.specs.Listing.{firstCount, linesText, Rises, Laid}
 
 -- ---- the first count

@@ -16,7 +16,7 @@ pub fn digit_value(b: u8) -> usize
     16
 }
 
-// The byte of two digits.
+// The byte of two digits, each as `digit_value` gives it.
 pub fn byte_of(high: u8, low: u8) -> usize
     ensures { λ r. ⌜ (r ≡ digitValue high * 16 + digitValue low) × (r ≤ 272) ⌝ }
 {

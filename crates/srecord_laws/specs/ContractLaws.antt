@@ -1,22 +1,18 @@
 -- The answers of `write_records` and `read_records`, and what they leave, from what a caller gives. Assumes nothing.
 use mathlib.Core.Path.{_≡_, refl, sym, ap, _∙_, subst}
-use mathlib.Core.Bool.{Bool, true, false, cond}
-use mathlib.Core.List.{List, [], _∷_}
-use Prim.Native.Nat.{ℕ, suc, _+_, _*_, _/_, _^_, _≤_, _<_}
+use mathlib.Core.List.{List}
+use Prim.Native.Nat.{ℕ, _+_, _*_, _/_, _^_, _≤_, _<_}
 use native.Mathlib.Omega.{arith}
-use lib.Dec.{eqb, leb}
 use lib.IntN.{ℤ, pos}
 use lib.ListN.{length, take, drop}
 use lib.Seq.{take-at}
 use Rattle.base_facts.specs.Tests.{Lt, less, past, lt?, leb-true, leb-not}
-use Rattle.base_spec.specs.Parts.{parts}
 use Rattle.sheet_spec.specs.Sheet.{endOf}
-use Rattle.sheet_spec.specs.Translate.{Outcome, inOrder, refused, andThen, require, over, imageAs}
+use Rattle.sheet_spec.specs.Translate.{Outcome, inOrder, refused, over, imageAs}
 use Rattle.srecord_spec.specs.declared.Written.{Written}
 use Rattle.srecord_spec.specs.declared.Loaded.{Loaded}
-use Rattle.srecord_spec.specs.Record.{closes, checksumOf, recordIn, isRecord}
 use Rattle.srecord_spec.specs.Write.{imageText, writeOutcome, writtenAs, writtenOf, textLeft}
-use Rattle.srecord_spec.specs.Read.{requireAt, isEnd, recordOutcome, isNext, recordsFrom, startRead, imageRead, textOutcome, readOutcome, loadedAs, loadedOf, imageLeft}
+use Rattle.srecord_spec.specs.Read.{startRead, imageRead, textOutcome, readOutcome, loadedAs, loadedOf, imageLeft}
 use Rattle.srecord_spec.specs.Promises.{RecordsWritten, RecordsRead, AllBelow, Recorded}
 use Rattle.srecord_facts.specs.Refused.{Plain, plain-read}
 use Rattle.srecord_write.specs.Text.{textLength}

@@ -1,4 +1,4 @@
--- What an image line prints is read back. Assumes nothing.
+-- What is printed as an image line is read back. Assumes nothing.
 use mathlib.Core.Path.{_≡_, refl, ap, _∙_}
 use mathlib.Core.Bool.{true, false}
 use mathlib.Core.List.{List, [], _∷_, _++_, map}

@@ -3,7 +3,6 @@ use Rattle.base_list.proofs.read_header.Tie as tie
 use native.Mathlib.Omega.{arith}
 use mathlib.Core.Path.{sym, ap, subst, _∙_}
 use lib.ListN.{length}
-use Rattle.base_list.specs.declared.Header.{Header}
 use Rattle.base_list.specs.Headers.{limited, limited-within, Within}
 
 returns : tie.Need-returns

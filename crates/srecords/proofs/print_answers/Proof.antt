@@ -2,7 +2,7 @@ use Rattle.srecords.proofs.print_answers.Statement.{statement}
 use Rattle.srecords.proofs.print_answers.Tie as tie
 use native.Mathlib.Omega.{arith}
 use mathlib.Core.Path.{_≡_}
-use Prim.Native.Nat.{_-_, _≤_}
+use Prim.Native.Nat.{_-_}
 use borrow.Author.Tests.{not-false}
 use lib.ListN.{length, length-take}
 use Rattle.base_facts.specs.Tests.{and-true}
