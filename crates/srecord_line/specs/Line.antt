@@ -1,7 +1,7 @@
 -- What is read of an image line, and what the lent words then are.
 use mathlib.Core.Path.{_≡_}
 use mathlib.Core.Bool.{Bool, true, false, cond, _&&_}
-use mathlib.Core.List.{List, map}
+use mathlib.Core.List.{List}
 use Prim.Native.Nat.{ℕ, _+_, _*_, _^_}
 use lib.Dec.{leb, ltb}
 use lib.ListN.{length}
@@ -28,10 +28,6 @@ wordOr f = cond (isCapitalWord f) (capitalWord f) 65536
 pub record Counts (fs : List (List ℕ)) (r : Fields) : Type 0 where
   pub all : r .ok ≡ areCapitalWords fs
   pub many : r .count ≡ cond (areCapitalWords fs) (length fs) 0
-
--- their words from the first place on
-pub record Filled (fs : List (List ℕ)) (v v′ : List ℕ) : Type 0 where
-  pub image : v′ ≡ over (map capitalWord fs) v
 
 unfoldable pub noLine : ImageLine
 noLine = record { ok = false; start = 0; count = 0 }

@@ -1,11 +1,13 @@
 // An image line that is read: the start in decimal, then words of four capital hexadecimal digits, parted by tabs, ended by LF.
 ghost use mathlib.Core.Path.{_≡_};
 ghost use mathlib.Core.Bool.{true};
+ghost use mathlib.Core.List.{map};
 ghost use Prim.Native.Nat.{_+_, _≤_};
 ghost use lib.ListN.{length};
 ghost use Rattle.base_text.specs.PartLaws.{partsFrom};
-ghost use Rattle.srecord_line.specs.Line.{addressOr, fourOr, wordOr, Counts, Filled, noLine, bodyOf, bodyLeft, lineOf, wordsLeft};
-ghost use Rattle.srecord_line.specs.LineForm.{areCapitalWords};
+ghost use Rattle.sheet_spec.specs.Translate.{over};
+ghost use Rattle.srecord_line.specs.Line.{addressOr, fourOr, wordOr, Counts, noLine, bodyOf, bodyLeft, lineOf, wordsLeft};
+ghost use Rattle.srecord_line.specs.LineForm.{areCapitalWords, capitalWord};
 use base_spec::Number;
 
 // The start and how many words there are; or that it is no image line, or has more words than are lent.
@@ -91,7 +93,7 @@ fn count_words(body: &[u8], from: usize) -> Fields
 // The words of all fields from `from` on, from the first place on.
 fn fill(body: &[u8], from: usize, words: &mut [u16])
     requires { ⌜ (from ≤ length (now body) + 1) × (length (partsFrom 9 (now body) from) ≤ length (now words)) × (areCapitalWords (partsFrom 9 (now body) from) ≡ true) ⌝ }
-    ensures { λ r. ⌜ Filled (partsFrom 9 (now (body .entry)) from) (now (words .entry)) (now (words .exit)) ⌝ }
+    ensures { λ r. ⌜ now (words .exit) ≡ over (map capitalWord (partsFrom 9 (now (body .entry)) from)) (now (words .entry)) ⌝ }
 {
     let mut at = from;
     let mut i: usize = 0;

@@ -1,13 +1,14 @@
-//! Lines given to a program in batches.
+//! Lines, and the cases of a stored list, given to a program in batches.
 
 use std::io::{self, Write};
 use std::process::{Command, Stdio};
 use std::thread;
 
 use crate::answer::lines;
+use crate::compare::Comparison;
 
 /// The program takes up to 1 MiB of input a run.
-pub const MOST: usize = 1_000_000;
+const MOST: usize = 1_000_000;
 
 const MISSING: &[u8] = b"<no line>";
 
@@ -59,8 +60,64 @@ impl<'p, N, F: FnMut(&[u8], N, &[u8])> Batches<'p, N, F> {
     }
 }
 
+/// Gives the cases of a stored list to a program, each with the answer that is
+/// due, and compares.
+pub struct Lists<'p> {
+    program: &'p str,
+    list: Vec<u8>,
+    cases: Vec<(Vec<u8>, String)>,
+    comparison: Comparison,
+}
+
+impl<'p> Lists<'p> {
+    pub fn new(program: &'p str) -> Self {
+        Lists {
+            program,
+            list: Vec::new(),
+            cases: Vec::new(),
+            comparison: Comparison::default(),
+        }
+    }
+
+    /// A case as the list has it.
+    pub fn push(&mut self, asked: Vec<u8>, due: String) -> io::Result<()> {
+        if self.list.len() + asked.len() >= MOST {
+            self.run()?;
+        }
+        self.list.extend_from_slice(&asked);
+        self.cases.push((asked, due));
+        Ok(())
+    }
+
+    /// A list by itself, with all that is due.
+    pub fn whole(&mut self, list: Vec<u8>, due: &[u8]) -> io::Result<()> {
+        let found = output_of(self.program, list.clone())?;
+        self.comparison.answer(&list, due, Some(&found));
+        Ok(())
+    }
+
+    pub fn finish(mut self) -> io::Result<Comparison> {
+        self.run()?;
+        Ok(self.comparison)
+    }
+
+    fn run(&mut self) -> io::Result<()> {
+        let output = output_of(self.program, std::mem::take(&mut self.list))?;
+        let found = answers(&output);
+        if found.len() > self.cases.len() {
+            let counts = format!("{} answers for {}", found.len(), self.cases.len());
+            return Err(io::Error::other(counts));
+        }
+        for (at, (asked, due)) in self.cases.drain(..).enumerate() {
+            let found = found.get(at).copied();
+            self.comparison.answer(&asked, due.as_bytes(), found);
+        }
+        Ok(())
+    }
+}
+
 /// What a program prints to an input.
-pub fn output_of(program: &str, input: Vec<u8>) -> io::Result<Vec<u8>> {
+fn output_of(program: &str, input: Vec<u8>) -> io::Result<Vec<u8>> {
     let mut child = Command::new(program)
         .stdin(Stdio::piped())
         .stdout(Stdio::piped())
@@ -74,7 +131,7 @@ pub fn output_of(program: &str, input: Vec<u8>) -> io::Result<Vec<u8>> {
 }
 
 /// The answers of an output, each followed by an empty line.
-pub fn answers(output: &[u8]) -> Vec<&[u8]> {
+fn answers(output: &[u8]) -> Vec<&[u8]> {
     let mut answers = Vec::new();
     let mut rest = output;
     while !rest.is_empty() {

@@ -75,3 +75,24 @@ pub fn count_different(what: &str, judge: &str, outcomes: impl Iterator<Item = O
     println!("{all} {what}, {different} different");
     different
 }
+
+/// The four parts of each line of a text: what it shows, what is lent, what is
+/// given, and the answer. A line that begins with `;` is a remark.
+pub fn parted(text: &'static str) -> impl Iterator<Item = [&'static str; 4]> {
+    let lines = text.lines().filter(|line| !line.starts_with(';'));
+    lines.map(|line| {
+        let parts: Vec<&str> = line.split(" | ").collect();
+        parts
+            .try_into()
+            .unwrap_or_else(|_| panic!("not four parts: {line}"))
+    })
+}
+
+/// A text with its tabs, CRs, spaces at an end and LFs for the signs that stand
+/// for them.
+pub fn spelled_out(text: &str) -> String {
+    text.replace('⇥', "\t")
+        .replace('␍', "\r")
+        .replace('␠', " ")
+        .replace('¶', "\n")
+}

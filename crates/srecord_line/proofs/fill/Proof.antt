@@ -65,7 +65,7 @@ same-length c =
 returns : tie.Need-returns Inv-loop μ-loop
 returns c =
     let a = c .before .before .before .before .args in
-    record { image = filling-end (a .body .now) (a .from) (a .words .now) (c .before .loop .inv .1) (omega arith) }
+    filling-end (a .body .now) (a .from) (a .words .now) (c .before .loop .inv .1) (omega arith)
 
 pub fill-spec : {M : Type 1} → statement M
 fill-spec =

@@ -55,7 +55,7 @@ returns-4 c =
     let s = m .address-in .ensures ∙ ap addressOr (m .before .read-number .ensures) in
     let t = is-address (numberOf (take (e .result) (a .body .now))) (rw (sym s) (omega (arith, w .before .if1 .left))) in
     let r = body-read (a .body .now) (a .words .now) (e .result) (e .ensures .0) (t .0) (n .0) (omega (arith, n .1, c .before .before .before .before .if3 .left)) _ _ (s ∙ t .1) (n .1) in
-    (r .0, c .before .before .fill .ensures .image ∙ r .1)
+    (r .0, c .before .before .fill .ensures ∙ r .1)
 
 pub read-body-spec : {M : Type 1} → statement M
 read-body-spec =

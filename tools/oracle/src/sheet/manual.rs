@@ -2,7 +2,7 @@
 
 use super::answer::answer;
 use super::record::Record;
-use crate::manual::{count_different, Outcome};
+use crate::manual::{count_different, parted, spelled_out, Outcome};
 
 const SHEETS: &str = include_str!("../../sheets.txt");
 const GUIDE: &str = include_str!("../../guide.txt");
@@ -23,17 +23,11 @@ pub fn guide() -> Vec<Example> {
     read(GUIDE)
 }
 
-/// The examples of a text; a line that begins with `;` is a remark.
 fn read(text: &'static str) -> Vec<Example> {
-    let lines = text.lines().filter(|line| !line.starts_with(';'));
-    lines.map(example).collect()
+    parted(text).map(example).collect()
 }
 
-fn example(line: &'static str) -> Example {
-    let parts: Vec<&str> = line.split(" | ").collect();
-    let [what, lent, sheet, answer] = parts[..] else {
-        panic!("not what | lent | sheet | answer: {line}")
-    };
+fn example([what, lent, sheet, answer]: [&'static str; 4]) -> Example {
     let (places, room) = lent.split_once(' ').expect("places and words");
     Example {
         what,
@@ -44,12 +38,6 @@ fn example(line: &'static str) -> Example {
         },
         answer: spelled_out(answer),
     }
-}
-
-fn spelled_out(text: &str) -> String {
-    text.replace('⇥', "\t")
-        .replace('␍', "\r")
-        .replace('¶', "\n")
 }
 
 /// Checks every example; gives how many differ.

@@ -2,7 +2,7 @@
 
 use super::answer::{answer, NOT_IN_FORM};
 use super::case::{Case, Way};
-use crate::manual::{count_different, Outcome};
+use crate::manual::{count_different, parted, spelled_out, Outcome};
 
 const SRECORDS: &str = include_str!("../../srecords.txt");
 
@@ -12,17 +12,12 @@ pub struct Example {
     pub answer: String,
 }
 
-/// The examples in order; a line that begins with `;` is a remark.
+/// The worked images and texts in order.
 pub fn examples() -> Vec<Example> {
-    let lines = SRECORDS.lines().filter(|line| !line.starts_with(';'));
-    lines.map(example).collect()
+    parted(SRECORDS).map(example).collect()
 }
 
-fn example(line: &'static str) -> Example {
-    let parts: Vec<&str> = line.split(" | ").collect();
-    let [what, asked, payload, answer] = parts[..] else {
-        panic!("not what | way and lent | payload | answer: {line}")
-    };
+fn example([what, asked, payload, answer]: [&'static str; 4]) -> Example {
     let (way, lent) = asked.split_once(' ').expect("a way and what is lent");
     let way = way.parse().ok().and_then(Way::of_number);
     Example {
@@ -34,13 +29,6 @@ fn example(line: &'static str) -> Example {
         },
         answer: spelled_out(answer),
     }
-}
-
-fn spelled_out(text: &str) -> String {
-    text.replace('⇥', "\t")
-        .replace('␍', "\r")
-        .replace('␠', " ")
-        .replace('¶', "\n")
 }
 
 /// Checks every example; gives how many differ.
