@@ -33,15 +33,15 @@ evenRight p = roomRight p && eqb (length (recordIn p .bytes) % 2) 0
 abbrev pub noneRight : List ℕ → Bool
 noneRight p = not (closes (typeIn p)) || eqb (length (recordIn p .bytes)) 0
 
-pub record Sized (p : List ℕ) : Type 0 where
+pub record SizedLine (p : List ℕ) : Type 0 where
   pub letter : getD p 0 0 ≡ 83
   pub known : 1 ≤ addressWidth (typeIn p)
   pub pairs : arePairs (drop 2 p) ≡ true
   pub all : length (lineBytes p) ≡ 1 + countIn p
   pub least : addressWidth (typeIn p) + 1 ≤ countIn p
 
-pub record Line (p : List ℕ) : Type 0 where
-  pub sized : Sized p
+pub record RecordLine (p : List ℕ) : Type 0 where
+  pub sized : SizedLine p
   pub even : length (recordIn p .bytes) % 2 ≡ 0
   pub none : closes (typeIn p) ≡ true → length (recordIn p .bytes) ≡ 0
 
@@ -60,7 +60,7 @@ module _ (p : List ℕ) where
   abbrev n : ℕ
   n = length (recordIn p .bytes)
 
-  pub sized-is : roomRight p ≡ true → Sized p
+  pub sized-is : roomRight p ≡ true → SizedLine p
   sized-is e =
       let room = and-true (countRight p) (leb (w + 1) (countIn p)) e in
       let count = and-true (digitsRight p) (eqb (length (lineBytes p)) (1 + countIn p)) (room .0) in
@@ -74,7 +74,7 @@ module _ (p : List ℕ) where
         least = leb-is (w + 1) (countIn p) (room .1);
       }
 
-  pub line-is : isRecord p ≡ true → Line p
+  pub line-is : isRecord p ≡ true → RecordLine p
   unfolding isRecord
   line-is e =
       let none = and-true (evenRight p) (noneRight p) e in
@@ -85,7 +85,7 @@ module _ (p : List ℕ) where
         none = λ c. eqb-eq n 0 (either (closes (typeIn p)) (eqb n 0) (none .1) c);
       }
 
-  pub is-line : Line p → isRecord p ≡ true
+  pub is-line : RecordLine p → isRecord p ≡ true
   unfolding isRecord
   is-line l =
       let s = l .sized in
@@ -123,7 +123,7 @@ no-length : (l : List ℕ) → length l ≡ 0 → l ≡ []
 no-length [] e = refl
 no-length (x ∷ xs) e = absurd (omega arith)
 
-module _ (p : List ℕ) (l : Line p) where
+module _ (p : List ℕ) (l : RecordLine p) where
   pairs-below : AllBelow 256 (lineBytes p)
   pairs-below = pairs-again (drop 2 p) (l .sized .pairs) .1
 

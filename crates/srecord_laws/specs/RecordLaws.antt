@@ -11,7 +11,7 @@ use Rattle.srecord_spec.specs.Record.{SRecord, addressWidth, closes, bytesTo, a
 use Rattle.srecord_spec.specs.Promises.{AllBelow, InForm}
 use Rattle.srecord_facts.specs.Bytes.{below-append, total-append, bytes-length, bytes-below, number-back}
 use Rattle.srecord_facts.specs.Digits.{digits-pairs, digits-back, pairs-again}
-use Rattle.srecord_facts.specs.Lines.{Line, is-line, line-is, address-data-length, line-bytes, line-form}
+use Rattle.srecord_facts.specs.Lines.{RecordLine, is-line, line-is, address-data-length, line-bytes, line-form}
 
 -- ---- a type and the bytes behind it, as a record
 abbrev recordFrom : ℕ → List ℕ → SRecord
@@ -62,7 +62,7 @@ module _ (r : SRecord) (f : InForm r) where
   spelled-record : recordIn (spellRecord r) ≡ r
   spelled-record = record-from (spellRecord r) ∙ (λ i. recordFrom (spelled-type i) (spelled-bytes i)) ∙ from-bytes
 
-  spelled-line : Line (spellRecord r)
+  spelled-line : RecordLine (spellRecord r)
   unfolding spellRecord
   spelled-line =
       let w = addressWidth (r .type) in
@@ -98,7 +98,7 @@ line-text [] e h = absurd (omega arith)
 line-text (a ∷ []) e h = absurd (omega arith)
 line-text (a ∷ (b ∷ ds)) e h = let t : 48 + (b - 48) ≡ b = omega arith in λ i. sym e i ∷ t i ∷ ds
 
-line-spelled : (p : List ℕ) → Line p → spellRecord (recordIn p) ≡ p
+line-spelled : (p : List ℕ) → RecordLine p → spellRecord (recordIn p) ≡ p
 unfolding spellRecord
 line-spelled p l =
     let t : recordIn p .type ≡ typeIn p = ap (λ (s : SRecord). s .type) (record-from p) in

@@ -14,7 +14,7 @@ use Rattle.sheet_spec.specs.Sheet.{total}
 use Rattle.srecord_spec.specs.Record.{digitValue, isHexDigit, arePairs, pairBytes, numberFrom, addressWidth, closes, addressAndData, countOf, checksumOf, recordIn, isRecord}
 use Rattle.srecord_facts.specs.Bytes.{total-append, twice, twice-is}
 use Rattle.srecord_facts.specs.Digits.{pair-length}
-use Rattle.srecord_facts.specs.Lines.{typeRight, digitsRight, countRight, roomRight, evenRight, noneRight, Sized, sized-is, line-is, line-bytes, line-form}
+use Rattle.srecord_facts.specs.Lines.{typeRight, digitsRight, countRight, roomRight, evenRight, noneRight, SizedLine, sized-is, line-is, line-bytes, line-form}
 use Rattle.srecord_read.specs.declared.Record.{Record}
 use Rattle.srecord_read.specs.Line.{sumOf, formOf, noRecord, recordSays, lineSays, isDue, refusalNumber}
 use Rattle.srecord_read.specs.PairLaws.{pair-take, width-most}
@@ -74,7 +74,7 @@ module _ (s t x y : ℕ) (ds : List ℕ) where
   unfolding recordIn
   type-is = refl
 
-  data-length : Sized p → length (recordIn p .bytes) ≡ count - (w + 1)
+  data-length : SizedLine p → length (recordIn p .bytes) ≡ count - (w + 1)
   data-length g = rw (data-is, length-take, length-drop) (omega (arith, g .all))
 
   pairs-sum : ltb sum 256 ≡ arePairs (x ∷ (y ∷ ds))
