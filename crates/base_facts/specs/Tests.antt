@@ -1,7 +1,7 @@
 -- A test with what it tells.
 use Prim.Native.Nat.{ℕ, _<_, _≤_, zero, suc}
 use mathlib.Core.Path.{_≡_, refl, sym, _∙_, subst}
-use mathlib.Core.Bool.{Bool, true, false, _&&_, true≢false, false≢true, cond}
+use mathlib.Core.Bool.{Bool, true, false, _&&_, _||_, true≢false, false≢true, cond}
 use mathlib.Core.List.{List, [], _∷_}
 use lib.Dec.{ltb, T, leb, eqb}
 use borrow.Author.Tests as tests
@@ -35,6 +35,10 @@ and-true false b e = absurd (false≢true e)
 
 pub true-and : (a b : Bool) → a ≡ true → b ≡ true → a && b ≡ true
 true-and a b p q = rw (p, q)
+
+pub or-no : (b : Bool) → (b || false) ≡ b
+or-no true = refl
+or-no false = refl
 
 pub and-yes : (b : Bool) → b && true ≡ b
 and-yes true = refl

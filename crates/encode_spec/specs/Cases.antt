@@ -1,4 +1,4 @@
--- 01's cases a to l.
+-- 01's cases a to l, and cases of 02's N2.
 use Prim.Native.Nat.{ℕ}
 use mathlib.Core.List.{List, [], _∷_}
 use mathlib.Core.Path.{_≡_}
@@ -6,8 +6,9 @@ use Rattle.isa.specs.declared.Instruction.{Instruction}
 use Rattle.isa.specs.declared.RegisterOperand.the-variants.{Address, Data}
 use Rattle.isa.specs.declared.Operand.{Operand}
 use Rattle.isa.specs.declared.UnsizedRegisterOperation.the-variants.{LEA}
-use Rattle.isa.specs.declared.Instruction.the-variants.{UnsizedIntoRegister, Quick, OneOperand, Branch, Pair, SWAP, BF, MULL}
-use Rattle.isa.specs.declared.Size.the-variants.{Long, Word}
+use Rattle.isa.specs.declared.Instruction.the-variants.{UnsizedIntoRegister, Quick, OneOperand, Branch, Pair, SWAP, BF, MULL, ImmediateInto, UnsizedPair, Shift}
+use Rattle.isa.specs.declared.Size.{Size}
+use Rattle.isa.specs.declared.Size.the-variants.{Byte, Word, Long}
 use Rattle.isa.specs.declared.Operand.the-variants.{Register, Absolute, Immediate, PostIndirect, PreIndirect, PcDisplacement, Extended}
 use Rattle.isa.specs.declared.QuickOperation.the-variants.{ADDQ}
 use Rattle.isa.specs.declared.OneOperation.the-variants.{CLR}
@@ -16,6 +17,10 @@ use Rattle.isa.specs.declared.Sign.the-variants.{Signed}
 use Rattle.isa.specs.declared.RegisterChoice.the-variants.{None}
 use Rattle.isa.specs.declared.BitFieldOperation.{BitFieldOperation}
 use Rattle.isa.specs.declared.PairOperation.the-variants.{MOVE}
+use Rattle.isa.specs.declared.ImmediateOperation.the-variants.{ADDI}
+use Rattle.isa.specs.declared.UnsizedPairOperation.the-variants.{BTST}
+use Rattle.isa.specs.declared.ShiftOperation.the-variants.{LSd}
+use Rattle.isa.specs.declared.ShiftDirection.the-variants.{Left}
 use Rattle.encode_spec.specs.Item.{fine}
 use Rattle.encode_spec.specs.Encode.{encodedAs, encodeOf, sizeOf}
 use lib.IntN.{ℤ, pos}
@@ -66,3 +71,27 @@ pub record Table : Type 0 where
   pub k : (at : ℕ) → Has (MULL (Register (Data 1)) 2 None Signed) at (0x4C01 ∷ 0x2800 ∷ [])
   pub l : (at : ℕ) → Has (lea (Extended 0 0x0110 (pos 0) (pos 0)) 0) at (0x41F0 ∷ 0x0110 ∷ [])
   pub l-1 : (at : ℕ) → OutOf (lea (Extended 0 0x0110 (pos 1) (pos 0)) 0) at 19 (pos 1)
+
+-- N2: a number to D0
+abbrev pub addi : ℕ → Size → Instruction
+addi v s = ImmediateInto ADDI v (Register (Data 0)) s
+
+abbrev pub move : ℕ → Size → Instruction
+move v s = Pair MOVE (Immediate v) (Register (Data 0)) s
+
+pub record Negatives : Type 0 where
+  pub byte : (at : ℕ) → Has (addi 4294967295 Byte) at (0x0600 ∷ 0x00FF ∷ [])
+  pub word : (at : ℕ) → Has (addi 4294967295 Word) at (0x0640 ∷ 0xFFFF ∷ [])
+  pub long : (at : ℕ) → Has (addi 4294967295 Long) at (0x0680 ∷ 0xFFFF ∷ 0xFFFF ∷ [])
+  pub byte-lowest : (at : ℕ) → Has (move 4294967168 Byte) at (0x103C ∷ 0x0080 ∷ [])
+  pub byte-below : (at : ℕ) → OutOf (move 4294967167 Byte) at 9 (pos 4294967167)
+  pub byte-top : (at : ℕ) → Has (move 255 Byte) at (0x103C ∷ 0x00FF ∷ [])
+  pub byte-past : (at : ℕ) → OutOf (move 256 Byte) at 9 (pos 256)
+  pub byte-size : sizeOf (move 4294967167 Byte) ≡ record { size = 4; number = 0; detail = 0; value = pos 0 }
+  pub word-lowest : (at : ℕ) → Has (move 4294934528 Word) at (0x303C ∷ 0x8000 ∷ [])
+  pub word-below : (at : ℕ) → OutOf (move 4294934527 Word) at 9 (pos 4294934527)
+  pub word-top : (at : ℕ) → Has (move 65535 Word) at (0x303C ∷ 0xFFFF ∷ [])
+  pub word-past : (at : ℕ) → OutOf (move 65536 Word) at 9 (pos 65536)
+  pub tested : (at : ℕ) → Has (UnsizedPair BTST (Register (Data 1)) (Immediate 4294967295)) at (0x033C ∷ 0x00FF ∷ [])
+  pub bit-number : (at : ℕ) → OutOf (UnsizedPair BTST (Immediate 4294967295) (Register (Data 0))) at 12 (pos 4294967295)
+  pub count : (at : ℕ) → OutOf (Shift LSd (Immediate 4294967295) (Register (Data 0)) Left Word) at 10 (pos 4294967295)

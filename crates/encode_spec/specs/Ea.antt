@@ -18,6 +18,7 @@ use Rattle.isa.specs.declared.Operand.{Operand}
 use Rattle.isa.specs.declared.Operand.the-variants.{Immediate, Register, Indirect, PostIndirect, PreIndirect, IndirectDisplacement, IndirectIndex, PcDisplacement, PcIndex, Extended, Absolute}
 use Rattle.isa.specs.declared.Field.{Field}
 use Rattle.isa.specs.declared.Field.the-variants as field
+use Rattle.isa_spec.specs.Field.{remainderOf}
 use Rattle.base_spec.specs.Signed.{signed32, signed64, bitsOf, difference}
 use Rattle.encode_spec.specs.Item.{Item, Part, Verdict, fine, malformed, noEncoding, word, check, range, unless, register, dataRegister, addressRegister, allow, operation, fixed}
 use Rattle.isa_spec.specs.Code.{sizeCode, numberOfRegister, registerBits, general, longBit, isByte, bit}
@@ -136,8 +137,8 @@ wordItems f z = range f z ∷ word (bitsOf z % 65536) ∷ []
 
 -- #<data>: a byte in the low half of a word, a word, or a long
 abbrev pub immediateWords : ℕ → Size → List Item
-immediateWords v Byte = word (v % 256) ∷ []
-immediateWords v Word = word (v % 65536) ∷ []
+immediateWords v Byte = word (remainderOf Byte v) ∷ []
+immediateWords v Word = word (remainderOf Word v) ∷ []
 immediateWords v Long = longItems v
 
 abbrev pub immediateItems : ℕ → Size → List Item

@@ -35,7 +35,7 @@ use Rattle.isa.specs.declared.LinkOperation.the-variants.{LINK, LINKL}
 use Rattle.isa.specs.declared.Instruction.{Instruction}
 use Rattle.isa.specs.declared.Instruction.the-variants.{IntoRegister, MOVEM, Transfer, Pair, Quick, MOVEQ, ImmediateInto, WordIntoData, SWAP, EXG, UnsizedIntoRegister, UnsizedOne, UnsizedPair, EXT, OneOperand, Bcc, Scc, DBcc, Branch, Link, UNLK, Shift, Vector, Status, ConditionCode, MOVEUSP, Raw, NoOperand, RTD, MOVEC, TRAPcc, MULL, Pack, CAS, CAS2, BF, DIVL}
 use Rattle.encode_spec.specs.Item.{Part, fixed}
-use Rattle.isa_spec.specs.Code.{sizeCode}
+use Rattle.isa_spec.specs.Code.{unsizedSize, unsizedRegisterSize, sizeCode}
 use Rattle.isa_spec.specs.Mode.{dataColumn, controlColumn}
 use Rattle.encode_spec.specs.Ea.{dataAlterable, typed, single, withData, withAddress, fromData}
 use Rattle.encode_spec.specs.Movement.{moveParts, moveaParts, movemParts, movepParts, moveqParts, exgParts, linkParts, linklParts, unlkParts}
@@ -74,20 +74,20 @@ wordParts DIVx o r sign = withData 8 r (3 + 4 * signedBit sign) o Word dataColum
 wordParts MULx o r sign = withData 12 r (3 + 4 * signedBit sign) o Word dataColumn 28
 
 unfoldable pub unsizedRegisterParts : UnsizedRegisterOperation → Operand → RegisterOperand → List Part
-unsizedRegisterParts LEA o r = withAddress 4 r 7 o Long controlColumn 34
-unsizedRegisterParts CHK o r = withData 4 r 6 o Word dataColumn 27
-unsizedRegisterParts CHKL o r = withData 4 r 4 o Long dataColumn 27
+unsizedRegisterParts LEA o r = withAddress 4 r 7 o (unsizedRegisterSize LEA) controlColumn 34
+unsizedRegisterParts CHK o r = withData 4 r 6 o (unsizedRegisterSize CHK) dataColumn 27
+unsizedRegisterParts CHKL o r = withData 4 r 4 o (unsizedRegisterSize CHKL) dataColumn 27
 
 unfoldable pub unsizedOneParts : UnsizedOneOperation → Operand → List Part
-unsizedOneParts PEA o = single 4 4 1 o Long controlColumn 18
-unsizedOneParts NBCD o = single 4 4 0 o Byte dataAlterable 17
-unsizedOneParts JSR o = single 4 7 2 o Long controlColumn 25
-unsizedOneParts JMP o = single 4 7 3 o Long controlColumn 26
-unsizedOneParts TAS o = single 4 5 3 o Byte dataAlterable 23
-unsizedOneParts MOVEtoCCR o = single 4 2 3 o Word dataColumn 15
-unsizedOneParts MOVEfromCCR o = single 4 1 3 o Word dataAlterable 14
-unsizedOneParts MOVEtoSR o = single 4 3 3 o Word dataColumn 16
-unsizedOneParts MOVEfromSR o = single 4 0 3 o Word dataAlterable 13
+unsizedOneParts PEA o = single 4 4 1 o (unsizedSize PEA) controlColumn 18
+unsizedOneParts NBCD o = single 4 4 0 o (unsizedSize NBCD) dataAlterable 17
+unsizedOneParts JSR o = single 4 7 2 o (unsizedSize JSR) controlColumn 25
+unsizedOneParts JMP o = single 4 7 3 o (unsizedSize JMP) controlColumn 26
+unsizedOneParts TAS o = single 4 5 3 o (unsizedSize TAS) dataAlterable 23
+unsizedOneParts MOVEtoCCR o = single 4 2 3 o (unsizedSize MOVEtoCCR) dataColumn 15
+unsizedOneParts MOVEfromCCR o = single 4 1 3 o (unsizedSize MOVEfromCCR) dataAlterable 14
+unsizedOneParts MOVEtoSR o = single 4 3 3 o (unsizedSize MOVEtoSR) dataColumn 16
+unsizedOneParts MOVEfromSR o = single 4 0 3 o (unsizedSize MOVEfromSR) dataAlterable 13
 
 unfoldable pub unsizedPairParts : UnsizedPairOperation → Operand → Operand → List Part
 unsizedPairParts ABCD o d = extendedParts 12 4 o d

@@ -408,7 +408,7 @@ pub enum Field {
     BitField,
 }
 
-// The lowest and the highest value of a field.
+// A lowest and a highest value.
 pub struct Range {
     pub low: i64,
     pub high: i64,

@@ -1,4 +1,4 @@
--- Codes of sizes, registers and conditions.
+-- Sizes of operations that name none, and codes of sizes, registers and conditions.
 use Prim.Native.Nat.{ℕ, _+_, _%_}
 use mathlib.Core.Bool.{Bool, true, false}
 use Rattle.isa.specs.declared.Size.{Size}
@@ -7,8 +7,29 @@ use Rattle.isa.specs.declared.RegisterOperand.{RegisterOperand}
 use Rattle.isa.specs.declared.RegisterOperand.the-variants.{Address, Data}
 use Rattle.isa.specs.declared.TargetDirection.{TargetDirection}
 use Rattle.isa.specs.declared.TargetDirection.the-variants.{ToMemory, FromMemory}
+use Rattle.isa.specs.declared.UnsizedOneOperation.{UnsizedOneOperation}
+use Rattle.isa.specs.declared.UnsizedOneOperation.the-variants.{PEA, NBCD, JSR, JMP, TAS, MOVEtoCCR, MOVEfromCCR, MOVEtoSR, MOVEfromSR}
+use Rattle.isa.specs.declared.UnsizedRegisterOperation.{UnsizedRegisterOperation}
+use Rattle.isa.specs.declared.UnsizedRegisterOperation.the-variants.{LEA, CHK, CHKL}
 use Rattle.isa.specs.declared.Condition.{Condition}
 use Rattle.isa.specs.declared.Condition.the-variants as condition
+
+-- the size of an operation that names none (the manual, sections 4 and 6, "Attributes"); JSR and JMP, unsized there, take an address
+abbrev pub unsizedSize : UnsizedOneOperation → Size
+unsizedSize PEA = Long
+unsizedSize NBCD = Byte
+unsizedSize JSR = Long
+unsizedSize JMP = Long
+unsizedSize TAS = Byte
+unsizedSize MOVEtoCCR = Word
+unsizedSize MOVEfromCCR = Word
+unsizedSize MOVEtoSR = Word
+unsizedSize MOVEfromSR = Word
+
+abbrev pub unsizedRegisterSize : UnsizedRegisterOperation → Size
+unsizedRegisterSize LEA = Long
+unsizedRegisterSize CHK = Word
+unsizedRegisterSize CHKL = Long
 
 -- the size field of most instructions: 00 byte, 01 word, 10 long
 abbrev pub sizeCode : Size → ℕ

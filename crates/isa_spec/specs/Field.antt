@@ -1,7 +1,8 @@
--- The fields that hold a number: their numbers, and the values that each holds (01, "The words").
-use Prim.Native.Nat.{ℕ, _-_}
+-- The fields that hold a number: their numbers, and the values that each holds (01, "The words"; 02, N2).
+use Prim.Native.Nat.{ℕ, _-_, _%_, _^_}
 use mathlib.Core.Bool.{Bool, false, not, _&&_, _||_}
 use mathlib.Core.List.{List, [], _∷_}
+use mathlib.Core.Option.{Option, none, some}
 use lib.Dec.{eqb}
 use lib.ListN.{getD}
 use lib.Signed.{leZ}
@@ -39,7 +40,7 @@ fieldNumber field.BitField = 20
 abbrev pub between : ℤ → ℤ → Range
 between l h = record { low = l; high = h }
 
--- the lowest and the highest value of each field, 20 pairs in the order of their numbers
+-- the 20 pairs, in the order of the fields' numbers: the lowest and the highest value
 unfoldable pub ranges : List Range
 ranges =
     between (negsuc 127) (pos 127)
@@ -71,42 +72,63 @@ pairOf f = getD ranges (fieldNumber f - 1) (between (pos 0) (pos 0))
 abbrev pub lowest : Field → ℤ
 lowest f = pairOf f .low
 
--- the largest immediate of a size
+-- the largest number of a size
 abbrev pub topOf : Size → ℕ
 topOf Byte = 255
 topOf Word = 65535
 topOf Long = 4294967295
 
+-- the size of an Immediate; no other field has one
+abbrev pub immediateSize : Field → Option Size
+immediateSize field.ShortBranch = none
+immediateSize field.WordBranch = none
+immediateSize field.PcDisplacement = none
+immediateSize field.PcIndex = none
+immediateSize field.Displacement = none
+immediateSize field.IndexDisplacement = none
+immediateSize field.ShortAddress = none
+immediateSize field.LongAddress = none
+immediateSize (field.Immediate s) = some s
+immediateSize field.Count = none
+immediateSize field.TrapVector = none
+immediateSize field.BitNumber = none
+immediateSize field.LinkDisplacement = none
+immediateSize field.Register = none
+immediateSize field.RtdDisplacement = none
+immediateSize field.BreakpointVector = none
+immediateSize field.BaseDisplacement = none
+immediateSize field.OuterDisplacement = none
+immediateSize field.NullDisplacement = none
+immediateSize field.BitField = none
+
 -- the top of an Immediate depends on its size
-abbrev pub narrowed : Field → ℤ → ℤ
-narrowed field.ShortBranch z = z
-narrowed field.WordBranch z = z
-narrowed field.PcDisplacement z = z
-narrowed field.PcIndex z = z
-narrowed field.Displacement z = z
-narrowed field.IndexDisplacement z = z
-narrowed field.ShortAddress z = z
-narrowed field.LongAddress z = z
-narrowed (field.Immediate s) z = pos (topOf s)
-narrowed field.Count z = z
-narrowed field.TrapVector z = z
-narrowed field.BitNumber z = z
-narrowed field.LinkDisplacement z = z
-narrowed field.Register z = z
-narrowed field.RtdDisplacement z = z
-narrowed field.BreakpointVector z = z
-narrowed field.BaseDisplacement z = z
-narrowed field.OuterDisplacement z = z
-narrowed field.NullDisplacement z = z
-narrowed field.BitField z = z
+abbrev pub narrowed : Option Size → ℤ → ℤ
+narrowed none z = z
+narrowed (some s) z = pos (topOf s)
 
 abbrev pub highest : Field → ℤ
-highest f = narrowed f (pairOf f .high)
+highest f = narrowed (immediateSize f) (pairOf f .high)
+
+abbrev pub within : Range → ℤ → Bool
+within r z = leZ (r .low) z && leZ z (r .high)
+
+-- beside its pair an Immediate of Byte holds -128 to -1, of Word -32768 to -1, with 2^32 added (02, N2)
+abbrev pub alsoHolds : Option Size → ℤ → Bool
+alsoHolds none z = false
+alsoHolds (some Byte) z = within (between (pos (2 ^ 32 - 128)) (pos (2 ^ 32 - 1))) z
+alsoHolds (some Word) z = within (between (pos (2 ^ 32 - 32768)) (pos (2 ^ 32 - 1))) z
+alsoHolds (some Long) z = false
 
 abbrev pub isZero : ℤ → Bool
 isZero (pos n) = eqb n 0
 isZero (negsuc n) = false
 
--- a field holds what lies between its ends; ShortBranch does not hold 0, which marks a word branch
+-- a field holds what lies in its pair or beside it; ShortBranch does not hold 0, which marks a word branch
 unfoldable pub holds : Field → ℤ → Bool
-holds f z = leZ (lowest f) z && leZ z (highest f) && (not (eqb (fieldNumber f) 1) || not (isZero z))
+holds f z = (within (between (lowest f) (highest f)) z || alsoHolds (immediateSize f) z) && (not (eqb (fieldNumber f) 1) || not (isZero z))
+
+-- what an Immediate of a size is written as (02, N2): of Byte its remainder by 256, of Word by 65,536, of Long itself
+abbrev pub remainderOf : Size → ℕ → ℕ
+remainderOf Byte v = v % 256
+remainderOf Word v = v % 65536
+remainderOf Long v = v

@@ -3,6 +3,7 @@ use Prim.Native.Nat.{ℕ, suc, zero, _-_, _^_, _<_}
 use mathlib.Core.Path.{_≡_, refl}
 use mathlib.Core.Bool.{Bool, true, _&&_}
 use mathlib.Core.List.{List, [], _∷_}
+use mathlib.Core.Option.{none}
 use lib.IntN.{ℤ, pos, negsuc}
 use lib.Signed.{mag}
 use lib.ListN.{getD}
@@ -21,7 +22,7 @@ use Rattle.isa.specs.declared.Size.{Size}
 use Rattle.isa.specs.declared.Size.the-variants.{Byte, Word, Long}
 use Rattle.base_facts.specs.Tests.{T-and}
 use Rattle.isa.specs.declared.Range.{Range}
-use Rattle.isa_spec.specs.Field.{isZero, between, ranges, narrowed, topOf}
+use Rattle.isa_spec.specs.Field.{isZero, between, ranges, immediateSize, topOf}
 
 abbrev lowFit : List Range → Bool
 lowFit [] = true
@@ -50,25 +51,25 @@ abbrev pub others : List ℕ
 others =
     0 ∷ 1 ∷ 2 ∷ 3 ∷ 4 ∷ 5 ∷ 6 ∷ 7 ∷ 9 ∷ 10 ∷ 11 ∷ 12 ∷ 13 ∷ 14 ∷ 15 ∷ 16 ∷ 17 ∷ 18 ∷ 19 ∷ []
 
--- the top of any other field is the table's
-pub as-listed : (f : Field) (z : ℤ) → OneOf others (tagOf the-type f) → narrowed f z ≡ z
-as-listed field.ShortBranch z k = refl
-as-listed field.WordBranch z k = refl
-as-listed field.PcDisplacement z k = refl
-as-listed field.PcIndex z k = refl
-as-listed field.Displacement z k = refl
-as-listed field.IndexDisplacement z k = refl
-as-listed field.ShortAddress z k = refl
-as-listed field.LongAddress z k = refl
-as-listed (field.Immediate s) z k = absurd (miss others 8 tt k)
-as-listed field.Count z k = refl
-as-listed field.TrapVector z k = refl
-as-listed field.BitNumber z k = refl
-as-listed field.LinkDisplacement z k = refl
-as-listed field.Register z k = refl
-as-listed field.RtdDisplacement z k = refl
-as-listed field.BreakpointVector z k = refl
-as-listed field.BaseDisplacement z k = refl
-as-listed field.OuterDisplacement z k = refl
-as-listed field.NullDisplacement z k = refl
-as-listed field.BitField z k = refl
+-- they have no size
+pub no-size : (f : Field) → OneOf others (tagOf the-type f) → immediateSize f ≡ none
+no-size field.ShortBranch k = refl
+no-size field.WordBranch k = refl
+no-size field.PcDisplacement k = refl
+no-size field.PcIndex k = refl
+no-size field.Displacement k = refl
+no-size field.IndexDisplacement k = refl
+no-size field.ShortAddress k = refl
+no-size field.LongAddress k = refl
+no-size (field.Immediate s) k = absurd (miss others 8 tt k)
+no-size field.Count k = refl
+no-size field.TrapVector k = refl
+no-size field.BitNumber k = refl
+no-size field.LinkDisplacement k = refl
+no-size field.Register k = refl
+no-size field.RtdDisplacement k = refl
+no-size field.BreakpointVector k = refl
+no-size field.BaseDisplacement k = refl
+no-size field.OuterDisplacement k = refl
+no-size field.NullDisplacement k = refl
+no-size field.BitField k = refl

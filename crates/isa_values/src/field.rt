@@ -1,12 +1,12 @@
 // The fields that hold a number.
 ghost use mathlib.Core.Path.{_≡_};
 ghost use Prim.Native.Nat.{_<_};
-ghost use Rattle.isa_spec.specs.Field.{fieldNumber, lowest, highest, topOf, holds};
+ghost use Rattle.isa_spec.specs.Field.{fieldNumber, immediateSize, lowest, highest, topOf, alsoHolds, holds};
 use isa::Field;
 use isa::Range;
 use isa::Size;
 
-// The lowest and the highest value of each field, in the order of their numbers.
+// The pairs, in the order of the fields' numbers.
 const RANGES: [Range; 20] = [
     Range {
         low: -128,
@@ -97,7 +97,7 @@ pub fn number(field: Field) -> u8
     }
 }
 
-// The largest immediate of a size.
+// The largest number of a size.
 pub fn mask(size: Size) -> u32
     ensures { λ r. ⌜ r ≡ topOf size ⌝ }
 {
@@ -108,7 +108,7 @@ pub fn mask(size: Size) -> u32
     }
 }
 
-// The lowest and the highest value that the field holds.
+// The pair of a field, an Immediate's by its size.
 pub fn range(field: Field) -> Range
     ensures { λ r. ⌜ (r .low ≡ lowest field) × (r .high ≡ highest field) ⌝ }
 {
@@ -123,6 +123,20 @@ pub fn range(field: Field) -> Range
     }
 }
 
+// Whether an Immediate holds the value beside its pair: below 0, with 2^32 added.
+pub fn also_holds(field: Field, value: i64) -> bool
+    ensures { λ r. ⌜ r ≡ alsoHolds (immediateSize field) value ⌝ }
+{
+    let Field::Immediate(size) = field else {
+        return false;
+    };
+    match size {
+        Size::Byte => (4294967168 <= value) & (value <= 4294967295),
+        Size::Word => (4294934528 <= value) & (value <= 4294967295),
+        Size::Long => false,
+    }
+}
+
 // Whether the field holds the value.
 pub fn holds(field: Field, value: i64) -> bool
     ensures { λ r. ⌜ r ≡ holds field value ⌝ }
@@ -130,5 +144,6 @@ pub fn holds(field: Field, value: i64) -> bool
     let ends = range(field);
     let low = ends.low;
     let high = ends.high;
-    (low <= value) & (value <= high) & ((number(field) != 1) | (value != 0))
+    let also = also_holds(field, value);
+    ((low <= value) & (value <= high) | also) & ((number(field) != 1) | (value != 0))
 }

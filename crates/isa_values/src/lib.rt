@@ -1,4 +1,5 @@
-// The functions on the values of an instruction, as the Rust's encoded.rs has them: a module for each type.
+// The functions on the values of an instruction, as the Rust's encoded.rs has them but for
+// `field::also_holds`: a module for each type.
 pub mod bit_field_operation;
 pub mod code;
 pub mod condition;

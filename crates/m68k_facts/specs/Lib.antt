@@ -3,3 +3,4 @@ pub mod Lays
 pub mod Laws
 pub mod Cases
 pub mod Sizes
+pub mod Remainders

@@ -17,7 +17,7 @@ use Rattle.isa.specs.declared.ConditionCodeOperation.{ConditionCodeOperation}
 use Rattle.isa.specs.declared.ConditionCodeOperation.the-variants.{ANDItoCCR, ORItoCCR, EORItoCCR}
 use Rattle.isa.specs.declared.Operand.{Operand}
 use Rattle.isa.specs.declared.Instruction.the-variants.{ImmediateInto, ConditionCode, Status, UnsizedPair, Transfer}
-use Rattle.isa_spec.specs.Field.{topOf, holds}
+use Rattle.isa_spec.specs.Field.{topOf, holds, remainderOf}
 use Rattle.encode_spec.specs.Item.{fine, failure, operation, wordsIn, countOf, wordAddress, Item, Part, malformed, unless, word, range, dataRegister, dataVerdict, laid, noEncoding}
 use Rattle.isa_spec.specs.Code.{sizeCode, registerBits, isByte, longBit, toMemory}
 use Rattle.isa_spec.specs.Mode.{dataColumn, bits}
@@ -37,7 +37,8 @@ use Rattle.read_spec.specs.Decoded.{wordOf, movepDecoded, statusDecoded}
 use Rattle.read_spec.specs.Map.{groupAt, map}
 use Rattle.read_spec.specs.Operation.{sizeAt, immediateAt, toStatus, conditionCodeAt, statusAt, bitAt, toMemoryAt}
 use Rattle.read_operand_laws.specs.TailStands.{specifierWords, SpecifierStands, TailStands, tailWords}
-use Rattle.read_operand_laws.specs.Facts.{immediate-holds, bit-number-holds}
+use Rattle.read_operand_laws.specs.Facts.{bit-number-holds}
+use Rattle.encode_facts.specs.Immediates.{immediate-held, long-holds, own-remainder}
 use Rattle.encode_facts.specs.Items.{fine-both, lt-number, reason-not, unless-reason, true-unless}
 use Rattle.base_facts.specs.Tests.{ltb-is, ltb-true, eqb-is, eqb-eq, and-true, true-not-false, leb-true, Eq, leb-is, eq?}
 use Rattle.isa.specs.declared.RegisterOperand.{RegisterOperand}
@@ -62,26 +63,23 @@ use Rattle.read_laws.specs.LayingLaws.{Passing, passing, passed, checked
 use Rattle.read_laws.specs.Operands.{is-register, by-kind, data-bits, address-is}
 
 -- ---- an immediate before the destination
-immediate-lt : (v : ℕ) (s : Size) → Passing (immediateItems v s) → v < suc (topOf s)
-immediate-lt v s c = ltb-is v (suc (topOf s)) (sym (immediate-holds s v) ∙ c .0)
+immediate-passing : (v : ℕ) (s : Size) → v < suc (topOf s) → Passing (immediateItems v s)
+immediate-passing v s h = (immediate-held s v h, each-size (λ s. Passing (immediateWords v s)) tt tt tt s)
 
-lt-immediate : (v : ℕ) (s : Size) → v < suc (topOf s) → Passing (immediateItems v s)
-lt-immediate v s h = (immediate-holds s v ∙ ltb-true v (suc (topOf s)) h, each-size (λ s. Passing (immediateWords v s)) tt tt tt s)
+immediate-words : (v : ℕ) (s : Size) → wordsIn (immediateItems v s) ≡ specifierWords (immediateSpecifier s) (remainderOf s v)
+immediate-words v Byte = refl
+immediate-words v Word = refl
+immediate-words v Long = refl
 
-immediate-words : (v : ℕ) (s : Size) → v < suc (topOf s) → wordsIn (immediateItems v s) ≡ specifierWords (immediateSpecifier s) v
-immediate-words v Byte h = let e : v % 256 ≡ v = omega arith in rw e
-immediate-words v Word h = let e : v % 65536 ≡ v = omega arith in rw e
-immediate-words v Long h = refl
-
-immediate-at : (a v : ℕ) (s : Size) → wordAddress (wordAddress a 0) (countOf (immediateItems v s) + 1) ≡ behind a (immediateSpecifier s) v
+immediate-at : (a v : ℕ) (s : Size) → wordAddress (wordAddress a 0) (countOf (immediateItems v s) + 1) ≡ behind a (immediateSpecifier s) (remainderOf s v)
 immediate-at a v Byte = omega arith
 immediate-at a v Word = omega arith
 immediate-at a v Long = omega arith
 
-immediate-stands : (v : ℕ) (s : Size) → v < suc (topOf s) → SpecifierStands (immediateSpecifier s) v
-immediate-stands v Byte h = (omega arith, eqb-is (v / 256) 0 (omega arith))
-immediate-stands v Word h = (h, refl)
-immediate-stands v Long h = (h, refl, refl)
+immediate-stands : (v : ℕ) (s : Size) → Passing (immediateItems v s) → SpecifierStands (immediateSpecifier s) (remainderOf s v)
+immediate-stands v Byte c = (omega arith, eqb-is (v % 256 / 256) 0 (omega arith))
+immediate-stands v Word c = (omega arith, refl)
+immediate-stands v Long c = (ltb-is v 4294967296 (sym (long-holds v) ∙ c .0), refl, refl)
 
 stands-immediate : (v : ℕ) (s : Size) → SpecifierStands (immediateSpecifier s) v → v < suc (topOf s)
 stands-immediate v Byte h = let e = eqb-eq (v / 256) 0 (h .1) in omega arith
@@ -89,13 +87,11 @@ stands-immediate v Word h = h .0
 stands-immediate v Long h = h .0
 
 immediate-laying : (a : ℕ) (op : ImmediateOperation) (v : ℕ) (o : Operand) (s : Size)
-    → Laying a (ImmediateInto op v o s) 0 (immediateKind op) (sizeCode s) (immediateSpecifier s) s (bits (immediateModes op)) v o (v < suc (topOf s))
+    → Laying a (ImmediateInto op v o s) 0 (immediateKind op) (sizeCode s) (immediateSpecifier s) s (bits (immediateModes op)) (remainderOf s v) o (Passing (immediateItems v s))
 unfolding immediateParts
 immediate-laying a op v o s =
-    form-as
-    (form-is [] [] (immediateItems v s) (immediateReason op) (wordAddress (wordAddress a 0) (countOf (immediateItems v s) + 1)) (rw (immediate-column op)) (immediate-at a v s) refl
-    (λ c. immediate-words v s (immediate-lt v s c)))
-    (immediate-lt v s) (lt-immediate v s)
+    form-is [] [] (immediateItems v s) (immediateReason op) (wordAddress (wordAddress a 0) (countOf (immediateItems v s) + 1)) (rw (immediate-column op)) (immediate-at a v s) refl
+    (λ c. immediate-words v s)
 
 abbrev ImmediateCode : ImmediateOperation → Type 0
 ImmediateCode op =
@@ -218,8 +214,10 @@ immediate-into-sound a line x opmode ea hl hx ho he e f h p i r =
     let (y, o, t) = status-fields x opmode ea q in
     word-as a j _ _ _ (omega arith) (alone-encodes a j _ (immediateSpecifier s) f g (to-status-encodes a x opmode v hx o t (g .1))))
     (λ q g.
+    let b = stands-immediate v s (g .1) in
+    let own = own-remainder s v b in
     word-as a k _ _ _ (omega (arith, w))
-    (laying-encodes ea f (immediate-laying a (immediateAt x) v (f .source) s) (stands-immediate v s (g .1)) (rw m at g) p (λ n. n) refl (λ e. rw e)))
+    (laying-encodes ea f (rw own at (immediate-laying a (immediateAt x) v (f .source) s)) (immediate-passing v s b) (rw m at g) (rw q at p) (λ n. n) refl (λ e. rw (own, e))))
 
 -- ---- BTST BCHG BCLR BSET, by their number
 parts-are : (k : ℕ) → k < 4 → (o d : Operand) → unsizedPairParts (bitAt k) o d ≡ bitParts k o d
@@ -398,4 +396,4 @@ dynamic-bit-movep-sound a line x opmode ea hl hx ho he e f h p i r = go (eq? (ea
         let n = leb-is 4 opmode u in
         rw g (decoded-as a i (UnsizedPair (bitAt (opmode - 4)) (Register (Data x)) (f .source)) _ _ _ (rw g at r) (omega arith)
         (laying-encodes ea f (dynamic-laying a (opmode - 4) (omega arith) (Data x) (f .source) (f .value)) (refl, (lt-number x hx, tt))
-        (rw g at h) p (λ n. (tt, n)) refl (λ e. rw e)))
+        (rw g at h) (rw g at p) (λ n. (tt, n)) refl (λ e. rw e)))

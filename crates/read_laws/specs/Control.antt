@@ -250,9 +250,9 @@ conditional-sound a line x opmode ea hl hx ho he e f h p i r =
     (cond b (alone (trapSpecifier ea)) (one specifier.Nothing Byte ea (bits dataAlterable))) f h r
     (λ q g. word-as a j _ _ _ (omega (arith, w, eqb-eq (ea / 8) 1 q)) (alone-encodes a j _ specifier.Word f g
     (dbcc-encodes a (ea % 8) v c (omega arith) (g .1 .0))))
-    (λ q g. either-encodes a (cond b t s) t s (wordOf line x opmode ea) b (alone (trapSpecifier ea)) (one specifier.Nothing Byte ea (bits dataAlterable)) f g refl
+    (λ m g. either-encodes a (cond b t s) t s (wordOf line x opmode ea) b (alone (trapSpecifier ea)) (one specifier.Nothing Byte ea (bits dataAlterable)) f g refl
     (λ q g. word-as a t _ _ _ (omega (arith, w)) (alone-encodes a t _ (trapSpecifier ea) f g (trap-encodes a v c ea he q (g .1))))
-    (λ q g. word-as a s _ _ _ (omega (arith, w)) (laying-encodes ea f (scc-laying a (f .source) c v) tt g p (λ n. n) refl (λ e. rw e))))
+    (λ q g. word-as a s _ _ _ (omega (arith, w)) (laying-encodes ea f (scc-laying a (f .source) c v) tt g (rw (m, q) at p) (λ n. n) refl (λ e. rw e))))
 
 -- ---- Bcc BRA BSR
 -- what a branch of a size holds: its specifier, the value of that, and the byte of its operation word; p is the word after that

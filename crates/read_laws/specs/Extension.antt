@@ -420,4 +420,4 @@ cas-sound a line x opmode ea hl hx ho he e f h p i r =
     word-as a k _ _ _ (omega (arith, w))
     (laying-encodes ea f (cas-laying a (v % 8) (v / 64 % 8) (f .source) s v (fields-cas v (g .1)))
     (lt-number (v / 64 % 8) (omega arith), (lt-number (v % 8) (omega arith), tt))
-    g p (λ n. n) refl (λ e. rw e)))
+    g (rw q at p) (λ n. n) refl (λ e. rw e)))

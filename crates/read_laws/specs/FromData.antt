@@ -63,9 +63,9 @@ sourceChecks o = typed o ∷ allow (isRegister o) 3 ∷ dataRegister (registerIn
 abbrev numberFrom : Operand → ℕ
 numberFrom o = registerBits (registerIn o)
 
-from-is : (o : Operand) → Passing (sourceChecks o) → dataOperand (numberFrom o) ≡ plainOperand o
-from-is =
-    by-register (λ o. Passing (sourceChecks o) → dataOperand (numberFrom o) ≡ plainOperand o)
+from-is : (s : Size) (o : Operand) → Passing (sourceChecks o) → dataOperand (numberFrom o) ≡ plainOperand s o
+from-is s =
+    by-register (λ o. Passing (sourceChecks o) → dataOperand (numberFrom o) ≡ plainOperand s o)
     (λ r c. ap Register (data-bits r (c .1 .1 .0)))
     (λ o e c. true-not-false (unless-reason (isRegister o) 3 (c .1 .0)) e)
 
@@ -115,13 +115,13 @@ from-reads a sh op line modes o d s (t, l, p) form (n, e, y) =
     laying-reads form (t (numberFrom o) (omega arith)) e (n .1) (λ c m. (
       l (numberFrom o) (eaField d) m,
       refl,
-      p a (numberFrom o) (eaField d) 0 (plainOperand d) missing m ∙ ap
-          (λ (o : Operand). ret (Pair op o (plainOperand d) s)) (from-is o c),
+      p a (numberFrom o) (eaField d) 0 (plainOperand s d) missing m ∙ ap
+          (λ (o : Operand). ret (Pair op o (plainOperand s d) s)) (from-is s o c),
     ))
 
 from-encodes : (a x ea : ℕ) (op : PairOperation) (line modes : ℕ) (s : Size) (f : Tail) → x < 8
     → FromLaying a (f .value) modes (dataOperand x) (f .source) s op line
-    → TailStands a (one specifier.Nothing s ea modes) f → plainTail f ≡ f
+    → TailStands a (one specifier.Nothing s ea modes) f → plainTail s f ≡ f
     → Encodes a (Pair op (dataOperand x) (f .source) s) (wordOf line x (4 + sizeCode s) ea ∷ tailWords a (one specifier.Nothing s ea modes) f)
 from-encodes a x ea op line modes s f hx form h p =
     let m : x % 8 ≡ x = omega arith in
@@ -130,7 +130,8 @@ from-encodes a x ea op line modes s f hx form h p =
 -- beside another form, which a test says
 beside-encodes : (a line x ea : ℕ) (s : Size) (k : Specifier) (f : Tail) (i j : Instruction) (b : Bool) → among memoryLines line ≡ true → x < 8
     → (b ≡ true → SpecifierStands k (f .value) → Encodes a j (wordOf line x (4 + sizeCode s) ea ∷ specifierWords k (f .value)))
-    → TailStands a (cond b (alone k) (one specifier.Nothing s ea (bits memoryAlterable))) f → plainTail f ≡ f
+    → TailStands a (cond b (alone k) (one specifier.Nothing s ea (bits memoryAlterable))) f
+    → plainTail (cond b (alone k) (one specifier.Nothing s ea (bits memoryAlterable)) .size) f ≡ f
     → _≡_ {A = Tree Instruction} (ret (cond b j (Pair (pairAt line) (dataOperand x) (f .source) s))) (ret i)
     → Encodes a i (wordOf line x (4 + sizeCode s) ea ∷ tailWords a (cond b (alone k) (one specifier.Nothing s ea (bits memoryAlterable))) f)
 beside-encodes a line x ea s k f i j b t hx g h p r =
@@ -139,7 +140,7 @@ beside-encodes a line x ea s k f i j b t hx g h p r =
     (λ q h. alone-encodes a j _ k f h (g q (h .1)))
     (λ q h.
     let e = memory-not (f .source) (one-back a specifier.Nothing s ea (bits memoryAlterable) f h .0 .0) in
-    from-encodes a x ea (pairAt line) line (bits memoryAlterable) s f hx (pair-laying a (f .value) (dataOperand x) (f .source) s e line t) h p)
+    from-encodes a x ea (pairAt line) line (bits memoryAlterable) s f hx (pair-laying a (f .value) (dataOperand x) (f .source) s e line t) h (rw q at p))
 
 -- ---- the forms Dy,Dx and -(Ay),-(Ax): x in bits 11 to 9, y in bits 2 to 0, and bit 3 says which; what the encoder checks of them
 abbrev pairingChecks : ℕ → Operand → Operand → List Item
@@ -182,7 +183,7 @@ Joins a J reason line opmode ws =
     × (wordsOf (J o d) a ≡ wordOf line (registerField d) opmode (8 * memoryBit o + registerField o) ∷ ws)
     × (InTypes o × InTypes d → InstructionInTypes (J o d))
     × (leftOut (J o d) a ≡ false)
-    × (plain (J o d) ≡ J (plainOperand o) (plainOperand d))
+    × ((s : Size) × (t : Size) × (plain (J o d) ≡ J (plainOperand s o) (plainOperand t d)))
 
 joined-encodes : (a : ℕ) (J : Operand → Operand → Instruction) (reason line opmode : ℕ) (ws : List ℕ) → Joins a J reason line opmode ws
     → (ea x : ℕ) → ea < 16 → x < 8 → Encodes a (J (eitherAt ea (ea % 8)) (eitherAt ea x)) (wordOf line x opmode ea ∷ ws)
@@ -190,12 +191,12 @@ joined-encodes a J reason line opmode ws j ea x he hx = go (lt? ea 8)
   where
     go : Lt ea 8 → Encodes a (J (eitherAt ea (ea % 8)) (eitherAt ea x)) (wordOf line x opmode ea ∷ ws)
     go (Lt.less l e) =
-        let (c, w, n, u, p) = j (Register (Data (ea % 8))) (Register (Data x)) in
+        let (c, w, n, u, (_, _, p)) = j (Register (Data (ea % 8))) (Register (Data x)) in
         let t = passed (pairingChecks reason (Register (Data (ea % 8))) (Register (Data x)))
         (refl, (refl, (refl, (lt-number x hx, (lt-number (ea % 8) (omega arith), tt))))) in
         rw e (word-as a _ _ _ _ (omega arith) ((n (tt, tt), c ∙ t, u), p, w))
     go (Lt.past l e) =
-        let (c, w, n, u, p) = j (PreIndirect (ea % 8)) (PreIndirect x) in
+        let (c, w, n, u, (_, _, p)) = j (PreIndirect (ea % 8)) (PreIndirect x) in
         let t = passed (pairingChecks reason (PreIndirect (ea % 8)) (PreIndirect x))
         (refl, (refl, (refl, (lt-number x hx, (lt-number (ea % 8) (omega arith), tt))))) in
         rw e (word-as a _ _ _ _ (omega arith) ((n (tt, tt), c ∙ t, u), p, w))
@@ -232,7 +233,7 @@ extend-joins : (a : ℕ) (s : Size) (line : ℕ) → among arithmeticLines line 
 unfolding pairParts extendedParts
 extend-joins a s =
     each (λ line. Joins a (λ o d. Pair (extendAt line) o d s) 62 line (4 + sizeCode s) []) arithmeticLines
-    (λ o d. (refl, refl, (λ n. n), refl, refl), (λ o d. (refl, refl, (λ n. n), refl, refl), tt))
+    (λ o d. (refl, refl, (λ n. n), refl, (s, s, refl)), (λ o d. (refl, refl, (λ n. n), refl, (s, s, refl)), tt))
 
 extend-reads : (line : ℕ) → among arithmeticLines line ≡ true → (a : ℕ) (o d : Operand) (s : Size) → Accepted a (Pair (extendAt line) o d s)
     → Reads a (Pair (extendAt line) o d s)
@@ -272,7 +273,7 @@ decimal-joins : (a : ℕ) (line : ℕ) → among decimalLines line ≡ true → 
 unfolding unsizedPairParts extendedParts
 decimal-joins a =
     each (λ line. Joins a (UnsizedPair (decimalAt line)) 62 line 4 []) decimalLines
-    (λ o d. (refl, refl, (λ n. n), refl, refl), (λ o d. (refl, refl, (λ n. n), refl, refl), tt))
+    (λ o d. (refl, refl, (λ n. n), refl, (Long, Byte, refl)), (λ o d. (refl, refl, (λ n. n), refl, (Long, Byte, refl)), tt))
 
 decimal-reads : (line : ℕ) → among decimalLines line ≡ true → (a : ℕ) (o d : Operand) → Accepted a (UnsizedPair (decimalAt line) o d)
     → Reads a (UnsizedPair (decimalAt line) o d)
@@ -310,7 +311,7 @@ pack-joins : (a adjustment : ℕ) → adjustment < 65536 → (opmode : ℕ) → 
 unfolding packsParts packParts
 pack-joins a adjustment h =
     each (λ opmode. Joins a (λ o d. Pack (packAt opmode) o d adjustment) 48 8 opmode (adjustment ∷ [])) opmodes
-    (λ o d. (refl, refl, (λ n. (n .0, n .1, h)), refl, refl), (λ o d. (refl, refl, (λ n. (n .0, n .1, h)), refl, refl), tt))
+    (λ o d. (refl, refl, (λ n. (n .0, n .1, h)), refl, (Long, Long, refl)), (λ o d. (refl, refl, (λ n. (n .0, n .1, h)), refl, (Long, Long, refl)), tt))
 
 packed-reads : (opmode : ℕ) → among opmodes opmode ≡ true → (a : ℕ) (o d : Operand) (adjustment : ℕ)
     → Accepted a (Pack (packAt opmode) o d adjustment) → Reads a (Pack (packAt opmode) o d adjustment)
@@ -533,4 +534,4 @@ logic-compare-sound a line x opmode ea hl hx ho he e f h p i r =
         (cmpm-encodes a x (ea % 8) s hx (omega arith)))
     go false g h r =
         decoded-as a i (Pair EOR (dataOperand x) (f .source) s) _ _ _ r refl (from-encodes a x ea EOR 11 (bits dataAlterable) s f hx
-        (eor-laying a (f .value) (dataOperand x) (f .source) s) h p)
+        (eor-laying a (f .value) (dataOperand x) (f .source) s) h (rw g at p))

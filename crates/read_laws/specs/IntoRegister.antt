@@ -156,7 +156,7 @@ Into a o r s v line =
     × (InstructionInTypes (intoOf line o r s) → InTypes o)
     × (InTypes o → InstructionInTypes (intoOf line o r s))
     × (leftOut (intoOf line o r s) a ≡ false)
-    × (plain (intoOf line o r s) ≡ intoOf line (plainOperand o) r s)
+    × (plain (intoOf line o r s) ≡ intoOf line (plainOperand s o) r s)
 
 module _ (a : ℕ) (o : Operand) (r : RegisterOperand) (s : Size) (v : ℕ) where
   -- an address register is not read as a byte

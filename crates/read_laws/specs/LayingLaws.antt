@@ -194,7 +194,7 @@ module _ {a : ℕ} {i : Instruction} {line x opmode : ℕ} {k : Specifier} {s : 
   pub laying-reads : {C : Type 0} {sh : Group} → Laying a i line x opmode k s modes v o C → At sh line x opmode → refusalOf true i a ≡ fine → InTypes o
       → (C → permitted modes (eaField o) ≡ true
       → (layoutOf sh line x opmode (eaField o) ≡ one k s (eaField o) modes) × SpecifierStands k v
-      × (decoded a sh line x opmode (eaField o) v (plainOperand o) missing ≡ ret (plain i)))
+      × (decoded a sh line x opmode (eaField o) v (plainOperand s o) missing ≡ ret (plain i)))
       → Reads a i
   laying-reads {sh = sh} f (hl, hx, ho, e) r n m =
       let (c, t, g) = f .back r in
@@ -202,7 +202,7 @@ module _ {a : ℕ} {i : Instruction} {line x opmode : ℕ} {k : Specifier} {s : 
       let y : permitted modes (eaField o) ≡ true = sym (permits-is modes s (behind a k v) (eaField o) o q) ∙ g .0 in
       let (l, sp, p) = m c y in
       reads sh line x opmode (eaField o) (tailOf v o) hl hx ho (stands-lt s (behind a k v) (eaField o) o q) e
-      (rw l (one-there a k s modes v o y sp q)) p
+      (rw l (one-there a k s modes v o y sp q)) (rw l p)
       (rw (l, append-nil (wordsIn (eaItems o s (behind a k v)))) (f .words r))
 
 -- without a specifier, and with checks before the operation word
@@ -224,8 +224,8 @@ decoded-as a i j w u ws r e h =
     rw (← q, ← e) h
 
 pub laying-encodes : {a : ℕ} {j : Instruction} {line x opmode : ℕ} {k : Specifier} {s : Size} {modes : ℕ} {C : Type 0} (ea : ℕ) (f : Tail)
-    → Laying a j line x opmode k s modes (f .value) (f .source) C → C → TailStands a (one k s ea modes) f → plainTail f ≡ f
-    → (InTypes (f .source) → InstructionInTypes j) → leftOut j a ≡ false → (plainOperand (f .source) ≡ f .source → plain j ≡ j)
+    → Laying a j line x opmode k s modes (f .value) (f .source) C → C → TailStands a (one k s ea modes) f → plainTail s f ≡ f
+    → (InTypes (f .source) → InstructionInTypes j) → leftOut j a ≡ false → (plainOperand s (f .source) ≡ f .source → plain j ≡ j)
     → Encodes a j (wordOf line x opmode ea ∷ tailWords a (one k s ea modes) f)
 laying-encodes {a} {j} {line} {x} {opmode} {k} {s} {modes} ea f l c h p n o y =
     let b = one-back a k s ea modes f h in

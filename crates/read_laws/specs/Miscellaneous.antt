@@ -25,7 +25,7 @@ use Rattle.isa.specs.declared.LinkOperation.the-variants.{LINKL}
 use Rattle.isa.specs.declared.Instruction.{Instruction}
 use Rattle.isa.specs.declared.Instruction.the-variants.{OneOperand, UnsizedOne, UnsizedIntoRegister, NoOperand, Link, SWAP, Vector, EXT, MOVEM}
 use Rattle.encode_spec.specs.Item.{word, allow, noEncoding, dataRegister, addressRegister}
-use Rattle.isa_spec.specs.Code.{sizeCode, isByte, longBit, fromMemory, registerBits}
+use Rattle.isa_spec.specs.Code.{unsizedSize, unsizedRegisterSize, sizeCode, isByte, longBit, fromMemory, registerBits}
 use Rattle.isa_spec.specs.Mode.{everyColumn, dataColumn, controlColumn, bits}
 use Rattle.encode_facts.specs.Columns.{movem-column}
 use Rattle.encode_spec.specs.Ea.{dataAlterable, movemToMemory, byteOfAddress, eaField, single, withData, withAddress}
@@ -40,7 +40,7 @@ use Rattle.read_spec.specs.declared.Tail.{Tail}
 use Rattle.read_spec.specs.Tree.{ret}
 use Rattle.read_spec.specs.Layout.{one, alone, bare}
 use Rattle.read_spec.specs.Modes.{readableModes, movemModesAt, unsizedModes}
-use Rattle.read_spec.specs.Layouts.{unsizedSize, unsizedLayout}
+use Rattle.read_spec.specs.Layouts.{unsizedLayout}
 use Rattle.read_spec.specs.Map.{groupAt, map}
 use Rattle.read_spec.specs.Operand.{permitted}
 use Rattle.read_spec.specs.Operation.{sizeAt, oneAt, unsizedAt, toMemoryAt}
@@ -159,7 +159,7 @@ unsized-one-reads a MOVEfromCCR o (n, e, l) = laying-reads (unsized-laying a MOV
 unsized-one-reads a MOVEtoSR o (n, e, l) = laying-reads (unsized-laying a MOVEtoSR o 0) (at-code group.UnsizedOneIllegal 4 3 3 refl) e n (λ c m. (refl, refl, refl))
 unsized-one-reads a MOVEfromSR o (n, e, l) = laying-reads (unsized-laying a MOVEfromSR o 0) (at-code group.UnsizedOneIllegal 4 0 3 refl) e n (λ c m. (refl, refl, refl))
 
-unsized-encodes : (a ea : ℕ) (op : UnsizedOneOperation) (f : Tail) → TailStands a (unsizedLayout op ea) f → plainTail f ≡ f
+unsized-encodes : (a ea : ℕ) (op : UnsizedOneOperation) (f : Tail) → TailStands a (unsizedLayout op ea) f → plainTail (unsizedLayout op ea .size) f ≡ f
     → Encodes a (UnsizedOne op (f .source)) (wordOf 4 (codeOf op) (opmodeOf op) ea ∷ tailWords a (unsizedLayout op ea) f)
 unsized-encodes a ea op f h p = laying-encodes ea f (unsized-laying a op (f .source) (f .value)) tt h p (λ n. n) refl (λ e. rw e)
 
@@ -184,7 +184,7 @@ unsized-one-illegal-sound a line x opmode ea hl hx ho he e f h p i r =
     let v = eqb-eq (wordOf line x opmode 0) (wordOf 4 5 3 0) (rw y at t) in
     word-as a (NoOperand ILLEGAL) _ (wordOf 4 5 3 60) _ (omega (arith, v, eqb-eq ea 60 z))
     (alone-encodes a (NoOperand ILLEGAL) _ specifier.Nothing f g (illegal-encodes a)))
-    (λ q g. word-as a (UnsizedOne op (f .source)) _ _ _ (omega (arith, w)) (unsized-encodes a ea op f g p))
+    (λ q g. word-as a (UnsizedOne op (f .source)) _ _ _ (omega (arith, w)) (unsized-encodes a ea op f g (rw q at p)))
 
 -- ---- LINK with a long, which stands where NBCD has no mode
 linkl-encodes : (a n d : ℕ) → n < 8 → d < 2 ^ 32 → Encodes a (Link LINKL (Address n) d) (wordOf 4 4 0 (8 + n) ∷ d / 65536 ∷ d % 65536 ∷ [])
@@ -210,7 +210,7 @@ nbcd-link-sound a line x opmode ea hl hx ho he e f h p i r =
     either-encodes a i j (UnsizedOne NBCD (f .source)) (wordOf line x opmode ea) (eqb (ea / 8) 1) (alone specifier.Long) (unsizedLayout NBCD ea) f h r
     (λ q g. word-as a j _ _ _ (omega (arith, w, eqb-eq (ea / 8) 1 q)) (alone-encodes a j _ specifier.Long f g
     (linkl-encodes a (ea % 8) (f .value) (omega arith) (g .1 .0))))
-    (λ q g. word-as a (UnsizedOne NBCD (f .source)) _ _ _ (omega (arith, w)) (unsized-encodes a ea NBCD f g p))
+    (λ q g. word-as a (UnsizedOne NBCD (f .source)) _ _ _ (omega (arith, w)) (unsized-encodes a ea NBCD f g (rw q at p)))
 
 -- ---- SWAP and BKPT, which stand where PEA has no mode
 swap-encodes : (a n : ℕ) → n < 8 → Encodes a (SWAP (Data n)) (wordOf 4 4 1 n ∷ [])
@@ -265,7 +265,7 @@ pea-swap-bkpt-sound a line x opmode ea hl hx ho he e f h p i r =
     either-encodes a i (swapOr ea) (UnsizedOne PEA (f .source)) (wordOf line x opmode ea) (ltb ea 16) bare (unsizedLayout PEA ea) f h
     (ap (λ (j : Instruction). ret j) (sym n) ∙ r)
     (λ q g. word-as a (swapOr ea) _ _ _ (omega (arith, w)) (alone-encodes a (swapOr ea) _ specifier.Nothing f g (swap-or-encodes a ea (ltb-is ea 16 q))))
-    (λ q g. word-as a (UnsizedOne PEA (f .source)) _ _ _ (omega (arith, w)) (unsized-encodes a ea PEA f g p))
+    (λ q g. word-as a (UnsizedOne PEA (f .source)) _ _ _ (omega (arith, w)) (unsized-encodes a ea PEA f g (rw q at p)))
 
 -- ---- EXT: the three extensions there are
 abbrev Extends : Size → Size → Type 0
@@ -360,7 +360,7 @@ movem-ext-sound a line x opmode ea hl hx ho he e f h p i r =
     (λ q g.
     let m : f .value % 65536 ≡ f .value = omega (arith, g .1 .0) in
     rw m (word-as a (MOVEM direction s (f .value) (f .source)) _ _ _ (omega (arith, w))
-    (laying-encodes ea f (movem-laying a direction s (f .value) (f .source)) (true-unless (not (isByte s)) (noEncoding 20) z, tt) (rw (u .1 .1 .0) at g) p (λ n. (g .1 .0, n)) refl
+    (laying-encodes ea f (movem-laying a direction s (f .value) (f .source)) (true-unless (not (isByte s)) (noEncoding 20) z, tt) (rw (u .1 .1 .0) at g) (rw q at p) (λ n. (g .1 .0, n)) refl
     (λ e. rw e))))
 
 -- ---- LEA, and CHK of a word or of a long
@@ -390,10 +390,14 @@ lea-extb-sound a line x opmode ea hl hx ho he e f h p i r =
     word-as a j _ _ _ (omega (arith, eqb-eq x 4 b)) (alone-encodes a j _ specifier.Nothing f g (ext-encodes a ea Byte Long (ltb-is ea 8 d) refl)))
     (λ q g.
     word-as a (UnsizedIntoRegister LEA (f .source) (Address x)) _ _ _ (omega arith)
-    (laying-encodes ea f (lea-laying a (f .source) (Address x) (f .value)) (lt-number x hx, tt) g p (λ n. n) refl (λ e. rw e)))
+    (laying-encodes ea f (lea-laying a (f .source) (Address x) (f .value)) (lt-number x hx, tt) g (rw q at p) (λ n. n) refl (λ e. rw e)))
 
 abbrev checkAt : Bool → UnsizedRegisterOperation
 checkAt b = cond b CHKL CHK
+
+check-size : (b : Bool) → unsizedRegisterSize (checkAt b) ≡ cond b Long Word
+check-size true = refl
+check-size false = refl
 
 chk-laying : (a : ℕ) (b : Bool) (o : Operand) (r : RegisterOperand) (v : ℕ)
     → Laying a (UnsizedIntoRegister (checkAt b) o r) 4 (registerBits r) (cond b 4 6) specifier.Nothing (cond b Long Word) (bits dataColumn) v o
@@ -416,4 +420,5 @@ unfolding map
 chk-sound a line x opmode ea hl hx ho he e f h p i r =
     let (w, u) = in-group group.CHK (λ l x o. equal (wordOf 4 x (cond (eqb o 4) 4 6) 0) (wordOf l x o 0) ∷ []) refl line x opmode e in
     decoded-as a i (UnsizedIntoRegister (checkAt (eqb opmode 4)) (f .source) (Data x)) _ _ _ r (omega (arith, w))
-    (laying-encodes ea f (chk-laying a (eqb opmode 4) (f .source) (Data x) (f .value)) (lt-number x hx, tt) h p (λ n. n) refl (λ e. rw e))
+    (laying-encodes ea f (chk-laying a (eqb opmode 4) (f .source) (Data x) (f .value)) (lt-number x hx, tt) h p (λ n. n) refl
+    (λ e. rw (check-size (eqb opmode 4), e)))

@@ -174,7 +174,7 @@ movea-reads a o r s (n, e, l) =
 
 -- ---- T2
 movea-encodes : (a x ea : ℕ) (s : Size) (f : Tail) (b : Bool) → isByte s ≡ b → x < 8 → TailStands a (cond b noLayout (one specifier.Nothing s ea (bits everyColumn))) f
-    → plainTail f ≡ f
+    → plainTail (cond b noLayout (one specifier.Nothing s ea (bits everyColumn)) .size) f ≡ f
     → Encodes a (IntoRegister MOVEA (f .source) (Address x) s) (wordOf (moveCode s) x 1 ea ∷ tailWords a
     (cond b noLayout (one specifier.Nothing s ea (bits everyColumn))) f)
 movea-encodes a x ea s f true n hx h p = absurd (false≢true (h .0))
@@ -183,7 +183,7 @@ movea-encodes a x ea s f false n hx h p =
     rw w at (laying-encodes ea f (movea-laying a (f .source) (Address x) s (f .value)) (rw n, (lt-number x hx, tt)) h p (λ n. n) refl (λ e. rw e))
 
 move-encodes : (a x opmode ea : ℕ) (s : Size) (f : Tail) → x < 8 → TailStands a (two specifier.Nothing s ea (readableModes s) (opmode * 8 + x) (bits dataAlterable)) f
-    → plainTail f ≡ f
+    → plainTail s f ≡ f
     → Encodes a (Pair MOVE (f .source) (f .destination) s)
     (wordOf (moveCode s) x opmode ea ∷ tailWords a (two specifier.Nothing s ea (readableModes s) (opmode * 8 + x) (bits dataAlterable)) f)
 move-encodes a x opmode ea s f hx (c, v, q, k) p =
@@ -211,5 +211,5 @@ move-sound a line x opmode ea hl hx ho he e f h p i r =
     let k = Pair MOVE (f .source) (f .destination) s in
     either-encodes a i j k (wordOf line x opmode ea) (eqb opmode 1) (moveaLayout s ea)
     (two specifier.Nothing s ea (readableModes s) (opmode * 8 + x) (bits dataAlterable)) f h r
-    (λ q g. word-as a j _ _ _ (omega (arith, t, eqb-eq opmode 1 q)) (movea-encodes a x ea s f (isByte s) refl hx g p))
-    (λ q g. word-as a k _ _ _ (omega (arith, t)) (move-encodes a x opmode ea s f hx g p))
+    (λ q g. word-as a j _ _ _ (omega (arith, t, eqb-eq opmode 1 q)) (movea-encodes a x ea s f (isByte s) refl hx g (rw q at p)))
+    (λ q g. word-as a k _ _ _ (omega (arith, t)) (move-encodes a x opmode ea s f hx g (rw q at p)))

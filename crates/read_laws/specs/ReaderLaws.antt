@@ -48,7 +48,7 @@ reads-complete a i (reads s line x opmode ea f hl hx ho he e h p w) r =
     ap (λ (ws : List ℕ). run (reader a) a 0 (ws ++ r)) w
     ∙ reader-at a line x opmode ea (tailWords a (layoutOf s line x opmode ea) f ++ r) hl hx ho he
     ∙ ap (λ (t : Group). run (groupTree a t line x opmode ea) a 1 (tailWords a (layoutOf s line x opmode ea) f ++ r)) e
-    ∙ bind-got (tailTree (layoutOf s line x opmode ea)) _ a 1 _ (plainTail f) _ r (tail-complete a (layoutOf s line x opmode ea) f h r)
+    ∙ bind-got (tailTree (layoutOf s line x opmode ea)) _ a 1 _ (plainTail (layoutOf s line x opmode ea .size) f) _ r (tail-complete a (layoutOf s line x opmode ea) f h r)
     ∙ ap (λ (t : Tree Instruction). run t a (1 + length (tailWords a (layoutOf s line x opmode ea) f)) r) p
     ∙ ap (λ (n : ℕ). got (plain i) n r) (omega (arith, ap (λ (ws : List ℕ). length ws) w))
 

@@ -19,7 +19,8 @@ pub data Reads (a : ℕ) (i : Instruction) : Type 0 where
   reads : (s : Group) (line x opmode ea : ℕ) (f : Tail) → line < 16 → x < 8 → opmode < 8 → ea < 64
       → groupAt line x opmode ≡ s
       → TailStands a (layoutOf s line x opmode ea) f
-      → decoded a s line x opmode ea (f .value) (plainOperand (f .source)) (plainOperand (f .destination)) ≡ ret (plain i)
+      → decoded a s line x opmode ea (f .value) (plainOperand (layoutOf s line x opmode ea .size) (f .source)) (plainOperand (layoutOf s line x opmode ea .size) (f .destination))
+      ≡ ret (plain i)
       → wordsOf i a ≡ wordOf line x opmode ea ∷ tailWords a (layoutOf s line x opmode ea) f
       → Reads a i
 
@@ -31,6 +32,6 @@ Encodes a i ws = Accepted a i × (plain i ≡ i) × (wordsOf i a ≡ ws)
 abbrev pub Sound : Group → Type 0
 Sound s =
     (a line x opmode ea : ℕ) → line < 16 → x < 8 → opmode < 8 → ea < 64 → groupAt line x opmode ≡ s
-    → (f : Tail) → TailStands a (layoutOf s line x opmode ea) f → plainTail f ≡ f
+    → (f : Tail) → TailStands a (layoutOf s line x opmode ea) f → plainTail (layoutOf s line x opmode ea .size) f ≡ f
     → (i : Instruction) → decoded a s line x opmode ea (f .value) (f .source) (f .destination) ≡ ret i
     → Encodes a i (wordOf line x opmode ea ∷ tailWords a (layoutOf s line x opmode ea) f)

@@ -15,6 +15,7 @@ use Rattle.isa.specs.declared.Field.the-variants as field
 use Rattle.isa.specs.declared.Operand.{Operand}
 use Rattle.isa.specs.declared.Operand.the-variants.{Immediate, Register, Indirect, PostIndirect, PreIndirect, IndirectDisplacement, IndirectIndex, PcDisplacement, PcIndex, Extended, Absolute}
 use Rattle.isa_spec.specs.ExtensionWord.{isFull, baseSize, outerSize}
+use Rattle.isa_spec.specs.Field.{holds}
 use Rattle.encode_spec.specs.Item.{Item, fine, ranged, wordsIn}
 use Rattle.encode_spec.specs.Ea.{eaItems, displacementItems, baseDisplacement, fullItems, scaledItems, immediateWords}
 use Rattle.read_spec.specs.declared.Specifier.{Specifier}
@@ -22,7 +23,7 @@ use Rattle.read_spec.specs.declared.Specifier.the-variants as specifier
 use Rattle.read_spec.specs.declared.Layout.{Layout}
 use Rattle.read_spec.specs.declared.Tail.{Tail}
 use Rattle.read_spec.specs.Decoded.{wordOf}
-use Rattle.read_operand_laws.specs.Facts.{immediate-holds}
+use Rattle.encode_facts.specs.Immediates.{long-holds}
 use Rattle.encode_facts.specs.Items.{fine-both, range-holds, words-in-append}
 use Rattle.base_facts.specs.Tests.{ltb-is}
 use Rattle.read_operand_laws.specs.TreeLaws.{words-append}
@@ -36,15 +37,10 @@ displacement-words displacement.Null z f = tt
 displacement-words displacement.Word z f = (omega arith, tt)
 displacement-words displacement.Long z f = (omega arith, (omega arith, tt))
 
-immediate-words : (s : Size) (v : ℕ) → v < 2 ^ 32 → Words (wordsIn (immediateWords v s))
+immediate-words : (s : Size) (v : ℕ) → holds (field.Immediate s) (pos v) ≡ true → Words (wordsIn (immediateWords v s))
 immediate-words Byte v h = (omega arith, tt)
 immediate-words Word v h = (omega arith, tt)
-immediate-words Long v h = (omega arith, (omega arith, tt))
-
-immediate-lt : (s : Size) (v : ℕ) → ranged true (field.Immediate s) (pos v) ≡ fine → v < 2 ^ 32
-immediate-lt Byte v e = omega (arith, ltb-is v 256 (sym (immediate-holds Byte v) ∙ range-holds (field.Immediate Byte) (pos v) e))
-immediate-lt Word v e = omega (arith, ltb-is v 65536 (sym (immediate-holds Word v) ∙ range-holds (field.Immediate Word) (pos v) e))
-immediate-lt Long v e = omega (arith, ltb-is v 4294967296 (sym (immediate-holds Long v) ∙ range-holds (field.Immediate Long) (pos v) e))
+immediate-words Long v h = let l = ltb-is v (2 ^ 32) (sym (long-holds v) ∙ h) in (omega arith, (omega arith, tt))
 
 cond-words : (b : Bool) (xs ys : List Item) → Words (wordsIn xs) → Words (wordsIn ys) → Words (wordsIn (cond b xs ys))
 cond-words true xs ys p q = p
@@ -60,7 +56,7 @@ full-words w z outer h = (
 )
 
 pub operand-words : (s : Size) (at ea : ℕ) (o : Operand) → Stands s at ea o → Words (wordsIn (eaItems o s at))
-operand-words s at ea (Immediate v) h = immediate-words s v (immediate-lt s v (fine-both (ranged true (field.Immediate s) (pos v)) _ (h .0) .0))
+operand-words s at ea (Immediate v) h = immediate-words s v (range-holds (field.Immediate s) (pos v) (fine-both (ranged true (field.Immediate s) (pos v)) _ (h .0) .0))
 operand-words s at ea (Register r) h = tt
 operand-words s at ea (Indirect n) h = tt
 operand-words s at ea (PostIndirect n) h = tt

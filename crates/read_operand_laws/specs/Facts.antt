@@ -1,19 +1,19 @@
 -- Laws of tests, verdicts, items and signed numbers.
 use Prim.Native.Nat.{ℕ, suc, _+_, _-_, _%_, _^_, _<_, _≤_}
 use mathlib.Core.Path.{_≡_, refl, ap, sym, _∙_}
-use mathlib.Core.Bool.{Bool, true, not, _&&_, false≢true}
+use mathlib.Core.Bool.{Bool, true, false, not, _&&_, _||_, false≢true}
 use native.Mathlib.Omega.{arith}
 use lib.Dec.{ltb, leb, leb·zero, leb·suc-suc}
 use lib.IntN.{ℤ, pos, negsuc}
 use lib.Signed.{mag, leZ}
-use Rattle.isa.specs.declared.Size.{Size}
 use Rattle.isa.specs.declared.Field.the-variants as field
-use Rattle.isa_spec.specs.Field.{holds, ranges, topOf, isZero}
+use Rattle.isa_spec.specs.Field.{holds, ranges, isZero}
 use Rattle.encode_spec.specs.Ea.{distance}
 use Rattle.base_spec.specs.Signed.{signed32, signed64, bitsOf, difference}
 use Rattle.read_spec.specs.Number.{signed, signed8, signed16, reach}
 use Rattle.read_spec.specs.Accepted.{Fits32}
-use Rattle.base_facts.specs.Tests.{Lt, lt?, less, past, and-true, and-yes, leb-is, ltb-is, ltb-not, ltb-true}
+use Rattle.encode_facts.specs.Immediates.{from-zero}
+use Rattle.base_facts.specs.Tests.{Lt, lt?, less, past, and-true, and-yes, or-no, leb-is, ltb-is, ltb-not, ltb-true}
 
 -- ---- signed numbers: z lies from -h to h - 1
 abbrev pub fits : ℕ → ℤ → Bool
@@ -116,18 +116,22 @@ pub reach-lt : (p : ℕ) (z : ℤ) → reach p z < 2 ^ 32
 reach-lt p z = omega arith
 
 -- ---- what each field holds (Register and BitField: isa_values.specs.Fields)
-short-word : (z : ℤ) → leZ (negsuc 32767) z && leZ z (pos 32767) && true ≡ fits (2 ^ 15) z
-short-word z = and-yes (leZ (negsuc 32767) z && leZ z (pos 32767)) ∙ within-fits 32767 z
+-- nothing beside the pair, and no further rule
+pair-alone : (b : Bool) → (b || false) && true ≡ b
+pair-alone b = and-yes (b || false) ∙ or-no b
 
-short-byte : (z : ℤ) → leZ (negsuc 127) z && leZ z (pos 127) && true ≡ fits (2 ^ 7) z
-short-byte z = and-yes (leZ (negsuc 127) z && leZ z (pos 127)) ∙ within-fits 127 z
+short-word : (z : ℤ) → (leZ (negsuc 32767) z && leZ z (pos 32767) || false) && true ≡ fits (2 ^ 15) z
+short-word z = pair-alone (leZ (negsuc 32767) z && leZ z (pos 32767)) ∙ within-fits 32767 z
 
-upwards : (n t : ℕ) → leb 0 n && leb n t && true ≡ ltb n (suc t)
-upwards n t = rw (leb·zero n) (and-yes (leb n t) ∙ sym (leb·suc-suc n t))
+short-byte : (z : ℤ) → (leZ (negsuc 127) z && leZ z (pos 127) || false) && true ≡ fits (2 ^ 7) z
+short-byte z = pair-alone (leZ (negsuc 127) z && leZ z (pos 127)) ∙ within-fits 127 z
+
+upwards : (n t : ℕ) → (leb 0 n && leb n t || false) && true ≡ ltb n (suc t)
+upwards n t = pair-alone (leb 0 n && leb n t) ∙ from-zero n t
 
 pub short-branch-holds : (z : ℤ) → holds field.ShortBranch z ≡ fits (2 ^ 7) z && not (isZero z)
 unfolding holds ranges
-short-branch-holds z = ap (λ (b : Bool). b && not (isZero z)) (within-fits 127 z)
+short-branch-holds z = ap (λ (b : Bool). b && not (isZero z)) (or-no (leZ (negsuc 127) z && leZ z (pos 127)) ∙ within-fits 127 z)
 
 pub word-branch-holds : (z : ℤ) → holds field.WordBranch z ≡ fits (2 ^ 15) z
 unfolding holds ranges
@@ -172,7 +176,7 @@ outer-displacement-holds z = short-word z
 pub null-displacement-holds : (z : ℤ) → holds field.NullDisplacement z ≡ true → z ≡ pos 0
 unfolding holds ranges
 null-displacement-holds (pos n) e =
-    let l : n ≤ 0 = leb-is n 0 (and-true (leb n 0) true (rw (leb·zero n) at e) .0) in
+    let l : n < 1 = ltb-is n 1 (sym (upwards n 0) ∙ e) in
     ap pos (omega arith)
 null-displacement-holds (negsuc n) e = absurd (false≢true e)
 
@@ -188,13 +192,9 @@ long-address-holds a = go (lt? a (2 ^ 63))
     go (less l e) = rw e (upwards a 4294967295)
     go (past l e) = rw e (sym (ltb-not a (2 ^ 32) (omega arith)))
 
-pub immediate-holds : (s : Size) (v : ℕ) → holds (field.Immediate s) (pos v) ≡ ltb v (suc (topOf s))
-unfolding holds ranges
-immediate-holds s v = upwards v (topOf s)
-
 pub count-holds : (n : ℕ) → holds field.Count (pos n) ≡ leb 1 n && leb n 8
 unfolding holds ranges
-count-holds n = and-yes (leb 1 n && leb n 8)
+count-holds n = pair-alone (leb 1 n && leb n 8)
 
 pub trap-vector-holds : (n : ℕ) → holds field.TrapVector (pos n) ≡ ltb n 16
 unfolding holds ranges

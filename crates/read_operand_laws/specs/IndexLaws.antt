@@ -184,14 +184,14 @@ pub extended-complete : (base a n w : ℕ) (z outer : ℤ) → isCanonical w ≡
     → failure true (extendedItems base w z outer (wordAddress a n)) ≡ fine
     → (r : List ℕ)
     → run (indexedTree base) a n (wordsIn (extendedItems base w z outer (wordAddress a n)) ++ r)
-    ≡ got (plainOperand (Extended base w z outer)) (n + countOf (extendedItems base w z outer (wordAddress a n))) r
+    ≡ got (plainOperand Long (Extended base w z outer)) (n + countOf (extendedItems base w z outer (wordAddress a n))) r
 extended-complete base a n w z outer c t u e r = go (isFull w) refl
   where
     at : ℕ
     at = wordAddress a n
 
     Reads : List Item → Type 0
-    Reads xs = failure true xs ≡ fine → run (indexedTree base) a n (wordsIn xs ++ r) ≡ got (plainOperand (Extended base w z outer)) (n + countOf xs) r
+    Reads xs = failure true xs ≡ fine → run (indexedTree base) a n (wordsIn xs ++ r) ≡ got (plainOperand Long (Extended base w z outer)) (n + countOf xs) r
 
     full : isFull w ≡ true → Reads (fullItems w (based (fromPc base w) at z) outer)
     full f g = full-complete base a n w z outer f c t u g r ∙ got-is r (sym (cond-true (isFull w) (Extended base w z outer) (plainBrief base w z) f)) refl
@@ -201,7 +201,7 @@ extended-complete base a n w z outer c t u e r = go (isFull w) refl
 
     go : (b : Bool) → isFull w ≡ b
         → run (indexedTree base) a n (wordsIn (extendedItems base w z outer at) ++ r)
-        ≡ got (plainOperand (Extended base w z outer)) (n + countOf (extendedItems base w z outer at)) r
+        ≡ got (plainOperand Long (Extended base w z outer)) (n + countOf (extendedItems base w z outer at)) r
     go true f = subst Reads (sym (cond-true (isFull w) (fullItems w (based (fromPc base w) at z) outer) (scaledItems base w (based (fromPc base w) at z)) f)) (full f) e
     go false f =
         subst Reads
@@ -214,7 +214,7 @@ extended-complete base a n w z outer c t u e r = go (isFull w) refl
 abbrev pub OperandSound : Size → ℕ → ℕ → ℕ → List ℕ → Operand → ℕ → List ℕ → Type 0
 OperandSound s a n ea ws o m r =
     Stands s (wordAddress a n) ea o
-    × (plainOperand o ≡ o)
+    × (plainOperand s o ≡ o)
     × (ws ≡ wordsIn (eaItems o s (wordAddress a n)) ++ r)
     × (m ≡ n + countOf (eaItems o s (wordAddress a n)))
 
@@ -225,7 +225,7 @@ pub sound-by : (s : Size) (a n ea : ℕ) (ws : List ℕ) (o : Operand) (m : ℕ)
     → isTyped o ≡ true
     → InTypes o
     → eaField o ≡ ea
-    → plainOperand o ≡ o
+    → plainOperand s o ≡ o
     → ws ≡ wordsIn xs ++ r
     → m ≡ n + countOf xs
     → OperandSound s a n ea ws o m r

@@ -15,7 +15,7 @@ use Rattle.isa.specs.declared.Operand.{Operand}
 use Rattle.isa.specs.declared.Operand.the-variants.{Immediate, Register, Indirect, PostIndirect, PreIndirect, IndirectDisplacement, IndirectIndex, PcDisplacement, PcIndex, Extended, Absolute}
 use Rattle.isa.specs.declared.Field.{Field}
 use Rattle.isa.specs.declared.Field.the-variants as field
-use Rattle.isa_spec.specs.Field.{holds, topOf}
+use Rattle.isa_spec.specs.Field.{holds, topOf, remainderOf}
 use Rattle.isa_spec.specs.Code.{numberOfRegister}
 use Rattle.encode_spec.specs.Item.{fine, register, failure, orElse, ranged, numberVerdict, wordsIn, countOf, wordAddress}
 use Rattle.isa_spec.specs.ExtensionWord.{isCanonical}
@@ -28,7 +28,8 @@ use Rattle.read_spec.specs.Plain.{plainOperand}
 use Rattle.read_spec.specs.Tree.{Tree, ret, got, run}
 use Rattle.read_operand_laws.specs.Stands.{Stands}
 use Rattle.read_spec.specs.Accepted.{InTypes, Words}
-use Rattle.read_operand_laws.specs.Facts.{fits, fits-wider, as-fits32, signed8-low, signed16-low, low-signed16, signed16-fits, signed32-low, low-signed32, reach-distance, distance-reach, reach-lt, immediate-holds, displacement-holds, index-displacement-holds, pc-displacement-holds, pc-index-holds, short-address-holds, long-address-holds}
+use Rattle.read_operand_laws.specs.Facts.{fits, fits-wider, as-fits32, signed8-low, signed16-low, low-signed16, signed16-fits, signed32-low, low-signed32, reach-distance, distance-reach, reach-lt, displacement-holds, index-displacement-holds, pc-displacement-holds, pc-index-holds, short-address-holds, long-address-holds}
+use Rattle.encode_facts.specs.Immediates.{immediate-held, own-remainder}
 use Rattle.encode_facts.specs.Items.{fine-both, both-fine, reason-not, range-holds, holds-range, number-lt, lt-number, address-lt}
 use Rattle.read_operand_laws.specs.TreeLaws.{Alive, Clean, got-subst, short-no, none-no, guard-true, guard-then, guard-clean, bind-got, bind-then, bind-alive, bind-clean}
 use Rattle.read_operand_laws.specs.DisplacementLaws.{got-is}
@@ -36,22 +37,17 @@ use Rattle.read_operand_laws.specs.IndexLaws.{briefWord, Brief, index-co
 use Rattle.base_facts.specs.Tests.{Lt, less, past, lt?, ltb-true, ltb-is, leb-is, eqb-not, and-true, cond-true, cond-false, cond-lt}
 
 -- ---- immediates
-immediate-lt : (s : Size) (v : ℕ) → failure true (immediateItems v s) ≡ fine → v < suc (topOf s)
-immediate-lt s v e =
-    ltb-is v (suc (topOf s)) (sym (immediate-holds s v) ∙ range-holds (field.Immediate s) (pos v) (fine-both (ranged true (field.Immediate s) (pos v)) _ e .0))
-
-pub immediate-complete : (s : Size) (v : ℕ) → failure true (immediateItems v s) ≡ fine → (a n : ℕ) (r : List ℕ)
-    → run (immediateTree s) a n (wordsIn (immediateItems v s) ++ r) ≡ got v (n + countOf (immediateItems v s)) r
-immediate-complete Byte v e a n r =
-    let l : v < 256 = immediate-lt Byte v e in
-    let p : v % 256 ≡ v = omega arith in
-    ap (λ (t : Tree ℕ). run t a (n + 1) r) (guard-true (ltb (v % 256) 256) (ret (v % 256)) (ltb-true (v % 256) 256 (omega arith))) ∙ got-is r p refl
-immediate-complete Word v e a n r = let l : v < 65536 = immediate-lt Word v e in got-is r (omega arith) refl
-immediate-complete Long v e a n r = got-is r (omega arith) (omega arith)
+pub immediate-complete : (s : Size) (v a n : ℕ) (r : List ℕ)
+    → run (immediateTree s) a n (wordsIn (immediateItems v s) ++ r) ≡ got (remainderOf s v) (n + countOf (immediateItems v s)) r
+immediate-complete Byte v a n r =
+    ap (λ (t : Tree ℕ). run t a (n + 1) r) (guard-true (ltb (v % 256) 256) (ret (v % 256)) (ltb-true (v % 256) 256 (omega arith)))
+immediate-complete Word v a n r = refl
+immediate-complete Long v a n r = got-is r (omega arith) (omega arith)
 
 abbrev pub ImmediateSound : Size → ℕ → List ℕ → ℕ → ℕ → List ℕ → Type 0
 ImmediateSound s n ws v m r =
     (failure true (immediateItems v s) ≡ fine)
+    × (remainderOf s v ≡ v)
     × (ws ≡ wordsIn (immediateItems v s) ++ r)
     × (m ≡ n + countOf (immediateItems v s))
 
@@ -63,7 +59,7 @@ immediate-words-fine v Long = refl
 immediate-fine : (s : Size) (v : ℕ) → v < suc (topOf s) → failure true (immediateItems v s) ≡ fine
 immediate-fine s v h =
     both-fine (ranged true (field.Immediate s) (pos v)) (failure true (immediateWords v s))
-    (holds-range (field.Immediate s) (pos v) (immediate-holds s v ∙ ltb-true v (suc (topOf s)) h)) (immediate-words-fine v s)
+    (holds-range (field.Immediate s) (pos v) (immediate-held s v h)) (immediate-words-fine v s)
 
 pub immediate-sound : (s : Size) (a n : ℕ) (ws : List ℕ) → Words ws → (v m : ℕ) (r : List ℕ)
     → run (immediateTree s) a n ws ≡ got v m r
@@ -72,17 +68,17 @@ immediate-sound Byte a n [] h v m r e = short-no e
 immediate-sound Byte a n (w ∷ ws) h v m r e =
     let g = guard-then (ltb w 256) (ret w) a (n + 1) ws v m r e in
     let l : w < 256 = ltb-is w 256 (g .0) in
-    got-subst (ImmediateSound Byte n (w ∷ ws)) (g .1) (immediate-fine Byte w l, ap (λ (x : ℕ). x ∷ ws) (omega arith), refl)
+    got-subst (ImmediateSound Byte n (w ∷ ws)) (g .1) (immediate-fine Byte w l, own-remainder Byte w l, ap (λ (x : ℕ). x ∷ ws) (omega arith), refl)
 immediate-sound Word a n [] h v m r e = short-no e
 immediate-sound Word a n (w ∷ ws) h v m r e =
     let l : w < 65536 = h .0 in
-    got-subst (ImmediateSound Word n (w ∷ ws)) e (immediate-fine Word w l, ap (λ (x : ℕ). x ∷ ws) (omega arith), refl)
+    got-subst (ImmediateSound Word n (w ∷ ws)) e (immediate-fine Word w l, own-remainder Word w l, ap (λ (x : ℕ). x ∷ ws) (omega arith), refl)
 immediate-sound Long a n [] h v m r e = short-no e
 immediate-sound Long a n (w ∷ []) h v m r e = short-no e
 immediate-sound Long a n (w ∷ u ∷ ws) h v m r e =
     let p : (w * 65536 + u) / 65536 ≡ w = omega arith in
     let q : (w * 65536 + u) % 65536 ≡ u = omega arith in
-    got-subst (ImmediateSound Long n (w ∷ u ∷ ws)) e (immediate-fine Long (w * 65536 + u) (omega arith), rw (p, q), omega arith)
+    got-subst (ImmediateSound Long n (w ∷ u ∷ ws)) e (immediate-fine Long (w * 65536 + u) (omega arith), refl, rw (p, q), omega arith)
 
 immediate-alive : (s : Size) → Alive (immediateTree s)
 immediate-alive Byte = λ at. tt
@@ -114,7 +110,7 @@ extended-tree s base h = go (lt? base 8)
 -- ---- complete
 abbrev Complete : Size → ℕ → ℕ → List ℕ → Operand → Type 0
 Complete s a n r o =
-    run (operandTree s (eaField o)) a n (wordsIn (eaItems o s (wordAddress a n)) ++ r) ≡ got (plainOperand o) (n + countOf (eaItems o s (wordAddress a n))) r
+    run (operandTree s (eaField o)) a n (wordsIn (eaItems o s (wordAddress a n)) ++ r) ≡ got (plainOperand s o) (n + countOf (eaItems o s (wordAddress a n))) r
 
 -- along a tree and what it reads
 by-tree : (s : Size) (a n : ℕ) (r ws : List ℕ) (ea : ℕ) (t : Tree Operand) (o p : Operand) (m j : ℕ)
@@ -175,7 +171,7 @@ at-field : (s : Size) (a n : ℕ) (o : Operand) → failure true (eaItems o s (w
     → (r : List ℕ)
     → Complete s a n r o
 at-field s a n (Immediate v) e i t r =
-    bind-got (immediateTree s) (λ x. ret (Immediate x)) a n (wordsIn (immediateItems v s) ++ r) v (n + countOf (immediateItems v s)) r (immediate-complete s v e a n r)
+    bind-got (immediateTree s) (λ x. ret (Immediate x)) a n (wordsIn (immediateItems v s) ++ r) (remainderOf s v) (n + countOf (immediateItems v s)) r (immediate-complete s v a n r)
 at-field s a n (Register (Address k)) e i t r = alone s a n r 1 k (λ j. Register (Address j)) (fine-both (numberVerdict k) fine e .0) refl
 at-field s a n (Register (Data k)) e i t r = alone s a n r 0 k (λ j. Register (Data j)) (fine-both (numberVerdict k) fine e .0) refl
 at-field s a n (Indirect k) e i t r = alone s a n r 2 k Indirect (fine-both (numberVerdict k) fine e .0) refl
@@ -227,9 +223,9 @@ at-field s a n (Absolute v width.Long) e i t r =
 
 pub operand-complete : (s : Size) (a n ea : ℕ) (o : Operand) → Stands s (wordAddress a n) ea o
     → (r : List ℕ)
-    → run (operandTree s ea) a n (wordsIn (eaItems o s (wordAddress a n)) ++ r) ≡ got (plainOperand o) (n + countOf (eaItems o s (wordAddress a n))) r
+    → run (operandTree s ea) a n (wordsIn (eaItems o s (wordAddress a n)) ++ r) ≡ got (plainOperand s o) (n + countOf (eaItems o s (wordAddress a n))) r
 operand-complete s a n ea o h r =
-    subst (λ (k : ℕ). run (operandTree s k) a n (wordsIn (eaItems o s (wordAddress a n)) ++ r) ≡ got (plainOperand o) (n + countOf (eaItems o s (wordAddress a n))) r)
+    subst (λ (k : ℕ). run (operandTree s k) a n (wordsIn (eaItems o s (wordAddress a n)) ++ r) ≡ got (plainOperand s o) (n + countOf (eaItems o s (wordAddress a n))) r)
     (h .3) (at-field s a n o (h .0) (h .1) (h .2) r)
 
 -- ---- sound
@@ -239,7 +235,7 @@ word-fine f z h = both-fine (ranged true f z) fine (holds-range f z h) refl
 -- a register number alone
 alone-sound : (s : Size) (a n m k : ℕ) (ws : List ℕ) (o : Operand) → k < 8 → eaItems o s (wordAddress a n) ≡ register k ∷ [] → isTyped o ≡ true → InTypes o
     → eaField o ≡ m * 8 + k
-    → plainOperand o ≡ o
+    → plainOperand s o ≡ o
     → OperandSound s a n (m * 8 + k) ws o n ws
 alone-sound s a n m k ws o h p i t e q =
     sound-by s a n (m * 8 + k) ws o n ws (register k ∷ []) p (both-fine (numberVerdict k) fine (lt-number k h) refl) i t e q refl (omega arith)
@@ -317,7 +313,7 @@ special-sound s a n (suc (suc (suc (suc zero)))) ws h o m r e =
     bind-then (immediateTree s) (λ v. ret (Immediate v)) a n ws o m r e (λ v j s1 e1 f1.
     let d = immediate-sound s a n ws h v j s1 e1 in
     got-subst (OperandSound s a n 60 ws) f1
-    (sound-by s a n 60 ws (Immediate v) j s1 (immediateItems v s) refl (d .0) refl tt refl refl (d .1) (d .2)))
+    (sound-by s a n 60 ws (Immediate v) j s1 (immediateItems v s) refl (d .0) refl tt refl (ap Immediate (d .1)) (d .2) (d .3)))
 special-sound s a n (suc (suc (suc (suc (suc k))))) ws h o m r e = none-no e
 
 mode-sound : (s : Size) (a n j k : ℕ) → k < 8 → (ws : List ℕ) → Words ws → (o : Operand) (m : ℕ) (r : List ℕ)
@@ -344,7 +340,7 @@ mode-sound s a n (suc (suc (suc (suc (suc (suc (suc (suc j)))))))) k hk ws h o m
 pub operand-sound : (s : Size) (a n ea : ℕ) → ea < 64 → (ws : List ℕ) → Words ws → (o : Operand) (m : ℕ) (r : List ℕ)
     → run (operandTree s ea) a n ws ≡ got o m r
     → Stands s (wordAddress a n) ea o
-    × (plainOperand o ≡ o)
+    × (plainOperand s o ≡ o)
     × (ws ≡ wordsIn (eaItems o s (wordAddress a n)) ++ r)
     × (m ≡ n + countOf (eaItems o s (wordAddress a n)))
 operand-sound s a n ea l ws h o m r e =

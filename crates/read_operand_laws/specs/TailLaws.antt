@@ -142,14 +142,14 @@ following-append us vs ws r = append-assoc us (vs ++ ws) r ∙ ap (λ (l : List 
 
 pub tail-complete : (a : ℕ) (l : Layout) (f : Tail) → TailStands a l f
     → (r : List ℕ)
-    → run (tailTree l) a 1 (tailWords a l f ++ r) ≡ got (plainTail f) (1 + length (tailWords a l f)) r
+    → run (tailTree l) a 1 (tailWords a l f ++ r) ≡ got (plainTail (l .size) f) (1 + length (tailWords a l f)) r
 tail-complete a l f h r =
     let us = specifierWords (l .specifier) (f .value) in
     let xs = eaItems (f .source) (l .size) (sourceAt a l f) in
     let ys = eaItems (f .destination) (l .size) (destinationAt a l f) in
     let n : ℕ = 1 + length us in
-    let o = plainOperand (f .source) in
-    let d = plainOperand (f .destination) in
+    let o = plainOperand (l .size) (f .source) in
+    let d = plainOperand (l .size) (f .destination) in
     ap (run (tailTree l) a 1) (following-append us (wordsIn xs) (wordsIn ys) r)
     ∙ ap (λ (t : Tree Tail). run t a 1 (us ++ (wordsIn xs ++ (wordsIn ys ++ r)))) (guard-true (accepts l) (wholePart l) (h .0))
     ∙ bind-got (specifierTree (l .specifier)) (λ v. operandPart l v) a 1 (us ++ (wordsIn xs ++ (wordsIn ys ++ r))) (f .value) n (wordsIn xs ++ (wordsIn ys ++ r))
@@ -163,7 +163,7 @@ tail-complete a l f h r =
 abbrev pub FieldsSound : ℕ → Layout → List ℕ → Tail → ℕ → List ℕ → Type 0
 FieldsSound a l ws f m r =
     TailStands a l f
-    × (plainTail f ≡ f)
+    × (plainTail (l .size) f ≡ f)
     × (ws ≡ tailWords a l f ++ r)
     × (m ≡ 1 + length (tailWords a l f))
 
@@ -173,7 +173,7 @@ made-is v p q = rw (p, q)
 pub tail-sound : (a : ℕ) (l : Layout) (ws : List ℕ) → Words ws → (f : Tail) (m : ℕ) (r : List ℕ)
     → run (tailTree l) a 1 ws ≡ got f m r
     → TailStands a l f
-    × (plainTail f ≡ f)
+    × (plainTail (l .size) f ≡ f)
     × (ws ≡ tailWords a l f ++ r)
     × (m ≡ 1 + length (tailWords a l f))
 tail-sound a l ws h f m r e =

@@ -4,6 +4,7 @@ use mathlib.Core.Path.{_≡_}
 use mathlib.Core.Bool.{true}
 use mathlib.Core.List.{List, [], _∷_, _++_}
 use lib.ListN.{length}
+use Rattle.isa.specs.declared.Size.{Size}
 use Rattle.encode_spec.specs.Item.{wordsIn, countOf, wordAddress}
 use Rattle.encode_spec.specs.Ea.{eaItems}
 use Rattle.read_spec.specs.declared.Specifier.{Specifier}
@@ -65,5 +66,5 @@ tailWords a l f =
     specifierWords (l .specifier) (f .value)
     ++ (wordsIn (eaItems (f .source) (l .size) (sourceAt a l f)) ++ wordsIn (eaItems (f .destination) (l .size) (destinationAt a l f)))
 
-abbrev pub plainTail : Tail → Tail
-plainTail f = record { value = f .value; source = plainOperand (f .source); destination = plainOperand (f .destination) }
+abbrev pub plainTail : Size → Tail → Tail
+plainTail s f = record { value = f .value; source = plainOperand s (f .source); destination = plainOperand s (f .destination) }

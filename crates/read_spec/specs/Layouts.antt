@@ -7,8 +7,8 @@ use Rattle.isa.specs.declared.Size.{Size}
 use Rattle.isa.specs.declared.Size.the-variants.{Byte, Word, Long}
 use Rattle.isa.specs.declared.BitFieldOperation.{BitFieldOperation}
 use Rattle.isa.specs.declared.UnsizedOneOperation.{UnsizedOneOperation}
-use Rattle.isa.specs.declared.UnsizedOneOperation.the-variants.{PEA, NBCD, JSR, JMP, TAS, MOVEtoCCR, MOVEfromCCR, MOVEtoSR, MOVEfromSR}
-use Rattle.isa_spec.specs.Code.{isByte}
+use Rattle.isa.specs.declared.UnsizedOneOperation.the-variants.{PEA, NBCD}
+use Rattle.isa_spec.specs.Code.{unsizedSize, isByte}
 use Rattle.read_spec.specs.declared.Specifier.{Specifier}
 use Rattle.read_spec.specs.declared.Specifier.the-variants as specifier
 use Rattle.read_spec.specs.declared.Layout.{Layout}
@@ -49,17 +49,6 @@ moveLayout s x opmode ea = cond (eqb opmode 1) (moveaLayout s ea) (two specifier
 
 abbrev pub oneLayout : Size → ℕ → ℕ → Layout
 oneLayout s x ea = one specifier.Nothing s ea (cond (eqb x 5) (readableModes s) dataAlterableModes)
-
-abbrev pub unsizedSize : UnsizedOneOperation → Size
-unsizedSize PEA = Long
-unsizedSize NBCD = Byte
-unsizedSize JSR = Long
-unsizedSize JMP = Long
-unsizedSize TAS = Byte
-unsizedSize MOVEtoCCR = Word
-unsizedSize MOVEfromCCR = Word
-unsizedSize MOVEtoSR = Word
-unsizedSize MOVEfromSR = Word
 
 abbrev pub unsizedLayout : UnsizedOneOperation → ℕ → Layout
 unsizedLayout op ea = one specifier.Nothing (unsizedSize op) ea (unsizedModes op)

@@ -10,16 +10,18 @@ returns : tie.Need-returns
 unfolding holds
 returns c =
     rw (
-      toZ-ofZ {w = w64} {z = c .before .before .before .range .result .low} (search needs),
-      toZ-ofZ {w = w64} {z = c .before .before .before .range .result .high} (search needs),
+      toZ-ofZ {w = w64} {z = c .before .before .before .before .range .result .low} (search needs),
+      toZ-ofZ {w = w64} {z = c .before .before .before .before .range .result .high} (search needs),
     )
     (simp (
-      zero-bits _ (c .before .before .before .before .fits .value),
-      toZ-ofZ {w = w64} (c .before .before .before .before .fits .value),
+      zero-bits _ (c .before .before .before .before .before .fits .value),
+      toZ-ofZ {w = w64} (c .before .before .before .before .before .fits .value),
       c .number .ensures .0,
-      c .before .before .before .range .ensures .0,
-      c .before .before .before .range .ensures .1,
+      c .before .also-holds .ensures,
+      c .before .before .before .before .range .ensures .0,
+      c .before .before .before .before .range .ensures .1,
     ))
 
 pub holds-spec : {M : Type 1} → statement M
-holds-spec = tie.close (tie.spec (λ c κs. search needs) (λ c κs. search needs) returns)
+holds-spec =
+    tie.close (tie.spec (λ c κs. search needs) (λ c κs. search needs) (λ c κs. search needs) returns)

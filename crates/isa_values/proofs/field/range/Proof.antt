@@ -3,13 +3,13 @@ use Rattle.isa_values.proofs.field.range.Statement.{statement}
 use Rattle.isa_values.proofs.field.range.Tie as tie
 use mathlib.Core.Path.{refl}
 use Rattle.isa_spec.specs.Field.{ranges}
-use Rattle.isa_values.proofs.Laws.{low-read, top-read, as-listed}
+use Rattle.isa_values.proofs.Laws.{low-read, top-read, no-size}
 
 returns : tie.Need-returns
 unfolding ranges
 returns c =
     rw
-    (c .before .before .number .ensures .0, as-listed (c .before .before .before .args .field) _ (c .match .keys2))
+    (c .before .before .number .ensures .0, no-size (c .before .before .before .args .field) (c .match .keys2))
     (refl, refl)
 
 returns-2 : tie.Need-returns-2
