@@ -1,6 +1,8 @@
-//! The original's answer to a line of the numeric form.
+//! The original's answer to a line of the numeric form, with request N2.
 
-use crate::machine::encode::{encode, encode_bytes, size, EncodeError, Field};
+use crate::instructions::Instruction;
+use crate::machine::encode::{self as rust, EncodeError, Field};
+use crate::minus_one;
 use crate::numeric::{placed, Placed};
 
 include!(concat!(env!("OUT_DIR"), "/field_numbers.rs"));
@@ -27,7 +29,28 @@ const OUTSIDE: Refusal = Refusal {
     value: 0,
 };
 
+type Encode = fn(&Instruction, u32) -> Result<Vec<u16>, EncodeError>;
+
 pub fn answer(placed: &Placed) -> Answer {
+    answer_by(minus_one::encode, placed)
+}
+
+/// The original's own, without N2.
+pub fn rust_answer(placed: &Placed) -> Answer {
+    answer_by(rust::encode, placed)
+}
+
+/// Whether the original alone refuses the immediate, so that N2 changes the
+/// answer.
+pub fn of_n2(placed: &Placed) -> bool {
+    answer(placed).words != rust_answer(placed).words
+}
+
+pub fn line_of_n2(line: &[u8]) -> bool {
+    placed(line).is_some_and(|placed| of_n2(&placed))
+}
+
+fn answer_by(encode: Encode, placed: &Placed) -> Answer {
     if placed.outside {
         return Answer {
             words: Err(OUTSIDE),
@@ -36,7 +59,7 @@ pub fn answer(placed: &Placed) -> Answer {
     }
     Answer {
         words: encode(&placed.instruction, placed.address).map_err(refusal),
-        size: size(&placed.instruction).map_err(refusal),
+        size: rust::size(&placed.instruction).map_err(refusal),
     }
 }
 
@@ -45,7 +68,7 @@ pub fn encoded_bytes(placed: &Placed) -> Result<Vec<u8>, Refusal> {
     if placed.outside {
         return Err(OUTSIDE);
     }
-    encode_bytes(&placed.instruction, placed.address).map_err(refusal)
+    minus_one::encode_bytes(&placed.instruction, placed.address).map_err(refusal)
 }
 
 fn refusal(error: EncodeError) -> Refusal {
@@ -70,6 +93,15 @@ fn reason_number(reason: &str) -> u32 {
 
 /// The answer to a line, without LF.
 pub fn answer_line(line: &[u8]) -> String {
+    line_by(answer, line)
+}
+
+/// The same without N2.
+pub fn rust_answer_line(line: &[u8]) -> String {
+    line_by(rust_answer, line)
+}
+
+fn line_by(answer: fn(&Placed) -> Answer, line: &[u8]) -> String {
     match placed(line) {
         Some(placed) => answer(&placed).text(),
         None => NOT_IN_FORM.to_string(),

@@ -5,7 +5,7 @@ use std::process::{Command, Stdio};
 use std::thread;
 
 use crate::answer::lines;
-use crate::compare::Comparison;
+use crate::compare::{Comparison, Expected};
 
 /// The program takes up to 1 MiB of input a run.
 const MOST: usize = 1_000_000;
@@ -65,7 +65,7 @@ impl<'p, N, F: FnMut(&[u8], N, &[u8])> Batches<'p, N, F> {
 pub struct Lists<'p> {
     program: &'p str,
     list: Vec<u8>,
-    cases: Vec<(Vec<u8>, String)>,
+    cases: Vec<(Vec<u8>, Expected)>,
     comparison: Comparison,
 }
 
@@ -80,7 +80,7 @@ impl<'p> Lists<'p> {
     }
 
     /// A case as the list has it.
-    pub fn push(&mut self, asked: Vec<u8>, due: String) -> io::Result<()> {
+    pub fn push(&mut self, asked: Vec<u8>, due: Expected) -> io::Result<()> {
         if self.list.len() + asked.len() >= MOST {
             self.run()?;
         }
@@ -110,7 +110,8 @@ impl<'p> Lists<'p> {
         }
         for (at, (asked, due)) in self.cases.drain(..).enumerate() {
             let found = found.get(at).copied();
-            self.comparison.answer(&asked, due.as_bytes(), found);
+            self.comparison.of_n2 += due.of_n2 as usize;
+            self.comparison.answer(&asked, due.text.as_bytes(), found);
         }
         Ok(())
     }

@@ -6,9 +6,30 @@ const SHOWN: usize = 20;
 pub struct Comparison {
     pub compared: usize,
     pub different: usize,
+    /// Of those compared, the ones whose immediate the Rust alone refuses.
+    pub of_n2: usize,
+}
+
+/// The answer that is due.
+pub struct Expected {
+    pub text: String,
+    /// Whether the Rust alone refuses the immediate.
+    pub of_n2: bool,
+}
+
+impl Expected {
+    pub fn new(text: String, of_n2: bool) -> Expected {
+        Expected { text, of_n2 }
+    }
 }
 
 impl Comparison {
+    /// Compares what is due for one line.
+    pub fn expected(&mut self, asked: &[u8], expected: &Expected, found: &[u8]) {
+        self.of_n2 += expected.of_n2 as usize;
+        self.line(asked, expected.text.as_bytes(), found);
+    }
+
     /// Compares the answers to one line; `asked` is the line, if known.
     pub fn line(&mut self, asked: &[u8], expected: &[u8], found: &[u8]) {
         self.compared += 1;
@@ -49,6 +70,10 @@ impl Comparison {
 
     pub fn report(&self) {
         println!("{} compared, {} different", self.compared, self.different);
+    }
+
+    pub fn report_n2(&self) {
+        println!("N2: {} whose immediate the Rust alone refuses", self.of_n2);
     }
 }
 

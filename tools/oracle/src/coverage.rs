@@ -3,9 +3,10 @@
 use std::collections::{BTreeMap, BTreeSet};
 
 use crate::answer::{
-    answer, answer_line, field_number, lines, Answer, Refusal, NOT_IN_FORM, REASONS,
+    answer, answer_line, field_number, line_of_n2, lines, Answer, Refusal, NOT_IN_FORM, REASONS,
 };
 use crate::draft::{Draft, Kind};
+use crate::immediate_ends::ImmediateEnds;
 use crate::instructions::Size;
 use crate::kinds::KINDS;
 use crate::machine::encode::Field;
@@ -62,7 +63,9 @@ struct Coverage {
     /// The values of each field, accepted and refused.
     accepted: BTreeMap<u32, BTreeSet<i64>>,
     refused: BTreeMap<u32, BTreeSet<i64>>,
+    immediate_ends: ImmediateEnds,
     addresses: BTreeSet<u32>,
+    of_n2: usize,
 }
 
 impl Tally {
@@ -78,6 +81,7 @@ pub fn report(input: &[u8]) {
     let mut coverage = Coverage::default();
     for line in lines(input) {
         coverage.lines += 1;
+        coverage.of_n2 += line_of_n2(line) as usize;
         match answer_line(line) == NOT_IN_FORM {
             true => coverage.not_in_form += 1,
             false => coverage.line(std::str::from_utf8(line).expect("digits and tabs")),
@@ -89,6 +93,7 @@ pub fn report(input: &[u8]) {
     coverage.settings();
     coverage.reasons();
     coverage.fields();
+    coverage.immediate_ends.report();
 }
 
 fn answer_to(draft: &Draft) -> Option<Answer> {
@@ -102,6 +107,7 @@ impl Coverage {
         let answer = answer_to(&draft).expect("the line is in the form");
         let accepted = answer.words.is_ok();
         self.all.add(accepted);
+        self.immediate_ends.line(&draft, &answer);
         self.addresses.insert(draft.address);
         self.refused_by_size += answer.size.is_err() as usize;
         self.instructions
@@ -174,6 +180,7 @@ impl Coverage {
             "accepted {}, refused {}",
             self.all.accepted, self.all.refused
         );
+        println!("N2: {} whose immediate the Rust alone refuses", self.of_n2);
         println!("refused by `size` too {}", self.refused_by_size);
         println!("refusals of `encode` by number {:?}", self.numbers);
         let odd = self

@@ -11,13 +11,17 @@ mod draft;
 mod fill;
 mod generate;
 mod given;
+mod immediate_ends;
+mod immediates;
 mod instructions;
 mod kinds;
 mod list;
 mod machine;
 mod malformed;
 mod manual;
+mod minus_one;
 mod numeric;
+mod operands;
 mod random;
 mod reading;
 mod replay;
@@ -34,7 +38,8 @@ use std::process::ExitCode;
 use std::{env, fs};
 
 const USAGE: &str =
-    "oracle generate SEED COUNT | list SEED COUNT | answer | compare A B | coverage | manual
+    "oracle generate SEED COUNT | list SEED COUNT | answer | answer-rust | compare A B [LINES]
+       | coverage | manual
        | replay PROGRAM SEED COUNT | places | reasons
        | read-answer | read-list SEED | read-replay PROGRAM SEED TAILS | read-back PROGRAM SEED COUNT
        | read-decode PROGRAM SEED TAILS | read-objdump PROGRAM SEED TAILS
@@ -63,7 +68,9 @@ fn run(arguments: &[&str]) -> Result<usize, Box<dyn Error>> {
         ["generate", seed, count] => generate(seed.parse()?, count.parse()?)?,
         ["list", seed, count] => list::write(seed.parse()?, count.parse()?, &mut output())?,
         ["answer"] => answer(answer::answer_line)?,
-        ["compare", first, second] => return compare(first, second),
+        ["answer-rust"] => answer(answer::rust_answer_line)?,
+        ["compare", first, second] => return compare(first, second, None),
+        ["compare", first, second, asked] => return compare(first, second, Some(asked)),
         ["coverage"] => coverage::report(&input()?),
         ["manual"] => return Ok(manual::check()),
         [command, program, seed, count] => {
@@ -109,6 +116,7 @@ fn against(command: &str, program: &str, seed: u64, count: usize) -> Result<usiz
 
 fn different(comparison: compare::Comparison) -> Result<usize, Box<dyn Error>> {
     comparison.report();
+    comparison.report_n2();
     Ok(comparison.different)
 }
 
@@ -143,10 +151,20 @@ fn answer(answer_line: fn(&[u8]) -> String) -> io::Result<()> {
     output.flush()
 }
 
-fn compare(first: &str, second: &str) -> Result<usize, Box<dyn Error>> {
+/// Compares two files of answers; `asked` has their lines, if known.
+fn compare(first: &str, second: &str, asked: Option<&str>) -> Result<usize, Box<dyn Error>> {
     let (first, second) = (fs::read(first)?, fs::read(second)?);
+    let (first, second) = (answer::lines(&first), answer::lines(&second));
     let mut comparison = compare::Comparison::default();
-    comparison.lists(&[], &answer::lines(&first), &answer::lines(&second));
+    let Some(asked) = asked else {
+        comparison.lists(&[], &first, &second);
+        comparison.report();
+        return Ok(comparison.different);
+    };
+    let asked = fs::read(asked)?;
+    let asked = answer::lines(&asked);
+    comparison.lists(&asked, &first, &second);
+    comparison.of_n2 = asked.iter().filter(|line| answer::line_of_n2(line)).count();
     different(comparison)
 }
 

@@ -2,7 +2,7 @@
 
 use crate::random::Random;
 
-const LINES: [&[u8]; 68] = [
+const LINES: [&[u8]; 73] = [
     b"",
     b" ",
     b"\t",
@@ -69,6 +69,12 @@ const LINES: [&[u8]; 68] = [
     b"0\t13\t-1\t1\t1\t0\t2",
     b"0\t58\t65536",
     b"0\t58\t-1",
+    // a byte or word that no Immediate is: MOVEQ, ADDQ, STOP, ORItoCCR, TRAPcc
+    b"0\t11\t4294967295\t1\t0",
+    b"0\t10\t4294967295\t1\t1\t0\t1",
+    b"0\t58\t4294967295",
+    b"0\t69\t4294967295",
+    b"0\t89\t7\t1\t4294967295",
     b"0\t35\t0\t16\t1",
     b"0\t35\t0\t7\t3",
     // MOVEUSP, MULL: a bool and an `Option`

@@ -38,41 +38,52 @@ fn read(text: &'static str) -> Vec<Example> {
 
 /// Checks every example; gives how many differ.
 pub fn check() -> usize {
-    differing("encodings", &examples(), answer::answer_line)
-        + differing("readings", &readings(), reading::answer::answer_line)
+    let encoding = |line: &[u8]| (answer::answer_line(line), answer::line_of_n2(line));
+    let reading = |line: &[u8]| (reading::answer::answer_line(line), false);
+    differing("encodings", &examples(), encoding)
+        + differing("readings", &readings(), reading)
         + sheet::manual::check()
         + srecord::manual::check()
 }
 
-fn differing(what: &str, examples: &[Example], answer_line: fn(&[u8]) -> String) -> usize {
-    let outcomes = examples.iter().map(|example| Outcome {
-        text: example.text,
-        by_hand: example.answer.to_string(),
-        answer: answer_line(example.line.as_bytes()),
+fn differing(what: &str, examples: &[Example], judge: fn(&[u8]) -> (String, bool)) -> usize {
+    let outcomes = examples.iter().map(|example| {
+        let (answer, of_n2) = judge(example.line.as_bytes());
+        Outcome {
+            text: example.text,
+            by_hand: example.answer.to_string(),
+            answer,
+            of_n2,
+        }
     });
-    count_different(what, "the Rust", outcomes)
+    count_different(what, outcomes)
 }
 
 pub struct Outcome {
     pub text: &'static str,
     pub by_hand: String,
     pub answer: String,
+    /// Whether the Rust alone refuses the immediate.
+    pub of_n2: bool,
 }
 
 /// Prints the outcomes that differ, and how many.
-pub fn count_different(what: &str, judge: &str, outcomes: impl Iterator<Item = Outcome>) -> usize {
-    let (mut all, mut different) = (0, 0);
+pub fn count_different(what: &str, outcomes: impl Iterator<Item = Outcome>) -> usize {
+    let (mut all, mut different, mut of_n2) = (0, 0, 0);
     for outcome in outcomes {
         all += 1;
+        of_n2 += outcome.of_n2 as usize;
         if outcome.answer != outcome.by_hand {
             different += 1;
             println!(
-                "{}: by hand {:?}, by {judge} {:?}",
+                "{}: by hand {:?}, by the judge {:?}",
                 outcome.text, outcome.by_hand, outcome.answer
             );
         }
     }
-    println!("{all} {what}, {different} different");
+    println!(
+        "{all} {what}, {different} different; N2: {of_n2} whose immediate the Rust alone refuses"
+    );
     different
 }
 

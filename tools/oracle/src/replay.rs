@@ -2,9 +2,9 @@
 
 use std::io;
 
-use crate::answer::answer_line;
+use crate::answer::{answer_line, line_of_n2};
 use crate::batch::Batches;
-use crate::compare::Comparison;
+use crate::compare::{Comparison, Expected};
 use crate::generate;
 use crate::malformed::{lines as malformed, raw_lines, spoiled};
 use crate::random::Random;
@@ -12,23 +12,37 @@ use crate::random::Random;
 /// One line in so many is spoiled.
 const SPOILED: u64 = 50;
 
-/// Compares `count` generated lines of `seed`, some of them spoiled, after the
-/// lines that are not in the form.
 pub fn replay(program: &str, seed: u64, count: usize) -> io::Result<Comparison> {
+    let expected = |line: &[u8]| Expected::new(answer_line(line), line_of_n2(line));
+    replay_as(program, seed, count, b"", |line, _| line, expected)
+}
+
+/// Compares `count` generated lines of `seed`, as `given` has them and some of
+/// them spoiled, after the lines that are not in the form, behind `before`.
+pub fn replay_as(
+    program: &str,
+    seed: u64,
+    count: usize,
+    before: &[u8],
+    given: impl Fn(String, &mut Random) -> String,
+    expected: impl Fn(&[u8]) -> Expected,
+) -> io::Result<Comparison> {
     let mut comparison = Comparison::default();
-    let mut batches = Batches::new(program, |asked: &[u8], expected: String, found: &[u8]| {
-        comparison.line(asked, expected.as_bytes(), found)
+    let mut batches = Batches::new(program, |asked: &[u8], due: Expected, found: &[u8]| {
+        comparison.expected(asked, &due, found)
     });
     for line in malformed().chain(raw_lines()) {
-        batches.push(line, answer_line(line))?;
+        let line = [before, line].concat();
+        batches.push(&line, expected(&line))?;
     }
     let mut random = Random::new(seed);
     for line in generate::lines(seed).take(count) {
+        let line = given(line, &mut random);
         let line = match random.below(SPOILED) {
             0 => spoiled(&line, &mut random),
             _ => line.into_bytes(),
         };
-        batches.push(&line, answer_line(&line))?;
+        batches.push(&line, expected(&line))?;
     }
     batches.finish()?;
     Ok(comparison)

@@ -4,6 +4,7 @@
 use crate::answer::{answer, Answer};
 use crate::draft::{Draft, Kind};
 use crate::fill::{accepted, draft};
+use crate::immediates::{immediates, ENDS};
 use crate::instructions::{DisplacementSize, ExtensionWord};
 use crate::kinds::{kind_of, KINDS};
 use crate::numeric::placed;
@@ -20,8 +21,8 @@ const SHARE: u64 = 40;
 const EVERYWHERE: [&str; 2] = ["BRA", "LEA"];
 
 /// Places in `KINDS`.
-const IMMEDIATE: usize = 0;
-const DATA: usize = 2;
+pub const IMMEDIATE: usize = 0;
+pub const DATA: usize = 2;
 const INDIRECT: usize = 3;
 const FULL: usize = 13;
 
@@ -59,6 +60,7 @@ pub fn drafts(seed: u64) -> Vec<Draft> {
     made.index_crossings();
     made.movep_crossings();
     made.bit_fields();
+    made.immediate_ends();
     made.drafts
 }
 
@@ -78,7 +80,7 @@ pub fn operands(place: usize) -> Vec<usize> {
         .collect()
 }
 
-fn size_field(place: usize) -> Option<usize> {
+pub fn size_field(place: usize) -> Option<usize> {
     instructions()[place]
         .fields
         .iter()
@@ -484,6 +486,15 @@ impl Systematic {
                 base.fields[3][0].value = [0, 7, 3, 8, 5][(turn + 3 * other) % 5];
                 self.push(&base);
             }
+        }
+    }
+
+    /// The ends of Byte and Word and one past each, in every Immediate at every
+    /// size, and where a bit number or a count stands.
+    fn immediate_ends(&mut self) {
+        for immediate in immediates(&mut self.random) {
+            let drafts = ENDS.map(|number| immediate.with(number));
+            self.drafts.extend(drafts);
         }
     }
 }

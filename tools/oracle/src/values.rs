@@ -41,7 +41,7 @@ const WORDS: [i128; 14] = [
     0xF000,
 ];
 
-const LONGS: [i128; 18] = [
+const LONGS: [i128; 20] = [
     0,
     1,
     7,
@@ -59,6 +59,8 @@ const LONGS: [i128; 18] = [
     0x8000_0000,
     0xFFFF_7FFF,
     0xFFFF_8000,
+    0xFFFF_FF7F,
+    0xFFFF_FF80,
     0xFFFF_FFFF,
 ];
 
@@ -185,7 +187,8 @@ fn plain_long(address: u32, random: &mut Random) -> i128 {
         7..=10 => near + random.between(-32760, 32760),
         11..=13 => random.between(0, 0xFF),
         14..=16 => random.between(0, 0xFFFF),
-        17..=18 => random.between(-32768, 32767),
+        17 => random.between(-32768, 32767),
+        18 => random.between(-128, -1),
         _ => random.next() as i128,
     };
     Number::U32.wrap(value)

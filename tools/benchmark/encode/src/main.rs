@@ -10,9 +10,13 @@ mod export;
 mod instructions;
 #[path = "../../../oracle/src/machine.rs"]
 mod machine;
+#[path = "../../../oracle/src/minus_one.rs"]
+mod minus_one;
 #[allow(dead_code)]
 #[path = "../../../oracle/src/numeric.rs"]
 mod numeric;
+#[path = "../../../oracle/src/operands.rs"]
+mod operands;
 
 use std::hint::black_box;
 use std::process::ExitCode;
@@ -66,8 +70,9 @@ fn lines(list: &[u8]) -> Vec<Line> {
     lines.filter_map(Line::of_text).collect()
 }
 
-/// The lines that are accepted, where both encoders answer every line alike,
-/// also in a second call at another address; else the number of differences.
+/// The lines that both accept, where both encoders answer every line alike but
+/// for N2, also in a second call at another address; else the number of
+/// differences.
 fn compared(list: &[u8], lines: Vec<Line>) -> Result<Vec<Line>, usize> {
     let differ = |line: &Line| {
         let other = line.placed.address.wrapping_add(2);
@@ -76,7 +81,7 @@ fn compared(list: &[u8], lines: Vec<Line>) -> Result<Vec<Line>, usize> {
         once(line) != theirs || pair.first != theirs || pair.second != also
     };
     let different = lines.iter().filter(|line| differ(line)).count();
-    let accepted = |line: &Line| once(line).number == 0;
+    let accepted = |line: &Line| once(line).number == 0 && !answer::of_n2(&line.placed);
     let count = lines.iter().filter(|line| accepted(line)).count();
     println!(
         "{} lines, {} in the form, each compared at two addresses, {different} different; {count} accepted",
@@ -89,7 +94,7 @@ fn compared(list: &[u8], lines: Vec<Line>) -> Result<Vec<Line>, usize> {
     Ok(lines.into_iter().filter(accepted).collect())
 }
 
-/// What the original answers, in the places of an exported answer.
+/// What the original answers, with N2, in the places of an exported answer.
 fn original_answer(line: &Line, address: u32) -> Answer {
     let placed = numeric::Placed {
         address,

@@ -1,7 +1,7 @@
 //! The answer to a line: how many bytes are lent, then a line of the numeric
 //! form.
 
-use crate::answer::{encoded_bytes, Refusal, NOT_IN_FORM};
+use crate::answer::{encoded_bytes, of_n2, Refusal, NOT_IN_FORM};
 use crate::numeric::{digits, placed, Placed};
 
 /// The most bytes that a line lends.
@@ -23,6 +23,11 @@ pub fn answer_line(line: &[u8]) -> String {
         Some((lent, placed)) => answer(lent, &placed),
         None => NOT_IN_FORM.to_string(),
     }
+}
+
+/// Whether the original alone refuses the immediate.
+pub fn line_of_n2(line: &[u8]) -> bool {
+    called(line).is_some_and(|(_, placed)| of_n2(&placed))
 }
 
 fn called(line: &[u8]) -> Option<(usize, Placed)> {

@@ -1,21 +1,22 @@
 //! The stored list: every count of words with bytes just enough, more and
-//! fewer, refusals with bytes lent, and lines that are not in the form.
+//! fewer, numbers of N2 likewise, refusals with bytes lent, and lines that are
+//! not in the form.
 
-use std::collections::HashMap;
+use std::collections::{BTreeMap, HashMap};
 use std::io::{self, Write};
 
 use super::answer::{answer_line, MOST};
-use crate::answer::{encoded_bytes, NOT_IN_FORM};
+use crate::answer::{encoded_bytes, of_n2, NOT_IN_FORM};
 use crate::numeric::placed;
 use crate::{generate, malformed};
 
 /// How many generated lines are looked through.
 const LOOKED: usize = 60_000;
 
-/// Accepted lines of each size, and refused ones of each number.
+/// Lines of each group.
 const EACH: usize = 20;
 
-/// Of one instruction among those of a size or a number.
+/// Of one instruction among those of a group.
 const ALIKE: usize = 3;
 
 /// What no call lends.
@@ -47,24 +48,19 @@ pub fn lengths(size: u64) -> Vec<u64> {
     lengths
 }
 
+/// What tells lines apart: the number of a refusal, the size, and whether the
+/// original alone refuses the immediate.
+#[derive(PartialEq, Eq, PartialOrd, Ord)]
+enum Group {
+    Refused(u32),
+    Accepted(usize),
+    OfN2,
+}
+
 pub fn write(seed: u64, output: &mut impl Write) -> io::Result<()> {
-    let mut found: HashMap<(bool, u64), Vec<String>> = HashMap::new();
-    for line in generate::lines(seed).take(LOOKED) {
-        let key = match encoded_bytes(&placed(line.as_bytes()).expect("in the form")) {
-            Ok(bytes) => (true, bytes.len() as u64),
-            Err(refusal) => (false, refusal.number as u64),
-        };
-        found.entry(key).or_default().push(line);
-    }
-    let mut keys: Vec<_> = found.keys().copied().collect();
-    keys.sort();
-    for key @ (accepted, number) in keys {
-        let lengths = match accepted {
-            true => lengths(number),
-            false => vec![0, 1, 2, 10, 22, MOST],
-        };
-        for line in chosen(&found[&key]) {
-            for length in &lengths {
+    for lines in groups(seed).values() {
+        for line in chosen(lines) {
+            for length in lent(line) {
                 writeln!(output, "{length}\t{line}")?;
             }
         }
@@ -72,6 +68,28 @@ pub fn write(seed: u64, output: &mut impl Write) -> io::Result<()> {
     outside(output)?;
     output.write_all(LAST.as_bytes())?;
     output.flush()
+}
+
+fn groups(seed: u64) -> BTreeMap<Group, Vec<String>> {
+    let mut found: BTreeMap<Group, Vec<String>> = BTreeMap::new();
+    for line in generate::lines(seed).take(LOOKED) {
+        let placed = placed(line.as_bytes()).expect("in the form");
+        let group = match encoded_bytes(&placed) {
+            Err(refusal) => Group::Refused(refusal.number),
+            Ok(_) if of_n2(&placed) => Group::OfN2,
+            Ok(bytes) => Group::Accepted(bytes.len()),
+        };
+        found.entry(group).or_default().push(line);
+    }
+    found
+}
+
+/// The lengths that are lent for a line.
+fn lent(line: &str) -> Vec<u64> {
+    match encoded_bytes(&placed(line.as_bytes()).expect("in the form")) {
+        Ok(bytes) => lengths(bytes.len() as u64),
+        Err(_) => vec![0, 1, 2, 10, 22, MOST],
+    }
 }
 
 /// `EACH` of the lines, far apart: of one instruction few, unless no others

@@ -2,41 +2,18 @@
 
 use std::io;
 
-use super::answer::{answer_line, MOST};
+use super::answer::{answer_line, line_of_n2, MOST};
 use super::list::lengths;
 use crate::answer::encoded_bytes;
-use crate::batch::Batches;
-use crate::compare::Comparison;
-use crate::generate;
-use crate::malformed::{lines as malformed, raw_lines, spoiled};
+use crate::compare::{Comparison, Expected};
 use crate::numeric::placed;
 use crate::random::Random;
+use crate::replay::replay_as;
 
-/// One line in so many is spoiled.
-const SPOILED: u64 = 50;
-
-/// Compares `count` generated lines of `seed`, some of them spoiled, after the
-/// lines that are not in the form.
 pub fn replay(program: &str, seed: u64, count: usize) -> io::Result<Comparison> {
-    let mut comparison = Comparison::default();
-    let mut batches = Batches::new(program, |asked: &[u8], expected: String, found: &[u8]| {
-        comparison.line(asked, expected.as_bytes(), found)
-    });
-    for line in malformed().chain(raw_lines()) {
-        let line = [b"32\t", line].concat();
-        batches.push(&line, answer_line(&line))?;
-    }
-    let mut random = Random::new(seed);
-    for line in generate::lines(seed).take(count) {
-        let line = format!("{}\t{line}", lent(&line, &mut random));
-        let line = match random.below(SPOILED) {
-            0 => spoiled(&line, &mut random),
-            _ => line.into_bytes(),
-        };
-        batches.push(&line, answer_line(&line))?;
-    }
-    batches.finish()?;
-    Ok(comparison)
+    let given = |line: String, random: &mut Random| format!("{}\t{line}", lent(&line, random));
+    let expected = |line: &[u8]| Expected::new(answer_line(line), line_of_n2(line));
+    replay_as(program, seed, count, b"32\t", given, expected)
 }
 
 /// A length around the size of an accepted line in two cases of three, else

@@ -8,9 +8,9 @@ use super::judge::Reading;
 use super::plain::plain;
 use super::run::Run;
 use super::tails::mixed;
-use crate::answer::answer;
+use crate::answer::{answer, of_n2};
 use crate::batch::Batches;
-use crate::compare::Comparison;
+use crate::compare::{Comparison, Expected};
 use crate::generate;
 use crate::instructions::{BranchSize, Instruction};
 use crate::numeric::placed;
@@ -24,11 +24,13 @@ pub struct Due {
     pub run: Run,
     pub instruction: Instruction,
     pub bytes: usize,
+    pub of_n2: bool,
 }
 
 impl Due {
-    pub fn answer(&self) -> String {
-        text(Reading::Read(self.instruction, self.bytes))
+    fn expected(&self) -> Expected {
+        let text = text(Reading::Read(self.instruction, self.bytes));
+        Expected::new(text, self.of_n2)
     }
 }
 
@@ -51,6 +53,7 @@ pub fn due(line: &str, random: &mut Random) -> Option<Due> {
         },
         instruction: plain(placed.instruction),
         bytes: bytes as usize,
+        of_n2: of_n2(&placed),
     })
 }
 
@@ -68,13 +71,13 @@ fn left_out(instruction: &Instruction, address: u32) -> bool {
 /// Compares the accepted ones of `count` generated lines.
 pub fn replay(program: &str, seed: u64, count: usize) -> io::Result<Comparison> {
     let mut comparison = Comparison::default();
-    let mut batches = Batches::new(program, |asked: &[u8], expected: String, found: &[u8]| {
-        comparison.line(asked, expected.as_bytes(), found)
+    let mut batches = Batches::new(program, |asked: &[u8], due: Expected, found: &[u8]| {
+        comparison.expected(asked, &due, found)
     });
     let mut random = Random::new(seed);
     for line in generate::lines(seed).take(count) {
         if let Some(due) = due(&line, &mut random) {
-            batches.push(due.run.line().as_bytes(), due.answer())?;
+            batches.push(due.run.line().as_bytes(), due.expected())?;
         }
     }
     batches.finish()?;

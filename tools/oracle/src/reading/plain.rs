@@ -1,11 +1,17 @@
 //! Plain form, and which instructions refusal 1 turns back.
 
 use crate::instructions::*;
-
-include!(concat!(env!("OUT_DIR"), "/operands.rs"));
+use crate::operands::{with_immediates, with_operands};
 
 /// `instruction`, which `encode` accepts, in plain form.
 pub fn plain(instruction: Instruction) -> Instruction {
+    let divisor = match immediate_size(&instruction) {
+        Some(Size::Byte) => 256,
+        Some(Size::Word) => 65_536,
+        Some(Size::Long) | None => 1 << 32,
+    };
+    let mut remainder = |number: u32| (number as u64 % divisor) as u32;
+    let instruction = with_immediates(instruction, &mut remainder);
     match with_operands(instruction, &mut plain_operand) {
         Instruction::MOVEC {
             to_control,
@@ -17,6 +23,24 @@ pub fn plain(instruction: Instruction) -> Instruction {
             register,
         },
         other => other,
+    }
+}
+
+/// The size of the Immediate that an instruction can have, by the manual; none
+/// where a number there is a bit number or a count.
+fn immediate_size(instruction: &Instruction) -> Option<Size> {
+    use Instruction::*;
+    match *instruction {
+        ORI(.., size) | ANDI(.., size) | SUBI(.., size) => Some(size),
+        ADDI(.., size) | EORI(.., size) | CMPI(.., size) => Some(size),
+        MOVE(.., size) | MOVEA(.., size) | TST(.., size) => Some(size),
+        OR(.., size) | AND(.., size) | CMP(.., size) => Some(size),
+        ADD(.., size) | SUB(.., size) => Some(size),
+        ADDA(.., size) | SUBA(.., size) | CMPA(.., size) => Some(size),
+        MOVEtoCCR(_) | MOVEtoSR(_) | CHK(..) | MULx(..) | DIVx(..) => Some(Size::Word),
+        CHKL(..) | MULL { .. } | DIVL { .. } => Some(Size::Long),
+        BTST(Operand::Register(_), _) => Some(Size::Byte),
+        _ => None,
     }
 }
 

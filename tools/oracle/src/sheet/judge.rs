@@ -2,8 +2,8 @@
 
 use super::line::Line;
 use super::record::Record;
-use crate::answer::{answer, Refusal};
-use crate::numeric::digits;
+use crate::answer::{answer, rust_answer, Answer, Refusal};
+use crate::numeric::{digits, Placed};
 
 const MOST_BYTES: usize = 65_536;
 const MOST_LINES: usize = 4_096;
@@ -29,6 +29,15 @@ struct Measured<'t> {
 }
 
 pub fn judge(record: &Record) -> Result<Vec<Listed>, Refused> {
+    judge_by(answer, record)
+}
+
+/// Whether the answer meets a line whose immediate the original alone refuses.
+pub fn of_n2(record: &Record) -> bool {
+    judge(record) != judge_by(rust_answer, record)
+}
+
+fn judge_by(answer: fn(&Placed) -> Answer, record: &Record) -> Result<Vec<Listed>, Refused> {
     let texts = texts(&record.text)?;
     let start = start(texts[0])?;
     let texts = &texts[1..];
@@ -37,7 +46,7 @@ pub fn judge(record: &Record) -> Result<Vec<Listed>, Refused> {
     let bytes: u64 = lines.iter().map(|line| line.size).sum();
     unless(start as u64 + bytes <= 1 << 32, 9)?;
     unless(bytes / 2 <= record.room as u64, 11)?;
-    listed(start, &lines)
+    listed(answer, start, &lines)
 }
 
 fn plain(number: u32) -> Refusal {
@@ -100,7 +109,11 @@ fn measured_line(text: &[u8], count: usize) -> Result<Measured<'_>, Refusal> {
 }
 
 /// Each line in turn, as `encode` accepts or refuses it at its address.
-fn listed(start: u32, lines: &[Measured]) -> Result<Vec<Listed>, Refused> {
+fn listed(
+    answer: fn(&Placed) -> Answer,
+    start: u32,
+    lines: &[Measured],
+) -> Result<Vec<Listed>, Refused> {
     let addresses = addresses(start, lines);
     let named = |name: usize| addresses[name - 1];
     let mut listing = Vec::new();

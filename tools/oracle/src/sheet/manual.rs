@@ -1,6 +1,7 @@
 //! Worked sheets written down by hand, and those of the guide.
 
 use super::answer::answer;
+use super::judge::of_n2;
 use super::record::Record;
 use crate::manual::{count_different, parted, spelled_out, Outcome};
 
@@ -46,7 +47,8 @@ pub fn check() -> usize {
     let outcomes = outcomes.map(|example| Outcome {
         text: example.what,
         answer: answer(&example.record),
+        of_n2: of_n2(&example.record),
         by_hand: example.answer,
     });
-    count_different("sheets", "the judge", outcomes)
+    count_different("sheets", outcomes)
 }

@@ -4,10 +4,11 @@ use std::io;
 
 use super::answer::answer;
 use super::generate::record;
+use super::judge::of_n2;
 use super::manual;
 use super::record::Record;
 use crate::batch::Lists;
-use crate::compare::Comparison;
+use crate::compare::{Comparison, Expected};
 use crate::random::Random;
 
 /// Compares `count` random sheets of `seed`, after the worked ones.
@@ -26,5 +27,5 @@ pub fn replay(program: &str, seed: u64, count: usize) -> io::Result<Comparison> 
 fn push(lists: &mut Lists, record: &Record) -> io::Result<()> {
     let mut asked = Vec::new();
     record.write(&mut asked)?;
-    lists.push(asked, answer(record))
+    lists.push(asked, Expected::new(answer(record), of_n2(record)))
 }

@@ -10,7 +10,7 @@ use crate::systematic::faulty;
 const BYTES: &[u8] = b"0123456789\t\t\t\n\n@@--+ \rxDWSLe\0\xFF";
 
 /// What is put in the place of a field.
-const FIELDS: [&str; 40] = [
+const FIELDS: [&str; 44] = [
     "",
     "0",
     "1",
@@ -29,6 +29,10 @@ const FIELDS: [&str; 40] = [
     "2147483648",
     "-2147483648",
     "-2147483649",
+    "4294934527",
+    "4294934528",
+    "4294967167",
+    "4294967168",
     "4294967295",
     "4294967296",
     "18446744073709551615",

@@ -37,6 +37,7 @@ pub fn check() -> usize {
         text: example.what,
         answer: answer(&example.case).unwrap_or(NOT_IN_FORM.to_string()),
         by_hand: example.answer,
+        of_n2: false,
     });
-    count_different("texts of S-records", "the judge", outcomes)
+    count_different("texts of S-records", outcomes)
 }

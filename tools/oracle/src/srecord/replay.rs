@@ -7,7 +7,7 @@ use super::case::Case;
 use super::generate::case;
 use super::{manual, outside};
 use crate::batch::Lists;
-use crate::compare::Comparison;
+use crate::compare::{Comparison, Expected};
 use crate::random::Random;
 
 /// Compares lists that are not in the form, the worked cases, and `count`
@@ -52,5 +52,5 @@ fn push(lists: &mut Lists, case: &Case) -> io::Result<()> {
     let mut asked = Vec::new();
     case.write(&mut asked)?;
     let due = answer(case).unwrap_or(NOT_IN_FORM.to_string());
-    lists.push(asked, due)
+    lists.push(asked, Expected::new(due, false))
 }

@@ -3,7 +3,7 @@
 use super::super::record::Record;
 use super::second;
 
-const LINES: [&[u8]; 74] = [
+const LINES: [&[u8]; 79] = [
     b"",
     b"\t",
     b" ",
@@ -49,6 +49,7 @@ const LINES: [&[u8]; 74] = [
     b"MOVEQ\t5:\tData\t0",
     b"MOVEQ\t-5\tData\t0",
     b"MOVEQ\t261\tData\t0",
+    b"MOVEQ\t4294967295\tData\t0",
     b"MOVEQ\t4294967301\tData\t0",
     b"MOVEQ\t18446744073709551621\tData\t0",
     b"MOVEQ\t5\tData\t00",
@@ -77,6 +78,10 @@ const LINES: [&[u8]; 74] = [
     b"MULL\tRegister\tData\t1\t2\tSome\t256\tSigned",
     b"TRAPcc\tTrue\tNone\t0",
     b"TRAPcc\tTrue\tWord",
+    b"TRAPcc\tTrue\tWord\t4294967295",
+    b"ADDQ\t4294967295\tRegister\tData\t0\tByte",
+    b"STOP\t4294967295",
+    b"ORItoCCR\t4294967295",
     b"CAS2\t0\t1\t2\t3\tAddress\t0\tWord",
 ];
 

@@ -4,6 +4,7 @@ pub mod ends;
 pub mod instructions;
 pub mod large;
 pub mod lines;
+pub mod minus_one;
 pub mod order;
 pub mod reach;
 pub mod shown;
