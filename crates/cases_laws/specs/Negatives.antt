@@ -30,13 +30,13 @@ shifted v = Shift LSd (Immediate v) (Register (Data 0)) Left Word
 abbrev checked : UnsizedRegisterOperation → ℕ → Instruction
 checked op v = UnsizedIntoRegister op (Immediate v) (Data 0)
 
-remainders : (plain (addi 4294967295 Byte) ≡ addi 255 Byte) × (plain (move 4294934528 Word) ≡ move 32768 Word) × (plain (tested 4294967168) ≡ tested 128)
+changed : (plain (addi 4294967295 Byte) ≡ addi 255 Byte) × (plain (move 4294934528 Word) ≡ move 32768 Word) × (plain (tested 4294967168) ≡ tested 128)
     × (plain (checked CHK 4294967295) ≡ checked CHK 65535)
-remainders = (refl, refl, refl, refl)
+changed = (refl, refl, refl, refl)
 
-kept : (plain (addi 4294967295 Long) ≡ addi 4294967295 Long) × (plain (checked CHKL 4294967295) ≡ checked CHKL 4294967295) × (plain (numbered 4294967295) ≡ numbered 4294967295)
+kept : (plain (addi 256 Byte) ≡ addi 256 Byte) × (plain (addi 4294967295 Long) ≡ addi 4294967295 Long) × (plain (checked CHKL 4294967295) ≡ checked CHKL 4294967295) × (plain (numbered 4294967295) ≡ numbered 4294967295)
     × (plain (shifted 4294967295) ≡ shifted 4294967295)
-kept = (refl, refl, refl, refl)
+kept = (refl, refl, refl, refl, refl)
 
 readings : (at : ℕ) → (readOf (0x0600 ∷ 0x00FF ∷ []) at ≡ Read (addi 255 Byte) 4) × (readOf (0x303C ∷ 0x8000 ∷ []) at ≡ Read (move 32768 Word) 4)
 unfolding readOf groupAt map

@@ -45,15 +45,15 @@ unfolding outcomeAt sizedOf made lineOf builtOf takeInstruction takeUnsigned reg
 refusals = (refl, refl, refl, refl, refl)
 
 -- -1 as a byte and -32768 as a word (02, N2), and the same firing with their remainders
-abbrev negatives : List ℕ
-negatives = bytes "START\t4096\nADDI\t4294967295\tRegister\tData\t0\tByte\nMOVE\tImmediate\t4294934528\tRegister\tData\t0\tWord\n"
+abbrev belowZero : List ℕ
+belowZero = bytes "START\t4096\nADDI\t4294967295\tRegister\tData\t0\tByte\nMOVE\tImmediate\t4294934528\tRegister\tData\t0\tWord\n"
 
-abbrev remainders : List ℕ
-remainders = bytes "START\t4096\nADDI\t255\tRegister\tData\t0\tByte\nMOVE\tImmediate\t32768\tRegister\tData\t0\tWord\n"
+abbrev asRemainders : List ℕ
+asRemainders = bytes "START\t4096\nADDI\t255\tRegister\tData\t0\tByte\nMOVE\tImmediate\t32768\tRegister\tData\t0\tWord\n"
 
-negative : (outcomeOf negatives 4096 16384 ≡ inOrder)
-    × (image (sheetIn negatives) ≡ 0x0600 ∷ 0x00FF ∷ 0x303C ∷ 0x8000 ∷ [])
-    × (same negatives remainders ≡ true)
+negative : (outcomeOf belowZero 4096 16384 ≡ inOrder)
+    × (image (sheetIn belowZero) ≡ 0x0600 ∷ 0x00FF ∷ 0x303C ∷ 0x8000 ∷ [])
+    × (same belowZero asRemainders ≡ true)
     × (outcomeOf (bytes "START\t4096\nNOP\nMOVE\tImmediate\t4294967167\tRegister\tData\t0\tByte\n") 4096 16384 ≡ refused 2 2 9 (pos 4294967167))
     × (outcomeOf (bytes "START\t4096\nNOP\nADDI\t4294934527\tRegister\tData\t0\tWord\n") 4096 16384 ≡ refused 2 2 9 (pos 4294934527))
 unfolding sameAt outcomeAt sizedOf made lineOf builtOf takeInstruction takeUnsigned registerByPlace takeRegister operandPayloads takeOperand encodeOf sizeOf immediateParts moveParts pairParts noOperandParts permits byteOfAddress ranges holds

@@ -5,8 +5,9 @@ use mathlib.Core.Path.{_≡_}
 use Rattle.isa.specs.declared.Instruction.{Instruction}
 use Rattle.isa.specs.declared.RegisterOperand.the-variants.{Address, Data}
 use Rattle.isa.specs.declared.Operand.{Operand}
-use Rattle.isa.specs.declared.UnsizedRegisterOperation.the-variants.{LEA}
-use Rattle.isa.specs.declared.Instruction.the-variants.{UnsizedIntoRegister, Quick, OneOperand, Branch, Pair, SWAP, BF, MULL, ImmediateInto, UnsizedPair, Shift}
+use Rattle.isa.specs.declared.UnsizedRegisterOperation.the-variants.{LEA, CHK, CHKL}
+use Rattle.isa.specs.declared.UnsizedOneOperation.the-variants.{MOVEtoCCR, MOVEtoSR}
+use Rattle.isa.specs.declared.Instruction.the-variants.{UnsizedIntoRegister, UnsizedOne, Quick, OneOperand, Branch, Pair, SWAP, BF, MULL, ImmediateInto, UnsizedPair, Shift}
 use Rattle.isa.specs.declared.Size.{Size}
 use Rattle.isa.specs.declared.Size.the-variants.{Byte, Word, Long}
 use Rattle.isa.specs.declared.Operand.the-variants.{Register, Absolute, Immediate, PostIndirect, PreIndirect, PcDisplacement, Extended}
@@ -92,6 +93,10 @@ pub record Negatives : Type 0 where
   pub word-below : (at : ℕ) → OutOf (move 4294934527 Word) at 9 (pos 4294934527)
   pub word-top : (at : ℕ) → Has (move 65535 Word) at (0x303C ∷ 0xFFFF ∷ [])
   pub word-past : (at : ℕ) → OutOf (move 65536 Word) at 9 (pos 65536)
+  pub to-ccr : (at : ℕ) → Has (UnsizedOne MOVEtoCCR (Immediate 4294967168)) at (0x44FC ∷ 0xFF80 ∷ [])
+  pub to-sr : (at : ℕ) → Has (UnsizedOne MOVEtoSR (Immediate 4294967295)) at (0x46FC ∷ 0xFFFF ∷ [])
+  pub checked : (at : ℕ) → Has (UnsizedIntoRegister CHK (Immediate 4294967295) (Data 0)) at (0x41BC ∷ 0xFFFF ∷ [])
+  pub checked-long : (at : ℕ) → Has (UnsizedIntoRegister CHKL (Immediate 4294967295) (Data 0)) at (0x413C ∷ 0xFFFF ∷ 0xFFFF ∷ [])
   pub tested : (at : ℕ) → Has (UnsizedPair BTST (Register (Data 1)) (Immediate 4294967295)) at (0x033C ∷ 0x00FF ∷ [])
   pub bit-number : (at : ℕ) → OutOf (UnsizedPair BTST (Immediate 4294967295) (Register (Data 0))) at 12 (pos 4294967295)
   pub count : (at : ℕ) → OutOf (Shift LSd (Immediate 4294967295) (Register (Data 0)) Left Word) at 10 (pos 4294967295)

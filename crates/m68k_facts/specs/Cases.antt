@@ -8,7 +8,7 @@ use Rattle.encode_spec.specs.Arithmetic.{immediateParts, quickParts, mullParts,
 use Rattle.encode_spec.specs.Bits.{dynamicParts, staticParts, bitParts, bitFieldParts}
 use Rattle.encode_spec.specs.Logic.{shiftParts, shiftRegisterParts}
 use Rattle.encode_spec.specs.Control.{branchParts}
-use Rattle.encode_spec.specs.Instruction.{pairParts, unsizedRegisterParts, unsizedPairParts, oneParts, branchesParts}
+use Rattle.encode_spec.specs.Instruction.{pairParts, unsizedRegisterParts, unsizedOneParts, unsizedPairParts, oneParts, branchesParts}
 use Rattle.encode_spec.specs.Cases.{Table, Negatives}
 
 pub cases : Table
@@ -40,7 +40,7 @@ cases =
     }
 
 pub negatives : Negatives
-unfolding encodeOf sizeOf holds ranges permits byteOfAddress withData moveParts immediateParts dynamicParts staticParts bitParts shiftParts shiftRegisterParts pairParts unsizedPairParts
+unfolding encodeOf sizeOf holds ranges permits byteOfAddress single withData moveParts immediateParts dynamicParts staticParts bitParts shiftParts shiftRegisterParts pairParts unsizedRegisterParts unsizedOneParts unsizedPairParts
 negatives =
     record {
       byte = λ at. refl;
@@ -55,6 +55,10 @@ negatives =
       word-below = λ at. refl;
       word-top = λ at. refl;
       word-past = λ at. refl;
+      to-ccr = λ at. refl;
+      to-sr = λ at. refl;
+      checked = λ at. refl;
+      checked-long = λ at. refl;
       tested = λ at. refl;
       bit-number = λ at. refl;
       count = λ at. refl;

@@ -37,7 +37,7 @@ use Rattle.read_spec.specs.Decoded.{wordOf, movepDecoded, statusDecoded}
 use Rattle.read_spec.specs.Map.{groupAt, map}
 use Rattle.read_spec.specs.Operation.{sizeAt, immediateAt, toStatus, conditionCodeAt, statusAt, bitAt, toMemoryAt}
 use Rattle.read_operand_laws.specs.TailStands.{specifierWords, SpecifierStands, TailStands, tailWords}
-use Rattle.read_operand_laws.specs.Facts.{bit-number-holds}
+use Rattle.read_operand_laws.specs.Facts.{bit-number-holds, plain-number, own-number}
 use Rattle.encode_facts.specs.Immediates.{immediate-held, long-holds, own-remainder}
 use Rattle.encode_facts.specs.Items.{fine-both, lt-number, reason-not, unless-reason, true-unless}
 use Rattle.base_facts.specs.Tests.{ltb-is, ltb-true, eqb-is, eqb-eq, and-true, true-not-false, leb-true, Eq, leb-is, eq?}
@@ -118,7 +118,7 @@ immediate-into-reads a op v o s (n, e, l) =
     let (c, d, t) = immediate-code op in
     laying-reads (immediate-laying a op v o s) (t s) e n (λ h m.
     let q = not-sixty (eqb (immediateKind op) 6) (eaField o) (rw d m) in
-    (rw (q, size-code s, d), immediate-stands v s h, rw (q, size-code s, c)))
+    (rw (q, size-code s, d), immediate-stands v s h, rw (q, size-code s, c, plain-number s v (h .0))))
 
 -- ---- to CCR and SR: bits 11 to 9
 abbrev conditionCodeCode : ConditionCodeOperation → ℕ
@@ -217,7 +217,7 @@ immediate-into-sound a line x opmode ea hl hx ho he e f h p i r =
     let b = stands-immediate v s (g .1) in
     let own = own-remainder s v b in
     word-as a k _ _ _ (omega (arith, w))
-    (laying-encodes ea f (rw own at (immediate-laying a (immediateAt x) v (f .source) s)) (immediate-passing v s b) (rw m at g) (rw q at p) (λ n. n) refl (λ e. rw (own, e))))
+    (laying-encodes ea f (rw own at (immediate-laying a (immediateAt x) v (f .source) s)) (immediate-passing v s b) (rw m at g) (rw q at p) (λ n. n) refl (λ e. rw (own-number s v b, e))))
 
 -- ---- BTST BCHG BCLR BSET, by their number
 parts-are : (k : ℕ) → k < 4 → (o d : Operand) → unsizedPairParts (bitAt k) o d ≡ bitParts k o d

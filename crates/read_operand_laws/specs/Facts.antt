@@ -6,13 +6,16 @@ use native.Mathlib.Omega.{arith}
 use lib.Dec.{ltb, leb, leb·zero, leb·suc-suc}
 use lib.IntN.{ℤ, pos, negsuc}
 use lib.Signed.{mag, leZ}
+use mathlib.Core.Option.{some}
+use Rattle.isa.specs.declared.Size.{Size}
 use Rattle.isa.specs.declared.Field.the-variants as field
-use Rattle.isa_spec.specs.Field.{holds, ranges, isZero}
+use Rattle.isa_spec.specs.Field.{holds, ranges, isZero, topOf, alsoHolds, remainderOf}
 use Rattle.encode_spec.specs.Ea.{distance}
 use Rattle.base_spec.specs.Signed.{signed32, signed64, bitsOf, difference}
 use Rattle.read_spec.specs.Number.{signed, signed8, signed16, reach}
 use Rattle.read_spec.specs.Accepted.{Fits32}
-use Rattle.encode_facts.specs.Immediates.{from-zero}
+use Rattle.read_spec.specs.Plain.{plainNumber}
+use Rattle.encode_facts.specs.Immediates.{from-zero, immediate-holds, immediate-held, own-remainder}
 use Rattle.base_facts.specs.Tests.{Lt, lt?, less, past, and-true, and-yes, or-no, leb-is, ltb-is, ltb-not, ltb-true}
 
 -- ---- signed numbers: z lies from -h to h - 1
@@ -115,7 +118,7 @@ distance-fits t p = signed32-fits (difference t p) (omega arith)
 pub reach-lt : (p : ℕ) (z : ℤ) → reach p z < 2 ^ 32
 reach-lt p z = omega arith
 
--- ---- what each field holds (Register and BitField: isa_values.specs.Fields)
+-- ---- what each field holds (Immediate: encode_facts.specs.Immediates; Register and BitField: isa_values.specs.Fields)
 -- nothing beside the pair, and no further rule
 pair-alone : (b : Bool) → (b || false) && true ≡ b
 pair-alone b = and-yes (b || false) ∙ or-no b
@@ -207,3 +210,18 @@ bit-number-holds n = upwards n 255
 pub breakpoint-vector-holds : (n : ℕ) → holds field.BreakpointVector (pos n) ≡ ltb n 8
 unfolding holds ranges
 breakpoint-vector-holds n = upwards n 7
+
+-- ---- the number of an Immediate in plain form
+-- held, it is the remainder
+pub plain-number : (s : Size) (v : ℕ) → holds (field.Immediate s) (pos v) ≡ true → plainNumber s v ≡ remainderOf s v
+plain-number s v h = go (alsoHolds (some s) (pos v)) refl
+  where
+    go : (b : Bool) → alsoHolds (some s) (pos v) ≡ b → plainNumber s v ≡ remainderOf s v
+    go true e = rw e
+    go false e =
+        let q : (ltb v (suc (topOf s)) || alsoHolds (some s) (pos v)) ≡ true = sym (immediate-holds s v) ∙ h in
+        rw e (sym (own-remainder s v (ltb-is v (suc (topOf s)) (sym (or-no (ltb v (suc (topOf s)))) ∙ (rw e at q)))))
+
+-- in the pair, it is the number itself
+pub own-number : (s : Size) (v : ℕ) → v < suc (topOf s) → plainNumber s v ≡ v
+own-number s v l = plain-number s v (immediate-held s v l) ∙ own-remainder s v l

@@ -24,12 +24,12 @@ use Rattle.encode_spec.specs.Ea.{distance, indexSizeVerdict, briefItems, wordIt
 use Rattle.base_spec.specs.Signed.{signed32, signed64, bitsOf}
 use Rattle.read_spec.specs.Number.{signed8, signed16, reach}
 use Rattle.read_spec.specs.Operand.{modeAt, permitted, indexOf, immediateTree, indexedTree, indexOperand, scaledOperand, briefOperand, specialTree, modeTree, operandTree}
-use Rattle.read_spec.specs.Plain.{plainOperand}
+use Rattle.read_spec.specs.Plain.{plainNumber, plainOperand}
 use Rattle.read_spec.specs.Tree.{Tree, ret, got, run}
 use Rattle.read_operand_laws.specs.Stands.{Stands}
 use Rattle.read_spec.specs.Accepted.{InTypes, Words}
-use Rattle.read_operand_laws.specs.Facts.{fits, fits-wider, as-fits32, signed8-low, signed16-low, low-signed16, signed16-fits, signed32-low, low-signed32, reach-distance, distance-reach, reach-lt, displacement-holds, index-displacement-holds, pc-displacement-holds, pc-index-holds, short-address-holds, long-address-holds}
-use Rattle.encode_facts.specs.Immediates.{immediate-held, own-remainder}
+use Rattle.read_operand_laws.specs.Facts.{fits, fits-wider, as-fits32, signed8-low, signed16-low, low-signed16, signed16-fits, signed32-low, low-signed32, reach-distance, distance-reach, reach-lt, displacement-holds, index-displacement-holds, pc-displacement-holds, pc-index-holds, short-address-holds, long-address-holds, plain-number, own-number}
+use Rattle.encode_facts.specs.Immediates.{immediate-held}
 use Rattle.encode_facts.specs.Items.{fine-both, both-fine, reason-not, range-holds, holds-range, number-lt, lt-number, address-lt}
 use Rattle.read_operand_laws.specs.TreeLaws.{Alive, Clean, got-subst, short-no, none-no, guard-true, guard-then, guard-clean, bind-got, bind-then, bind-alive, bind-clean}
 use Rattle.read_operand_laws.specs.DisplacementLaws.{got-is}
@@ -37,17 +37,23 @@ use Rattle.read_operand_laws.specs.IndexLaws.{briefWord, Brief, index-co
 use Rattle.base_facts.specs.Tests.{Lt, less, past, lt?, ltb-true, ltb-is, leb-is, eqb-not, and-true, cond-true, cond-false, cond-lt}
 
 -- ---- immediates
-pub immediate-complete : (s : Size) (v a n : ℕ) (r : List ℕ)
+immediate-reads : (s : Size) (v a n : ℕ) (r : List ℕ)
     → run (immediateTree s) a n (wordsIn (immediateItems v s) ++ r) ≡ got (remainderOf s v) (n + countOf (immediateItems v s)) r
-immediate-complete Byte v a n r =
+immediate-reads Byte v a n r =
     ap (λ (t : Tree ℕ). run t a (n + 1) r) (guard-true (ltb (v % 256) 256) (ret (v % 256)) (ltb-true (v % 256) 256 (omega arith)))
-immediate-complete Word v a n r = refl
-immediate-complete Long v a n r = got-is r (omega arith) (omega arith)
+immediate-reads Word v a n r = refl
+immediate-reads Long v a n r = got-is r (omega arith) (omega arith)
+
+pub immediate-complete : (s : Size) (v : ℕ) → failure true (immediateItems v s) ≡ fine → (a n : ℕ) (r : List ℕ)
+    → run (immediateTree s) a n (wordsIn (immediateItems v s) ++ r) ≡ got (plainNumber s v) (n + countOf (immediateItems v s)) r
+immediate-complete s v e a n r =
+    let h = range-holds (field.Immediate s) (pos v) (fine-both (ranged true (field.Immediate s) (pos v)) _ e .0) in
+    immediate-reads s v a n r ∙ got-is r (sym (plain-number s v h)) refl
 
 abbrev pub ImmediateSound : Size → ℕ → List ℕ → ℕ → ℕ → List ℕ → Type 0
 ImmediateSound s n ws v m r =
     (failure true (immediateItems v s) ≡ fine)
-    × (remainderOf s v ≡ v)
+    × (plainNumber s v ≡ v)
     × (ws ≡ wordsIn (immediateItems v s) ++ r)
     × (m ≡ n + countOf (immediateItems v s))
 
@@ -68,11 +74,11 @@ immediate-sound Byte a n [] h v m r e = short-no e
 immediate-sound Byte a n (w ∷ ws) h v m r e =
     let g = guard-then (ltb w 256) (ret w) a (n + 1) ws v m r e in
     let l : w < 256 = ltb-is w 256 (g .0) in
-    got-subst (ImmediateSound Byte n (w ∷ ws)) (g .1) (immediate-fine Byte w l, own-remainder Byte w l, ap (λ (x : ℕ). x ∷ ws) (omega arith), refl)
+    got-subst (ImmediateSound Byte n (w ∷ ws)) (g .1) (immediate-fine Byte w l, own-number Byte w l, ap (λ (x : ℕ). x ∷ ws) (omega arith), refl)
 immediate-sound Word a n [] h v m r e = short-no e
 immediate-sound Word a n (w ∷ ws) h v m r e =
     let l : w < 65536 = h .0 in
-    got-subst (ImmediateSound Word n (w ∷ ws)) e (immediate-fine Word w l, own-remainder Word w l, ap (λ (x : ℕ). x ∷ ws) (omega arith), refl)
+    got-subst (ImmediateSound Word n (w ∷ ws)) e (immediate-fine Word w l, own-number Word w l, ap (λ (x : ℕ). x ∷ ws) (omega arith), refl)
 immediate-sound Long a n [] h v m r e = short-no e
 immediate-sound Long a n (w ∷ []) h v m r e = short-no e
 immediate-sound Long a n (w ∷ u ∷ ws) h v m r e =
@@ -171,7 +177,7 @@ at-field : (s : Size) (a n : ℕ) (o : Operand) → failure true (eaItems o s (w
     → (r : List ℕ)
     → Complete s a n r o
 at-field s a n (Immediate v) e i t r =
-    bind-got (immediateTree s) (λ x. ret (Immediate x)) a n (wordsIn (immediateItems v s) ++ r) (remainderOf s v) (n + countOf (immediateItems v s)) r (immediate-complete s v a n r)
+    bind-got (immediateTree s) (λ x. ret (Immediate x)) a n (wordsIn (immediateItems v s) ++ r) (plainNumber s v) (n + countOf (immediateItems v s)) r (immediate-complete s v e a n r)
 at-field s a n (Register (Address k)) e i t r = alone s a n r 1 k (λ j. Register (Address j)) (fine-both (numberVerdict k) fine e .0) refl
 at-field s a n (Register (Data k)) e i t r = alone s a n r 0 k (λ j. Register (Data j)) (fine-both (numberVerdict k) fine e .0) refl
 at-field s a n (Indirect k) e i t r = alone s a n r 2 k Indirect (fine-both (numberVerdict k) fine e .0) refl

@@ -1,5 +1,6 @@
 -- The plain form (01, "The reading"; 02, N2).
 use mathlib.Core.Bool.{cond}
+use mathlib.Core.Option.{some}
 use Prim.Native.Nat.{ℕ, _*_, _/_, _%_, _^_}
 use lib.Dec.{eqb}
 use lib.IntN.{ℤ, pos}
@@ -14,7 +15,7 @@ use Rattle.base_spec.specs.Signed.{bitsOf}
 use Rattle.isa_spec.specs.Code.{unsizedSize, unsizedRegisterSize}
 use Rattle.isa_spec.specs.ExtensionWord.{isFull}
 use Rattle.isa_spec.specs.IndexBase.{isPc}
-use Rattle.isa_spec.specs.Field.{remainderOf}
+use Rattle.isa_spec.specs.Field.{alsoHolds, remainderOf}
 use Rattle.read_spec.specs.Operand.{indexOf}
 
 -- a brief Extended operand: of scale 1 an index, its displacement the offset or, read as unsigned, the target; another
@@ -25,9 +26,13 @@ plainIndex base w z = cond (isPc base) (PcIndex (bitsOf z % 2 ^ 32) (indexOf w))
 abbrev pub plainBrief : ℕ → ℕ → ℤ → Operand
 plainBrief base w z = cond (eqb (w / 512 % 4) 0) (plainIndex base w z) (Extended base (w / 512 * 512) z (pos 0))
 
--- an operand of a size: an Immediate of Byte or Word is its remainder
+-- the number of an Immediate of a size: one that is held beside the pair is its remainder (02, N2)
+abbrev pub plainNumber : Size → ℕ → ℕ
+plainNumber s v = cond (alsoHolds (some s) (pos v)) (remainderOf s v) v
+
+-- an operand of a size
 abbrev pub plainOperand : Size → Operand → Operand
-plainOperand s (Immediate v) = Immediate (remainderOf s v)
+plainOperand s (Immediate v) = Immediate (plainNumber s v)
 plainOperand s (Register r) = Register r
 plainOperand s (Indirect n) = Indirect n
 plainOperand s (PostIndirect n) = PostIndirect n
@@ -39,8 +44,9 @@ plainOperand s (PcIndex t x) = PcIndex t x
 plainOperand s (Extended base w z outer) = cond (isFull w) (Extended base w z outer) (plainBrief base w z)
 plainOperand s (Absolute a width) = Absolute a width
 
--- all operands so, and the number of an immediate instruction, at the size of the instruction or of its operation; what is no Immediate of
--- a size, a shift's count, a bit number, an operand of PACK or UNPK, is taken at Long, which leaves it; MOVEC's control number modulo 4,096
+-- all operands so, and the number of an immediate instruction, at the size of the instruction or of its operation, a bit's operand at Byte; a shift's
+-- count and a bit number, which are no Immediate of a size, at Long, which leaves a number; an operand that is never an Immediate at any; MOVEC's
+-- control number modulo 4,096
 abbrev pub plain : Instruction → Instruction
 plain (IntoRegister op o r s) = IntoRegister op (plainOperand s o) r s
 plain (MOVEM direction s mask o) = MOVEM direction s mask (plainOperand s o)
@@ -48,7 +54,7 @@ plain (Transfer op direction s r o) = Transfer op direction s r (plainOperand s 
 plain (Pair op o d s) = Pair op (plainOperand s o) (plainOperand s d) s
 plain (Quick op n o s) = Quick op n (plainOperand s o) s
 plain (MOVEQ v r) = MOVEQ v r
-plain (ImmediateInto op v o s) = ImmediateInto op (remainderOf s v) (plainOperand s o) s
+plain (ImmediateInto op v o s) = ImmediateInto op (plainNumber s v) (plainOperand s o) s
 plain (WordIntoData op o r sign) = WordIntoData op (plainOperand Word o) r sign
 plain (SWAP r) = SWAP r
 plain (EXG x y) = EXG x y
