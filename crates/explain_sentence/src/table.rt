@@ -48,8 +48,8 @@ pub fn sheet_texts() -> [u8; 475]
 }
 
 // The fields of 2.
-pub fn field_texts() -> [u8; 1563]
-    ensures { λ r. ⌜ (fields r ≡ [] ∷ fieldTexts) × (1563 ≡ length r) ⌝ }
+pub fn field_texts() -> [u8; 1565]
+    ensures { λ r. ⌜ (fields r ≡ [] ∷ fieldTexts) × (1565 ≡ length r) ⌝ }
 {
     *b"\
           \tthe displacement byte of a short branch, which holds -128 to 127, not 0\
@@ -60,7 +60,7 @@ pub fn field_texts() -> [u8; 1563]
           \tthe displacement byte of d8(An,Xn), which holds -128 to 127\
           \tan absolute short address, read as signed, which holds -32768 to 32767, written with 4294967296 added where below 0\
           \tan absolute address, which holds 0 to 4294967295 (a value from 2^63 on is shown below 0)\
-          \tan immediate, which holds 0 to 255 and 4294967168 to 4294967295 as a byte, 0 to 65535 and 4294934528 to 4294967295 as a word, 0 to 4294967295 as a long\
+          \tan immediate, which holds -128 to 255 as a byte and -32768 to 65535 as a word, written with 4294967296 added where below 0, and 0 to 4294967295 as a long\
           \tthe count of ADDQ, SUBQ and a shift by an immediate, which holds 1 to 8\
           \tthe vector of TRAP, which holds 0 to 15\
           \ta static bit number, which holds 0 to 255\

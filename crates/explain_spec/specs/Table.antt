@@ -33,7 +33,7 @@ fieldRows =
     ∷ ("the displacement byte of d8(An,Xn)", "-128 to 127")
     ∷ ("an absolute short address, read as signed", "-32768 to 32767, written with 4294967296 added where below 0")
     ∷ ("an absolute address", "0 to 4294967295 (a value from 2^63 on is shown below 0)")
-    ∷ ("an immediate", "0 to 255 and 4294967168 to 4294967295 as a byte, 0 to 65535 and 4294934528 to 4294967295 as a word, 0 to 4294967295 as a long")
+    ∷ ("an immediate", "-128 to 255 as a byte and -32768 to 65535 as a word, written with 4294967296 added where below 0, and 0 to 4294967295 as a long")
     ∷ ("the count of ADDQ, SUBQ and a shift by an immediate", "1 to 8")
     ∷ ("the vector of TRAP", "0 to 15")
     ∷ ("a static bit number", "0 to 255")
