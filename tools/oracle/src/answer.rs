@@ -40,10 +40,9 @@ pub fn rust_answer(placed: &Placed) -> Answer {
     answer_by(rust::encode, placed)
 }
 
-/// Whether the original alone refuses the immediate, so that N2 changes the
-/// answer.
+/// Whether the original refuses an immediate that N2 lets in.
 pub fn of_n2(placed: &Placed) -> bool {
-    answer(placed).words != rust_answer(placed).words
+    !placed.outside && minus_one::lets_in(&placed.instruction, placed.address)
 }
 
 pub fn line_of_n2(line: &[u8]) -> bool {

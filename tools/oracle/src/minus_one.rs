@@ -22,28 +22,37 @@ pub fn encode_bytes(instruction: &Instruction, address: u32) -> Result<Vec<u8>, 
     })
 }
 
+/// Whether the Rust refuses an Immediate that N2 lets in.
+pub fn lets_in(instruction: &Instruction, address: u32) -> bool {
+    let_in(&rust::encode(instruction, address)).is_some()
+}
+
 /// What the Rust says, of the remainder where it refuses a number of N2.
 fn asked<T>(
     instruction: &Instruction,
     ask: impl Fn(&Instruction) -> Result<T, EncodeError>,
 ) -> Result<T, EncodeError> {
     let said = ask(instruction);
-    let Err(EncodeError::OutOfRange {
-        field: Field::Immediate(size),
-        value,
-    }) = said
-    else {
+    let Some((value, remainder)) = let_in(&said) else {
         return said;
     };
-    match remainder(size, value) {
-        Some(remainder) => ask(&with_immediates(
-            *instruction,
-            &mut |number| match number as i64 == value {
-                true => remainder,
-                false => number,
-            },
-        )),
-        None => said,
+    ask(&with_immediates(
+        *instruction,
+        &mut |number| match number as i64 == value {
+            true => remainder,
+            false => number,
+        },
+    ))
+}
+
+/// The number of N2 that the Rust refused, and its remainder.
+fn let_in<T>(said: &Result<T, EncodeError>) -> Option<(i64, u32)> {
+    match said {
+        Err(EncodeError::OutOfRange {
+            field: Field::Immediate(size),
+            value,
+        }) => remainder(*size, *value).map(|remainder| (*value, remainder)),
+        _ => None,
     }
 }
 

@@ -1,13 +1,15 @@
 //! The stored list: every count of words with bytes just enough, more and
-//! fewer, numbers of N2 likewise, refusals with bytes lent, and lines that are
-//! not in the form.
+//! fewer, refusals with bytes lent, the ends of every Immediate, and lines that
+//! are not in the form.
 
 use std::collections::{BTreeMap, HashMap};
 use std::io::{self, Write};
 
 use super::answer::{answer_line, MOST};
-use crate::answer::{encoded_bytes, of_n2, NOT_IN_FORM};
+use crate::answer::{encoded_bytes, Refusal, NOT_IN_FORM};
+use crate::immediates::{immediates, ENDS};
 use crate::numeric::placed;
+use crate::random::Random;
 use crate::{generate, malformed};
 
 /// How many generated lines are looked through.
@@ -48,13 +50,11 @@ pub fn lengths(size: u64) -> Vec<u64> {
     lengths
 }
 
-/// What tells lines apart: the number of a refusal, the size, and whether the
-/// original alone refuses the immediate.
+/// What tells lines apart: the number of a refusal, or the size.
 #[derive(PartialEq, Eq, PartialOrd, Ord)]
 enum Group {
     Refused(u32),
     Accepted(usize),
-    OfN2,
 }
 
 pub fn write(seed: u64, output: &mut impl Write) -> io::Result<()> {
@@ -65,6 +65,9 @@ pub fn write(seed: u64, output: &mut impl Write) -> io::Result<()> {
             }
         }
     }
+    for line in ends(seed) {
+        writeln!(output, "{line}")?;
+    }
     outside(output)?;
     output.write_all(LAST.as_bytes())?;
     output.flush()
@@ -73,10 +76,8 @@ pub fn write(seed: u64, output: &mut impl Write) -> io::Result<()> {
 fn groups(seed: u64) -> BTreeMap<Group, Vec<String>> {
     let mut found: BTreeMap<Group, Vec<String>> = BTreeMap::new();
     for line in generate::lines(seed).take(LOOKED) {
-        let placed = placed(line.as_bytes()).expect("in the form");
-        let group = match encoded_bytes(&placed) {
+        let group = match encoded(&line) {
             Err(refusal) => Group::Refused(refusal.number),
-            Ok(_) if of_n2(&placed) => Group::OfN2,
             Ok(bytes) => Group::Accepted(bytes.len()),
         };
         found.entry(group).or_default().push(line);
@@ -84,12 +85,29 @@ fn groups(seed: u64) -> BTreeMap<Group, Vec<String>> {
     found
 }
 
+fn encoded(line: &str) -> Result<Vec<u8>, Refusal> {
+    encoded_bytes(&placed(line.as_bytes()).expect("in the form"))
+}
+
 /// The lengths that are lent for a line.
 fn lent(line: &str) -> Vec<u64> {
-    match encoded_bytes(&placed(line.as_bytes()).expect("in the form")) {
+    match encoded(line) {
         Ok(bytes) => lengths(bytes.len() as u64),
         Err(_) => vec![0, 1, 2, 10, 22, MOST],
     }
+}
+
+/// Every Immediate with each end, one past it, and bytes enough; with the
+/// highest, one byte short as well.
+fn ends(seed: u64) -> Vec<String> {
+    let mut lines = Vec::new();
+    for immediate in immediates(&mut Random::new(seed)) {
+        let highest = immediate.with(ENDS[ENDS.len() - 1]).line();
+        let short = encoded(&highest).map(|bytes| bytes.len() - 1);
+        lines.extend(short.map(|length| format!("{length}\t{highest}")));
+        lines.extend(ENDS.map(|number| format!("{MOST}\t{}", immediate.with(number).line())));
+    }
+    lines
 }
 
 /// `EACH` of the lines, far apart: of one instruction few, unless no others

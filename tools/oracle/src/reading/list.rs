@@ -6,7 +6,7 @@ use std::io::{self, Write};
 use super::answer::answer_line;
 use super::malformed;
 use super::run::Run;
-use super::samples::{encoded, first_words, groups, placed_words, unused, worked};
+use super::samples::{encoded, ends, first_words, groups, placed_words, unused, worked};
 use crate::answer::NOT_IN_FORM;
 use crate::manual;
 use crate::random::Random;
@@ -64,6 +64,7 @@ fn runs(seed: u64) -> Vec<Run> {
         encoded.beginnings,
         encoded.changed,
         unused(&mut random),
+        ends(&mut random),
     ]
     .concat()
 }

@@ -9,6 +9,7 @@ use super::run::Run;
 use super::tails::{mixed, tail, LENGTH};
 use crate::answer::answer;
 use crate::generate::{self, random_address};
+use crate::immediates::{immediates, ENDS};
 use crate::manual;
 use crate::numeric::placed;
 use crate::random::Random;
@@ -38,15 +39,38 @@ const UNUSED: usize = 600;
 pub fn worked() -> Vec<Run> {
     let examples = manual::examples().into_iter();
     examples
-        .filter_map(|example| {
-            let placed = placed(example.line.as_bytes())?;
-            let words = answer(&placed).words.ok()?;
-            Some(Run {
-                address: placed.address,
-                words,
-            })
-        })
+        .filter_map(|example| words_of(&example.line))
         .collect()
+}
+
+/// The words of a line that is accepted.
+fn words_of(line: &str) -> Option<Run> {
+    let placed = placed(line.as_bytes())?;
+    let words = answer(&placed).words.ok()?;
+    Some(Run {
+        address: placed.address,
+        words,
+    })
+}
+
+/// The words of every Immediate with each end that it holds, N2 included, and
+/// the same with the high byte of the second word filled, as a word of -1 has
+/// it.
+pub fn ends(random: &mut Random) -> Vec<Run> {
+    let immediates = immediates(random);
+    let lines = immediates
+        .iter()
+        .flat_map(|immediate| ENDS.map(|number| immediate.with(number).line()));
+    lines
+        .filter_map(|line| words_of(&line))
+        .flat_map(|run| [filled(&run), run])
+        .collect()
+}
+
+fn filled(run: &Run) -> Run {
+    let mut run = run.clone();
+    run.words[1] |= 0xFF00;
+    run
 }
 
 /// A first word of each of the 1,024 entries of the reader's table.

@@ -1,5 +1,5 @@
 //! Request N2: each Immediate with all the ends that it holds in one sheet, and
-//! the two highest that it does not hold in a sheet each.
+//! those that it does not hold in a sheet each.
 
 use super::super::made::Sheet;
 use super::super::record::Record;
@@ -9,7 +9,6 @@ use crate::immediates::{immediates, ENDS};
 use crate::random::Random;
 
 const START: u32 = 4096;
-const REFUSED: usize = 2;
 
 pub fn all(random: &mut Random) -> Vec<Record> {
     let immediates = immediates(random).into_iter();
@@ -19,9 +18,9 @@ pub fn all(random: &mut Random) -> Vec<Record> {
             let (mut held, refused): (Vec<Draft>, Vec<Draft>) =
                 drafts.partition(|draft| accepts(&draft.line()));
             held.push(immediate.with(1));
-            let highest = refused.into_iter().rev().take(REFUSED);
-            let refused = highest.map(|draft| [immediate.with(1), draft, immediate.with(1)]);
-            let mut found: Vec<Record> = refused.map(|lines| sheet(&lines)).collect();
+            let refused = refused.into_iter();
+            let between = refused.map(|draft| [immediate.with(1), draft, immediate.with(1)]);
+            let mut found: Vec<Record> = between.map(|lines| sheet(&lines)).collect();
             found.push(sheet(&held));
             found
         })
