@@ -3,38 +3,19 @@ use mathlib.Core.Path.{_≡_, refl}
 use mathlib.Core.List.{[], _∷_}
 use Prim.Native.Nat.{ℕ}
 use Rattle.isa.specs.declared.Size.the-variants.{Byte, Word, Long}
-use Rattle.isa.specs.declared.RegisterOperand.the-variants.{Data}
-use Rattle.isa.specs.declared.Operand.the-variants.{Immediate, Register}
-use Rattle.isa.specs.declared.Instruction.{Instruction}
-use Rattle.isa.specs.declared.Instruction.the-variants.{UnsizedIntoRegister, UnsizedPair, Shift}
-use Rattle.isa.specs.declared.UnsizedRegisterOperation.{UnsizedRegisterOperation}
 use Rattle.isa.specs.declared.UnsizedRegisterOperation.the-variants.{CHK, CHKL}
-use Rattle.isa.specs.declared.UnsizedPairOperation.the-variants.{BTST}
-use Rattle.isa.specs.declared.ShiftOperation.the-variants.{LSd}
-use Rattle.isa.specs.declared.ShiftDirection.the-variants.{Left}
-use Rattle.encode_spec.specs.Cases.{addi, move}
+use Rattle.encode_spec.specs.Cases.{addi, move, checked, tested, numbered, shifted}
 use Rattle.read_spec.specs.declared.Reading.the-variants.{Read}
 use Rattle.read_spec.specs.Plain.{plain}
 use Rattle.read_spec.specs.Map.{groupAt, map}
 use Rattle.read_spec.specs.Read.{readOf}
 
-abbrev tested : ℕ → Instruction
-tested v = UnsizedPair BTST (Register (Data 1)) (Immediate v)
-
-abbrev numbered : ℕ → Instruction
-numbered v = UnsizedPair BTST (Immediate v) (Register (Data 0))
-
-abbrev shifted : ℕ → Instruction
-shifted v = Shift LSd (Immediate v) (Register (Data 0)) Left Word
-
-abbrev checked : UnsizedRegisterOperation → ℕ → Instruction
-checked op v = UnsizedIntoRegister op (Immediate v) (Data 0)
-
 changed : (plain (addi 4294967295 Byte) ≡ addi 255 Byte) × (plain (move 4294934528 Word) ≡ move 32768 Word) × (plain (tested 4294967168) ≡ tested 128)
     × (plain (checked CHK 4294967295) ≡ checked CHK 65535)
 changed = (refl, refl, refl, refl)
 
-kept : (plain (addi 256 Byte) ≡ addi 256 Byte) × (plain (addi 4294967295 Long) ≡ addi 4294967295 Long) × (plain (checked CHKL 4294967295) ≡ checked CHKL 4294967295) × (plain (numbered 4294967295) ≡ numbered 4294967295)
+kept : (plain (addi 256 Byte) ≡ addi 256 Byte) × (plain (addi 4294967295 Long) ≡ addi 4294967295 Long)
+    × (plain (checked CHKL 4294967295) ≡ checked CHKL 4294967295) × (plain (numbered 4294967295) ≡ numbered 4294967295)
     × (plain (shifted 4294967295) ≡ shifted 4294967295)
 kept = (refl, refl, refl, refl, refl)
 

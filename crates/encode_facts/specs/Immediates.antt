@@ -5,7 +5,7 @@ use mathlib.Core.Bool.{Bool, true, _&&_, _||_}
 use mathlib.Core.List.{[], _∷_}
 use mathlib.Core.Option.{some}
 use native.Mathlib.Omega.{arith}
-use lib.Dec.{eqb, ltb, leb, leb·zero, leb·suc-suc}
+use lib.Dec.{eqb, ltb, leb}
 use lib.IntN.{pos}
 use Rattle.isa.specs.declared.Size.{Size}
 use Rattle.isa.specs.declared.Size.the-variants.{Byte, Word, Long}
@@ -13,10 +13,8 @@ use Rattle.isa.specs.declared.Field.the-variants as field
 use Rattle.isa_spec.specs.Field.{holds, ranges, topOf, alsoHolds, remainderOf}
 use Rattle.encode_spec.specs.Item.{word}
 use Rattle.encode_spec.specs.Ea.{immediateWords}
+use Rattle.isa_facts.specs.Field.{from-zero}
 use Rattle.base_facts.specs.Tests.{Lt, lt?, less, past, and-yes, or-no, ltb-true, leb-true, leb-not, eqb-is, eqb-not}
-
-pub from-zero : (n t : ℕ) → leb 0 n && leb n t ≡ ltb n (suc t)
-from-zero n t = rw (leb·zero n) (sym (leb·suc-suc n t))
 
 pub immediate-holds : (s : Size) (v : ℕ) → holds (field.Immediate s) (pos v) ≡ (ltb v (suc (topOf s)) || alsoHolds (some s) (pos v))
 unfolding holds ranges

@@ -1,3 +1,4 @@
 pub mod Code
 pub mod Condition
+pub mod Field
 pub mod Mode

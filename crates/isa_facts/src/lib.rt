@@ -1,1 +1,1 @@
-// Facts about codes, conditions and sets of modes, for code and for laws.
+// Facts about codes, conditions, sets of modes and the pairs of fields, for code and for laws.

@@ -123,7 +123,8 @@ pub fn range(field: Field) -> Range
     }
 }
 
-// Whether an Immediate holds the value beside its pair: below 0, with 2^32 added.
+// Whether an Immediate holds the value beside its pair: -128 to -1 as a byte, -32768 to -1 as a
+// word, with 2^32 added.
 pub fn also_holds(field: Field, value: i64) -> bool
     ensures { λ r. ⌜ r ≡ alsoHolds (immediateSize field) value ⌝ }
 {

@@ -57,9 +57,9 @@ negatives =
       word-past = λ at. refl;
       to-ccr = λ at. refl;
       to-sr = λ at. refl;
-      checked = λ at. refl;
-      checked-long = λ at. refl;
-      tested = λ at. refl;
+      chk = λ at. refl;
+      chk-long = λ at. refl;
+      bit-of = λ at. refl;
       bit-number = λ at. refl;
       count = λ at. refl;
     }

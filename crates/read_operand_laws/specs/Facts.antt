@@ -1,9 +1,9 @@
--- Laws of tests, verdicts, items and signed numbers.
+-- Laws of signed numbers, of what fields hold, and of an Immediate's number in plain form.
 use Prim.Native.Nat.{ℕ, suc, _+_, _-_, _%_, _^_, _<_, _≤_}
 use mathlib.Core.Path.{_≡_, refl, ap, sym, _∙_}
 use mathlib.Core.Bool.{Bool, true, false, not, _&&_, _||_, false≢true}
 use native.Mathlib.Omega.{arith}
-use lib.Dec.{ltb, leb, leb·zero, leb·suc-suc}
+use lib.Dec.{ltb, leb, leb·suc-suc}
 use lib.IntN.{ℤ, pos, negsuc}
 use lib.Signed.{mag, leZ}
 use mathlib.Core.Option.{some}
@@ -15,7 +15,8 @@ use Rattle.base_spec.specs.Signed.{signed32, signed64, bitsOf, difference}
 use Rattle.read_spec.specs.Number.{signed, signed8, signed16, reach}
 use Rattle.read_spec.specs.Accepted.{Fits32}
 use Rattle.read_spec.specs.Plain.{plainNumber}
-use Rattle.encode_facts.specs.Immediates.{from-zero, immediate-holds, immediate-held, own-remainder}
+use Rattle.isa_facts.specs.Field.{pair-alone, upwards}
+use Rattle.encode_facts.specs.Immediates.{immediate-holds, immediate-held, own-remainder}
 use Rattle.base_facts.specs.Tests.{Lt, lt?, less, past, and-true, and-yes, or-no, leb-is, ltb-is, ltb-not, ltb-true}
 
 -- ---- signed numbers: z lies from -h to h - 1
@@ -119,18 +120,11 @@ pub reach-lt : (p : ℕ) (z : ℤ) → reach p z < 2 ^ 32
 reach-lt p z = omega arith
 
 -- ---- what each field holds (Immediate: encode_facts.specs.Immediates; Register and BitField: isa_values.specs.Fields)
--- nothing beside the pair, and no further rule
-pair-alone : (b : Bool) → (b || false) && true ≡ b
-pair-alone b = and-yes (b || false) ∙ or-no b
-
 short-word : (z : ℤ) → (leZ (negsuc 32767) z && leZ z (pos 32767) || false) && true ≡ fits (2 ^ 15) z
 short-word z = pair-alone (leZ (negsuc 32767) z && leZ z (pos 32767)) ∙ within-fits 32767 z
 
 short-byte : (z : ℤ) → (leZ (negsuc 127) z && leZ z (pos 127) || false) && true ≡ fits (2 ^ 7) z
 short-byte z = pair-alone (leZ (negsuc 127) z && leZ z (pos 127)) ∙ within-fits 127 z
-
-upwards : (n t : ℕ) → (leb 0 n && leb n t || false) && true ≡ ltb n (suc t)
-upwards n t = pair-alone (leb 0 n && leb n t) ∙ from-zero n t
 
 pub short-branch-holds : (z : ℤ) → holds field.ShortBranch z ≡ fits (2 ^ 7) z && not (isZero z)
 unfolding holds ranges

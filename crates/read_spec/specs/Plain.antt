@@ -44,9 +44,9 @@ plainOperand s (PcIndex t x) = PcIndex t x
 plainOperand s (Extended base w z outer) = cond (isFull w) (Extended base w z outer) (plainBrief base w z)
 plainOperand s (Absolute a width) = Absolute a width
 
--- all operands so, and the number of an immediate instruction, at the size of the instruction or of its operation, a bit's operand at Byte; a shift's
--- count and a bit number, which are no Immediate of a size, at Long, which leaves a number; an operand that is never an Immediate at any; MOVEC's
--- control number modulo 4,096
+-- all operands so, and the number of an immediate instruction, at the size of the instruction or of its operation; the byte of which BTST tests a
+-- bit at Byte. A shift's count and a bit number are of no size: Long leaves them. Where no Immediate is accepted the size plays no part.
+-- MOVEC's control number is taken modulo 4,096
 abbrev pub plain : Instruction → Instruction
 plain (IntoRegister op o r s) = IntoRegister op (plainOperand s o) r s
 plain (MOVEM direction s mask o) = MOVEM direction s mask (plainOperand s o)
