@@ -110,8 +110,7 @@ impl<'p> Lists<'p> {
         }
         for (at, (asked, due)) in self.cases.drain(..).enumerate() {
             let found = found.get(at).copied();
-            self.comparison.of_n2 += due.of_n2 as usize;
-            self.comparison.answer(&asked, due.text.as_bytes(), found);
+            self.comparison.due(&asked, &due, found);
         }
         Ok(())
     }

@@ -24,10 +24,10 @@ impl Expected {
 }
 
 impl Comparison {
-    /// Compares what is due for one line.
-    pub fn expected(&mut self, asked: &[u8], expected: &Expected, found: &[u8]) {
-        self.of_n2 += expected.of_n2 as usize;
-        self.line(asked, expected.text.as_bytes(), found);
+    /// Compares what is due with the answer to one case, of one line or several.
+    pub fn due(&mut self, asked: &[u8], due: &Expected, found: Option<&[u8]>) {
+        self.of_n2 += due.of_n2 as usize;
+        self.answer(asked, due.text.as_bytes(), found);
     }
 
     /// Compares the answers to one line; `asked` is the line, if known.
@@ -73,8 +73,13 @@ impl Comparison {
     }
 
     pub fn report_n2(&self) {
-        println!("N2: {} whose immediate the Rust alone refuses", self.of_n2);
+        println!("{}", n2_count(self.of_n2));
     }
+}
+
+/// How many are of N2.
+pub fn n2_count(of_n2: usize) -> String {
+    format!("N2: {of_n2} whose immediate the Rust alone refuses")
 }
 
 fn at_or_none<'l>(list: &[&'l [u8]], at: usize) -> &'l [u8] {

@@ -5,14 +5,15 @@ use std::collections::{BTreeMap, BTreeSet};
 use crate::answer::{
     answer, answer_line, field_number, line_of_n2, lines, Answer, Refusal, NOT_IN_FORM, REASONS,
 };
+use crate::compare::n2_count;
 use crate::draft::{Draft, Kind};
 use crate::immediate_ends::ImmediateEnds;
 use crate::instructions::Size;
 use crate::kinds::KINDS;
 use crate::machine::encode::Field;
 use crate::numeric::placed;
-use crate::schema::{instructions, is_plain_enum, variants, Number};
-use crate::systematic::{operand_kinds, operands};
+use crate::schema::{instructions, is_plain_enum, operands, variants, Number};
+use crate::systematic::operand_kinds;
 
 /// Every field; an immediate by its size.
 const ALL_FIELDS: [Field; 22] = [
@@ -180,7 +181,7 @@ impl Coverage {
             "accepted {}, refused {}",
             self.all.accepted, self.all.refused
         );
-        println!("N2: {} whose immediate the Rust alone refuses", self.of_n2);
+        println!("{}", n2_count(self.of_n2));
         println!("refused by `size` too {}", self.refused_by_size);
         println!("refusals of `encode` by number {:?}", self.numbers);
         let odd = self

@@ -6,8 +6,8 @@ use crate::draft::{Draft, Kind};
 use crate::fill::{accepted, draft};
 use crate::kinds::KINDS;
 use crate::random::Random;
-use crate::schema::instructions;
-use crate::systematic::{drafts, faulty, operands, word_offset};
+use crate::schema::{instructions, operands};
+use crate::systematic::{drafts, faulty, word_offset};
 use crate::values::{ends, ADDRESSES, DISPLACEMENTS};
 
 pub struct Lines {

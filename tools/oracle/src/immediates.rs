@@ -1,13 +1,12 @@
-//! Accepted drafts with an Immediate, one for each place that takes one and
-//! each size.
+//! Accepted drafts with an Immediate operand or an immediate instruction's
+//! number, one for each place that takes one and each size.
 
 use crate::answer::accepts;
 use crate::draft::Draft;
 use crate::fill::{accepted, draft};
-use crate::kinds::KINDS;
+use crate::kinds::{DATA, IMMEDIATE, KINDS};
 use crate::random::Random;
-use crate::schema::{instructions, Number, Type};
-use crate::systematic::{operands, size_field, DATA, IMMEDIATE};
+use crate::schema::{instructions, operands, size_field, Number, Type};
 use crate::values::ADDRESSES;
 
 /// The ends of what an Immediate of Byte and of Word holds, N2 included, and one

@@ -32,6 +32,10 @@ const fn kind(name: &'static str, variant: &'static str, form: Form) -> OperandK
     }
 }
 
+/// Places in `KINDS`.
+pub const IMMEDIATE: usize = 0;
+pub const DATA: usize = 2;
+
 pub static KINDS: [OperandKind; 16] = [
     kind("#n", "Immediate", Form::Only),
     kind("An", "Register", Form::Place(1, 0)),

@@ -1,5 +1,6 @@
 //! Worked encodings and readings written down by hand: the text, the line and the answer.
 
+use crate::compare::n2_count;
 use crate::{answer, reading, sheet, srecord};
 
 const MANUAL: &str = include_str!("../manual.txt");
@@ -81,9 +82,7 @@ pub fn count_different(what: &str, outcomes: impl Iterator<Item = Outcome>) -> u
             );
         }
     }
-    println!(
-        "{all} {what}, {different} different; N2: {of_n2} whose immediate the Rust alone refuses"
-    );
+    println!("{all} {what}, {different} different; {}", n2_count(of_n2));
     different
 }
 

@@ -24,7 +24,7 @@ pub fn encode_bytes(instruction: &Instruction, address: u32) -> Result<Vec<u8>, 
 
 /// Whether the Rust refuses an Immediate that N2 lets in.
 pub fn lets_in(instruction: &Instruction, address: u32) -> bool {
-    let_in(&rust::encode(instruction, address)).is_some()
+    number_let_in(&rust::encode(instruction, address)).is_some()
 }
 
 /// What the Rust says, of the remainder where it refuses a number of N2.
@@ -33,7 +33,7 @@ fn asked<T>(
     ask: impl Fn(&Instruction) -> Result<T, EncodeError>,
 ) -> Result<T, EncodeError> {
     let said = ask(instruction);
-    let Some((value, remainder)) = let_in(&said) else {
+    let Some((value, remainder)) = number_let_in(&said) else {
         return said;
     };
     ask(&with_immediates(
@@ -46,7 +46,7 @@ fn asked<T>(
 }
 
 /// The number of N2 that the Rust refused, and its remainder.
-fn let_in<T>(said: &Result<T, EncodeError>) -> Option<(i64, u32)> {
+fn number_let_in<T>(said: &Result<T, EncodeError>) -> Option<(i64, u32)> {
     match said {
         Err(EncodeError::OutOfRange {
             field: Field::Immediate(size),

@@ -29,7 +29,7 @@ pub fn replay_as(
 ) -> io::Result<Comparison> {
     let mut comparison = Comparison::default();
     let mut batches = Batches::new(program, |asked: &[u8], due: Expected, found: &[u8]| {
-        comparison.expected(asked, &due, found)
+        comparison.due(asked, &due, Some(found))
     });
     for line in malformed().chain(raw_lines()) {
         let line = [before, line].concat();

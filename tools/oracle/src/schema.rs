@@ -72,6 +72,23 @@ pub fn is_operand(kind: &'static Type) -> bool {
     std::ptr::eq(kind, &OPERAND)
 }
 
+/// The fields of an instruction that are operands.
+pub fn operands(place: usize) -> Vec<usize> {
+    let fields = instructions()[place].fields.iter().enumerate();
+    fields
+        .filter(|(_, kind)| is_operand(kind))
+        .map(|(field, _)| field)
+        .collect()
+}
+
+/// The field of an instruction that is its size.
+pub fn size_field(place: usize) -> Option<usize> {
+    instructions()[place]
+        .fields
+        .iter()
+        .position(|kind| std::ptr::eq(*kind, &SIZE))
+}
+
 /// Whether these are the two places of `bool`.
 pub fn is_bool(variants: &'static [Variant]) -> bool {
     std::ptr::eq(variants, self::variants(&BOOL))

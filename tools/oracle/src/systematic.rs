@@ -6,10 +6,10 @@ use crate::draft::{Draft, Kind};
 use crate::fill::{accepted, draft};
 use crate::immediates::{immediates, ENDS};
 use crate::instructions::{DisplacementSize, ExtensionWord};
-use crate::kinds::{kind_of, KINDS};
+use crate::kinds::{kind_of, DATA, IMMEDIATE, KINDS};
 use crate::numeric::placed;
 use crate::random::Random;
-use crate::schema::{instructions, is_operand, is_plain_enum, variants, Number, Type, SIZE};
+use crate::schema::{instructions, is_plain_enum, operands, size_field, variants, Number, Type};
 use crate::values::{ends, fault, ADDRESSES, DISPLACEMENTS};
 
 /// Instructions whose operands take every end of every number; the others
@@ -21,8 +21,6 @@ const SHARE: u64 = 40;
 const EVERYWHERE: [&str; 2] = ["BRA", "LEA"];
 
 /// Places in `KINDS`.
-pub const IMMEDIATE: usize = 0;
-pub const DATA: usize = 2;
 const INDIRECT: usize = 3;
 const FULL: usize = 13;
 
@@ -69,22 +67,6 @@ fn place_of(name: &str) -> usize {
         .iter()
         .position(|variant| variant.name == name);
     found.expect("the instruction is declared")
-}
-
-/// The fields of an instruction that are operands.
-pub fn operands(place: usize) -> Vec<usize> {
-    let fields = instructions()[place].fields.iter().enumerate();
-    fields
-        .filter(|(_, kind)| is_operand(kind))
-        .map(|(field, _)| field)
-        .collect()
-}
-
-pub fn size_field(place: usize) -> Option<usize> {
-    instructions()[place]
-        .fields
-        .iter()
-        .position(|kind| std::ptr::eq(*kind, &SIZE))
 }
 
 /// Every combination of the fields that are enums without fields.

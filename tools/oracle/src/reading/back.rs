@@ -1,5 +1,5 @@
-//! Accepted instructions through encode.rs and then through a program: their
-//! plain form comes back. The judge has no part in it.
+//! Accepted instructions through encode.rs, with N2, and then through a program:
+//! their plain form comes back. The judge of runs has no part in it.
 
 use std::io;
 
@@ -72,7 +72,7 @@ fn left_out(instruction: &Instruction, address: u32) -> bool {
 pub fn replay(program: &str, seed: u64, count: usize) -> io::Result<Comparison> {
     let mut comparison = Comparison::default();
     let mut batches = Batches::new(program, |asked: &[u8], due: Expected, found: &[u8]| {
-        comparison.expected(asked, &due, found)
+        comparison.due(asked, &due, Some(found))
     });
     let mut random = Random::new(seed);
     for line in generate::lines(seed).take(count) {

@@ -1,8 +1,8 @@
 //! The judge: what a run of words reads as, by the rules of the scope.
 //!
 //! decode.rs is asked only for candidates. A run reads where encode.rs writes
-//! a candidate's plain form as exactly a beginning of it. N2 changes nothing
-//! here: a plain form has no number that it lets in.
+//! a candidate's plain form as exactly a beginning of it. N2 plays no part here:
+//! a plain form has none of its numbers.
 
 use super::plain::{is_canonical, plain};
 use super::tails::COMPLETIONS;

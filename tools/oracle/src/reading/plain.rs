@@ -3,7 +3,7 @@
 use crate::instructions::*;
 use crate::operands::{with_immediates, with_operands};
 
-/// `instruction`, which `encode` accepts, in plain form.
+/// `instruction`, which `encode` accepts or decode.rs gives, in plain form.
 pub fn plain(instruction: Instruction) -> Instruction {
     let divisor = match immediate_size(&instruction) {
         Some(Size::Byte) => 256,

@@ -54,8 +54,7 @@ fn words_of(line: &str) -> Option<Run> {
 }
 
 /// The words of every Immediate with each end that it holds, N2 included, and
-/// the same with the high byte of the second word filled, as a word of -1 has
-/// it.
+/// the same with the high byte of the second word filled.
 pub fn ends(random: &mut Random) -> Vec<Run> {
     let immediates = immediates(random);
     let lines = immediates
@@ -63,14 +62,14 @@ pub fn ends(random: &mut Random) -> Vec<Run> {
         .flat_map(|immediate| ENDS.map(|number| immediate.with(number).line()));
     lines
         .filter_map(|line| words_of(&line))
-        .flat_map(|run| [filled(&run), run])
+        .flat_map(|run| filled(&run).into_iter().chain([run]))
         .collect()
 }
 
-fn filled(run: &Run) -> Run {
+fn filled(run: &Run) -> Option<Run> {
     let mut run = run.clone();
-    run.words[1] |= 0xFF00;
-    run
+    *run.words.get_mut(1)? |= 0xFF00;
+    Some(run)
 }
 
 /// A first word of each of the 1,024 entries of the reader's table.

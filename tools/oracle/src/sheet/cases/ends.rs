@@ -9,8 +9,7 @@ use crate::draft::{Draft, Kind, Leaf};
 use crate::fill::{accepted, draft};
 use crate::kinds::KINDS;
 use crate::random::Random;
-use crate::schema::{instructions, is_bool, Variant};
-use crate::systematic::operands;
+use crate::schema::{instructions, is_bool, operands, Variant};
 
 const TRIES: u32 = 400;
 const ADDRESS: u32 = 4096;
