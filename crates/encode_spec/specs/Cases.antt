@@ -74,24 +74,24 @@ pub record Table : Type 0 where
   pub l : (at : ℕ) → Has (lea (Extended 0 0x0110 (pos 0) (pos 0)) 0) at (0x41F0 ∷ 0x0110 ∷ [])
   pub l-1 : (at : ℕ) → OutOf (lea (Extended 0 0x0110 (pos 1) (pos 0)) 0) at 19 (pos 1)
 
--- N2: a number to D0, in CHK and CHKL, as a byte whose bit is tested, as a bit number and as a count
+-- N2: a number to D0, as a bound, as a byte with a dynamic bit number, as a static bit number, as a count
 abbrev pub addi : ℕ → Size → Instruction
 addi v s = ImmediateInto ADDI v (Register (Data 0)) s
 
 abbrev pub move : ℕ → Size → Instruction
 move v s = Pair MOVE (Immediate v) (Register (Data 0)) s
 
-abbrev pub checked : UnsizedRegisterOperation → ℕ → Instruction
-checked op v = UnsizedIntoRegister op (Immediate v) (Data 0)
+abbrev pub bound : UnsizedRegisterOperation → ℕ → Instruction
+bound op v = UnsizedIntoRegister op (Immediate v) (Data 0)
 
-abbrev pub tested : ℕ → Instruction
-tested v = UnsizedPair BTST (Register (Data 1)) (Immediate v)
+abbrev pub dynamicBit : ℕ → Instruction
+dynamicBit v = UnsizedPair BTST (Register (Data 1)) (Immediate v)
 
-abbrev pub numbered : ℕ → Instruction
-numbered v = UnsizedPair BTST (Immediate v) (Register (Data 0))
+abbrev pub staticBit : ℕ → Instruction
+staticBit v = UnsizedPair BTST (Immediate v) (Register (Data 0))
 
-abbrev pub shifted : ℕ → Instruction
-shifted v = Shift LSd (Immediate v) (Register (Data 0)) Left Word
+abbrev pub shiftBy : ℕ → Instruction
+shiftBy v = Shift LSd (Immediate v) (Register (Data 0)) Left Word
 
 pub record Negatives : Type 0 where
   pub byte : (at : ℕ) → Has (addi 4294967295 Byte) at (0x0600 ∷ 0x00FF ∷ [])
@@ -108,8 +108,8 @@ pub record Negatives : Type 0 where
   pub word-past : (at : ℕ) → OutOf (move 65536 Word) at 9 (pos 65536)
   pub to-ccr : (at : ℕ) → Has (UnsizedOne MOVEtoCCR (Immediate 4294967168)) at (0x44FC ∷ 0xFF80 ∷ [])
   pub to-sr : (at : ℕ) → Has (UnsizedOne MOVEtoSR (Immediate 4294967295)) at (0x46FC ∷ 0xFFFF ∷ [])
-  pub chk : (at : ℕ) → Has (checked CHK 4294967295) at (0x41BC ∷ 0xFFFF ∷ [])
-  pub chk-long : (at : ℕ) → Has (checked CHKL 4294967295) at (0x413C ∷ 0xFFFF ∷ 0xFFFF ∷ [])
-  pub bit-of : (at : ℕ) → Has (tested 4294967295) at (0x033C ∷ 0x00FF ∷ [])
-  pub bit-number : (at : ℕ) → OutOf (numbered 4294967295) at 12 (pos 4294967295)
-  pub count : (at : ℕ) → OutOf (shifted 4294967295) at 10 (pos 4294967295)
+  pub bound-word : (at : ℕ) → Has (bound CHK 4294967295) at (0x41BC ∷ 0xFFFF ∷ [])
+  pub bound-long : (at : ℕ) → Has (bound CHKL 4294967295) at (0x413C ∷ 0xFFFF ∷ 0xFFFF ∷ [])
+  pub dynamic-bit : (at : ℕ) → Has (dynamicBit 4294967295) at (0x033C ∷ 0x00FF ∷ [])
+  pub static-bit : (at : ℕ) → OutOf (staticBit 4294967295) at 12 (pos 4294967295)
+  pub count : (at : ℕ) → OutOf (shiftBy 4294967295) at 10 (pos 4294967295)

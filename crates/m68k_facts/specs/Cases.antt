@@ -57,9 +57,9 @@ negatives =
       word-past = λ at. refl;
       to-ccr = λ at. refl;
       to-sr = λ at. refl;
-      chk = λ at. refl;
-      chk-long = λ at. refl;
-      bit-of = λ at. refl;
-      bit-number = λ at. refl;
+      bound-word = λ at. refl;
+      bound-long = λ at. refl;
+      dynamic-bit = λ at. refl;
+      static-bit = λ at. refl;
       count = λ at. refl;
     }
