@@ -1,16 +1,15 @@
--- Laws of the table of ranges and of signed numbers. Assumes nothing.
-use Prim.Native.Nat.{ℕ, suc, zero, _-_, _^_, _<_}
-use mathlib.Core.Path.{_≡_, refl}
-use mathlib.Core.Bool.{Bool, true, _&&_}
+-- Laws of powers, bits and signed numbers, and of the size of a field. Assumes nothing.
+use Prim.Native.Nat.{ℕ, suc, _-_, _*_, _%_, _^_, _≤_, _<_}
+use mathlib.Core.Path.{_≡_, refl, _∙_}
+use mathlib.Core.Bool.{Bool, true, false}
 use mathlib.Core.List.{List, [], _∷_}
 use mathlib.Core.Option.{none}
 use lib.IntN.{ℤ, pos, negsuc}
-use lib.Signed.{mag}
-use lib.ListN.{getD}
-use lib.Dec.{T, ltb, eqb}
-use mir.Val.{SFits, toZ, ofZ}
+use lib.Dec.{eqb, lit<}
+use lib.Pow.{shl-exact, pow-pos, pow-mono}
+use mir.Val.{SFits, toZ, ofZ, boolByte}
 use mir.Syntax.{w64}
-use mir.Facts.{toZ-ofZ, sfits-lit}
+use native.Mathlib.Nat.{one-mul}
 use native.Mathlib.Omega.{arith}
 use borrow.Author.Tests.{ne-eqb}
 use types.Run.{OneOf, miss}
@@ -20,22 +19,19 @@ use Rattle.isa.specs.declared.Field.{Field}
 use Rattle.isa.specs.declared.Field.the-variants as field
 use Rattle.isa.specs.declared.Size.{Size}
 use Rattle.isa.specs.declared.Size.the-variants.{Byte, Word, Long}
-use Rattle.base_facts.specs.Tests.{T-and}
-use Rattle.isa.specs.declared.Range.{Range}
-use Rattle.isa_spec.specs.Field.{isZero, between, ranges, immediateSize, topOf}
+use Rattle.isa_spec.specs.Code.{bit}
+use Rattle.isa_spec.specs.Field.{isZero, immediateSize, topOf}
 
-abbrev lowFit : List Range → Bool
-lowFit [] = true
-lowFit (p ∷ ps) = ltb (mag (p .low)) (2 ^ 63) && lowFit ps
+-- 1 shifted to a place below 33
+pub one-shl : (w : ℕ) → w < 33 → (1 * 2 ^ w) % 2 ^ 64 ≡ 2 ^ w
+one-shl w h = shl-exact {a = 1} 1 w 64 (lit< tt) (omega arith) ∙ one-mul (2 ^ w)
 
-elem-sfits : (l : List Range) → T (lowFit l) → (i : ℕ) → SFits w64 (getD l i (between (pos 0) (pos 0)) .low)
-elem-sfits [] h i = sfits-lit tt
-elem-sfits (p ∷ ps) h zero = sfits-lit {w = w64} {z = p .low} (T-and (ltb (mag (p .low)) (2 ^ 63)) (lowFit ps) h .0)
-elem-sfits (p ∷ ps) h (suc i) = elem-sfits ps (T-and (ltb (mag (p .low)) (2 ^ 63)) (lowFit ps) h .1) i
+pub power-bounds : (w : ℕ) → w < 33 → (1 ≤ 2 ^ w) × (2 ^ w ≤ 4294967296)
+power-bounds w h = (pow-pos w, pow-mono {i = w} {j = 32} (omega arith))
 
-pub low-read : (i : ℕ) → toZ w64 (ofZ w64 (getD ranges i (between (pos 0) (pos 0)) .low)) ≡ getD ranges i (between (pos 0) (pos 0)) .low
-unfolding ranges
-low-read i = toZ-ofZ {w = w64} (elem-sfits ranges tt i)
+pub bool-bit : (b : Bool) → boolByte b ≡ bit b
+bool-bit true = refl
+bool-bit false = refl
 
 pub zero-bits : (z : ℤ) → SFits w64 z → eqb (ofZ w64 z) 0 ≡ isZero z
 zero-bits (pos n) h = refl

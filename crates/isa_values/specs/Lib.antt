@@ -5,5 +5,7 @@ pub mod ExtensionWord
 pub mod Fields
 pub mod IndexBase
 pub mod Made
+pub mod PairLaws
+pub mod Pairs
 pub mod RegisterOperand
 pub mod Size
