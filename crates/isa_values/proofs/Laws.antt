@@ -1,4 +1,4 @@
--- Laws of powers, bits and signed numbers, and of the size of a field. Assumes nothing.
+-- Laws of powers, bits and signed numbers, and that no field but Immediate has a size. Assumes nothing.
 use Prim.Native.Nat.{ℕ, suc, _-_, _*_, _%_, _^_, _≤_, _<_}
 use mathlib.Core.Path.{_≡_, refl, _∙_}
 use mathlib.Core.Bool.{Bool, true, false}
@@ -7,7 +7,7 @@ use mathlib.Core.Option.{none}
 use lib.IntN.{ℤ, pos, negsuc}
 use lib.Dec.{eqb, lit<}
 use lib.Pow.{shl-exact, pow-pos, pow-mono}
-use mir.Val.{SFits, toZ, ofZ, boolByte}
+use mir.Val.{SFits, ofZ, boolByte}
 use mir.Syntax.{w64}
 use native.Mathlib.Nat.{one-mul}
 use native.Mathlib.Omega.{arith}
@@ -17,12 +17,9 @@ use denote.Enum.Declared.{tagOf}
 use Rattle.isa.proofs.Field.{the-type}
 use Rattle.isa.specs.declared.Field.{Field}
 use Rattle.isa.specs.declared.Field.the-variants as field
-use Rattle.isa.specs.declared.Size.{Size}
-use Rattle.isa.specs.declared.Size.the-variants.{Byte, Word, Long}
 use Rattle.isa_spec.specs.Code.{bit}
-use Rattle.isa_spec.specs.Field.{isZero, immediateSize, topOf}
+use Rattle.isa_spec.specs.Field.{isZero, immediateSize}
 
--- 1 shifted to a place below 33
 pub one-shl : (w : ℕ) → w < 33 → (1 * 2 ^ w) % 2 ^ 64 ≡ 2 ^ w
 one-shl w h = shl-exact {a = 1} 1 w 64 (lit< tt) (omega arith) ∙ one-mul (2 ^ w)
 
@@ -36,11 +33,6 @@ bool-bit false = refl
 pub zero-bits : (z : ℤ) → SFits w64 z → eqb (ofZ w64 z) 0 ≡ isZero z
 zero-bits (pos n) h = refl
 zero-bits (negsuc n) h = let q : n < 2 ^ 63 = h .sfits in ne-eqb (2 ^ 64 - suc n) 0 (λ (e : 2 ^ 64 - suc n ≡ 0). omega arith)
-
-pub top-read : (s : Size) → toZ w64 (topOf s) ≡ pos (topOf s)
-top-read Byte = refl
-top-read Word = refl
-top-read Long = refl
 
 -- the tags of the fields other than Immediate
 abbrev pub others : List ℕ

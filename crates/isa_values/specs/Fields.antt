@@ -1,4 +1,4 @@
--- What the fields of a register and of a bit field hold of the numbers from 0 on: rows 14 and 20 of the table.
+-- What the fields of a register and of a bit field hold of the numbers from 0 on: the pairs of fields 14 and 20.
 use Prim.Native.Nat.{ℕ}
 use mathlib.Core.Path.{_≡_}
 use lib.IntN.{pos}

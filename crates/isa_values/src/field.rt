@@ -1,8 +1,9 @@
 // The fields that hold a number.
 ghost use mathlib.Core.Path.{_≡_};
 ghost use Prim.Native.Nat.{_<_};
-ghost use Rattle.isa_values.specs.Pairs.{isSigned, widthOf, top, pairOfNumber};
-ghost use Rattle.isa_spec.specs.Field.{fieldNumber, immediateSize, lowest, highest, topOf, alsoHolds, holds};
+ghost use Rattle.isa_values.specs.Pairs.{isSigned, signedWidth, unsignedWidth, signedPair, unsignedPair, pairOfNumber};
+ghost use Rattle.isa_spec.specs.Field.{fieldNumber, immediateSize, lowest, highest, alsoHolds, holds};
+use crate::size::to_bits;
 use isa::Field;
 use isa::Range;
 use isa::Size;
@@ -35,86 +36,85 @@ pub fn number(field: Field) -> u8
     }
 }
 
-// The largest number of a size.
-pub fn mask(size: Size) -> u32
-    ensures { λ r. ⌜ r ≡ topOf size ⌝ }
-{
-    match size {
-        Size::Byte => 255,
-        Size::Word => 65535,
-        Size::Long => 4294967295,
-    }
-}
-
-// Whether the field of a number is signed: the displacements and a short address.
+// Whether the field with this number is signed: a displacement that has bits, or a short address.
 fn is_signed(number: u8) -> bool
     ensures { λ r. ⌜ r ≡ isSigned number ⌝ }
 {
     (number < 8) | (number == 13) | (number == 15) | (number == 17) | (number == 18)
 }
 
-// The width in bits of the field of a number. A bit number and the displacement of a short branch or
-// an index have a byte, the other signed fields a word, a long address and an immediate a long. Of
-// the rest a trap vector has 4 bits, a bit field 5, a null displacement none, the others 3.
-fn width(number: u8) -> u32
-    ensures { λ r. ⌜ (r ≡ widthOf number) × (r < 33) ⌝ }
+// The bits of a signed field: a byte in a short branch and beside an index, or else a word.
+fn signed_width(number: u8) -> usize
+    ensures { λ r. ⌜ (r ≡ signedWidth number) × (0 < r) × (r < 33) ⌝ }
 {
-    if (number == 1) | (number == 4) | (number == 6) | (number == 12) {
-        return 8;
+    if (number == 1) | (number == 4) | (number == 6) {
+        8
+    } else {
+        16
     }
-    if is_signed(number) {
-        return 16;
-    }
+}
+
+// The bits of any other field: a long address and an Immediate of Long have a long, a bit number a
+// byte, a trap vector 4 bits, a bit field 5, a null displacement none; the others have 3.
+fn unsigned_width(number: u8) -> usize
+    ensures { λ r. ⌜ (r ≡ unsignedWidth number) × (r < 33) ⌝ }
+{
     if number < 10 {
         return 32;
     }
     if number == 11 {
         return 4;
     }
-    if number == 20 {
-        return 5;
+    if number == 12 {
+        return 8;
     }
-    if number == 19 { 0 } else { 3 }
+    if number == 19 {
+        return 0;
+    }
+    if number == 20 { 5 } else { 3 }
 }
 
-// The largest number of the width.
-fn top(number: u8) -> u64
-    ensures { λ r. ⌜ (r ≡ top number) × (r < 4294967296) ⌝ }
+// The pair of so many bits, half of it below 0.
+fn signed_pair(width: usize) -> Range
+    requires { ⌜ (0 < width) × (width < 33) ⌝ }
+    ensures { λ r. ⌜ r ≡ signedPair width ⌝ }
 {
-    (1u64 << width(number)) - 1
+    let top = ((1u64 << (width - 1)) - 1) as i64;
+    Range {
+        low: -1 - top,
+        high: top,
+    }
 }
 
-// The pair of the field of a number, from its sign and its width; a count begins at 1.
+// The pair of so many bits from the first number on.
+fn unsigned_pair(width: usize, first: u64) -> Range
+    requires { ⌜ (width < 33) × (first < 2) ⌝ }
+    ensures { λ r. ⌜ r ≡ unsignedPair width first ⌝ }
+{
+    Range {
+        low: first as i64,
+        high: ((1u64 << width) - 1 + first) as i64,
+    }
+}
+
+// The pair of the field with this number, from its sign and its width; Count begins at 1.
 fn pair(number: u8) -> Range
     ensures { λ r. ⌜ r ≡ pairOfNumber number ⌝ }
 {
-    let top = top(number);
     if is_signed(number) {
-        let half = (top / 2) as i64;
-        return Range {
-            low: -1 - half,
-            high: half,
-        };
+        return signed_pair(signed_width(number));
     }
-    let first = (number == 10) as u64;
-    Range {
-        low: first as i64,
-        high: (top + first) as i64,
-    }
+    unsigned_pair(unsigned_width(number), (number == 10) as u64)
 }
 
-// The pair of a field, an Immediate's by its size.
+// The pair of a field; an Immediate has the bits of its size.
 pub fn range(field: Field) -> Range
     ensures { λ r. ⌜ (r .low ≡ lowest field) × (r .high ≡ highest field) ⌝ }
 {
-    let ends = pair(number(field));
     let Field::Immediate(size) = field else {
-        return ends;
+        return pair(number(field));
     };
-    Range {
-        low: ends.low,
-        high: mask(size) as i64,
-    }
+    unsigned_pair(to_bits(size), 0)
 }
 
 // Whether an Immediate holds the value beside its pair: -128 to -1 as a byte, -32768 to -1 as a

@@ -1,5 +1,5 @@
 // The functions on the values of an instruction, as the Rust's encoded.rs has them, and those on
-// its fields, as encode.rs has them but for `field::also_holds` in `field::holds`: a module for
+// its fields, with encode.rs's results but for `field::also_holds` in `field::holds`: a module for
 // each type.
 pub mod bit_field_operation;
 pub mod code;

@@ -1,36 +1,33 @@
 use borrow.Author.Needs.{needs}
 use Rattle.isa_values.proofs.field.range.Statement.{statement}
 use Rattle.isa_values.proofs.field.range.Tie as tie
-use mathlib.Core.Path.{_≡_, refl, ap, _∙_}
-use mir.Facts.{toZ-ofZ}
-use mir.Syntax.{w64}
-use Rattle.isa_spec.specs.Field.{pairOf}
-use Rattle.isa_values.specs.PairLaws.{pair-of-number}
-use Rattle.isa_values.proofs.Laws.{top-read, no-size}
+use mathlib.Core.Path.{_≡_, refl}
+use lib.IntN.{pos}
+use Rattle.isa_spec.specs.Field.{between, ranges, pairOf, topOf}
+use Rattle.isa_values.specs.PairLaws.{pair-of-number, size-pair}
+use Rattle.isa_values.proofs.Laws.{no-size}
 
 returns : tie.Need-returns
 returns c =
-    let n = c .before .before .number in
-    let e : c .before .pair .result ≡ pairOf (c .before .before .before .args .field) = rw (c .before .pair .ensures, ← n .ensures .0) (pair-of-number (n .result) (n .ensures .1) (n .ensures .2)) in
-    rw (e, no-size (c .before .before .before .args .field) (c .match .keys2)) (refl, refl)
+    let n = c .before .number in
+    let e : c .pair .result ≡ pairOf (c .before .before .before .args .field) = rw (c .pair .ensures, ← n .ensures .0) (pair-of-number (n .result) (n .ensures .1) (n .ensures .2)) in
+    rw (e, no-size (c .before .before .before .args .field) (c .before .before .match .keys2)) (refl, refl)
 
 returns-2 : tie.Need-returns-2
+unfolding ranges
 returns-2 c =
-    let n = c .before .before .before .before .before .before .number in
-    let p = c .before .before .before .before .before .pair in
-    let e : p .result ≡ pairOf (c .before .before .before .before .before .before .before .args .field) = rw (p .ensures, ← n .ensures .0) (pair-of-number (n .result) (n .ensures .1) (n .ensures .2)) in (
-      rw (toZ-ofZ {w = w64} {z = p .result .low} (search needs), e) refl,
-      rw (c .before .mask .ensures, c .before .before .before .field .given .1) (top-read (c .before .before .before .field .given .0 .0)),
-    )
+    let s = c .before .before .before .field .given .0 .0 in
+    let e : c .unsigned-pair .result ≡ between (pos 0) (pos (topOf s)) = rw (c .unsigned-pair .ensures, c .before .to-bits .ensures .0) (size-pair s) in
+    rw (e, c .before .before .before .field .given .1) (refl, refl)
 
 pub range-spec : {M : Type 1} → statement M
 range-spec =
     tie.close
     (tie.spec
-    (λ c κs. search needs)
-    (λ c κs. search needs)
     (λ c. search needs)
+    (λ c κs. search needs)
+    (λ c κs. search needs)
     returns
     (λ c κs. search needs)
-    (λ c. search needs)
+    (λ c κs. search needs)
     returns-2)
