@@ -1,13 +1,12 @@
--- Laws of powers, bits and signed numbers, and that no field but Immediate has a size. Assumes nothing.
+-- Laws of powers and signed numbers, and that no field but Immediate has a size. Assumes nothing.
 use Prim.Native.Nat.{ℕ, suc, _-_, _*_, _%_, _^_, _≤_, _<_}
 use mathlib.Core.Path.{_≡_, refl, _∙_}
-use mathlib.Core.Bool.{Bool, true, false}
 use mathlib.Core.List.{List, [], _∷_}
 use mathlib.Core.Option.{none}
 use lib.IntN.{ℤ, pos, negsuc}
 use lib.Dec.{eqb, lit<}
 use lib.Pow.{shl-exact, pow-pos, pow-mono}
-use mir.Val.{SFits, ofZ, boolByte}
+use mir.Val.{SFits, ofZ}
 use mir.Syntax.{w64}
 use native.Mathlib.Nat.{one-mul}
 use native.Mathlib.Omega.{arith}
@@ -17,7 +16,6 @@ use denote.Enum.Declared.{tagOf}
 use Rattle.isa.proofs.Field.{the-type}
 use Rattle.isa.specs.declared.Field.{Field}
 use Rattle.isa.specs.declared.Field.the-variants as field
-use Rattle.isa_spec.specs.Code.{bit}
 use Rattle.isa_spec.specs.Field.{isZero, immediateSize}
 
 pub one-shl : (w : ℕ) → w < 33 → (1 * 2 ^ w) % 2 ^ 64 ≡ 2 ^ w
@@ -25,10 +23,6 @@ one-shl w h = shl-exact {a = 1} 1 w 64 (lit< tt) (omega arith) ∙ one-mul (2 ^ 
 
 pub power-bounds : (w : ℕ) → w < 33 → (1 ≤ 2 ^ w) × (2 ^ w ≤ 4294967296)
 power-bounds w h = (pow-pos w, pow-mono {i = w} {j = 32} (omega arith))
-
-pub bool-bit : (b : Bool) → boolByte b ≡ bit b
-bool-bit true = refl
-bool-bit false = refl
 
 pub zero-bits : (z : ℤ) → SFits w64 z → eqb (ofZ w64 z) 0 ≡ isZero z
 zero-bits (pos n) h = refl

@@ -22,17 +22,17 @@ pub by-number : map pairOfNumber (upFrom 1 20) ≡ ranges
 unfolding ranges
 by-number = refl
 
-listed : (k n i : ℕ) (d : Range) → i < n → getD (map pairOfNumber (upFrom k n)) i d ≡ pairOfNumber (k + i)
-listed k zero i d h = absurd (omega arith)
-listed k (suc n) zero d h = let e : k ≡ k + 0 = omega arith in ap pairOfNumber e
-listed k (suc n) (suc i) d h =
+at-place : (k n i : ℕ) (d : Range) → i < n → getD (map pairOfNumber (upFrom k n)) i d ≡ pairOfNumber (k + i)
+at-place k zero i d h = absurd (omega arith)
+at-place k (suc n) zero d h = let e : k ≡ k + 0 = omega arith in ap pairOfNumber e
+at-place k (suc n) (suc i) d h =
     let e : suc k + i ≡ k + suc i = omega arith in
-    listed (suc k) n i d (omega arith) ∙ ap pairOfNumber e
+    at-place (suc k) n i d (omega arith) ∙ ap pairOfNumber e
 
-pub pair-of-number : (n : ℕ) → 0 < n → n < 21 → pairOfNumber n ≡ getD ranges (n - 1) (between (pos 0) (pos 0))
-pair-of-number n h g =
+pub number-pair : (n : ℕ) → 0 < n → n < 21 → pairOfNumber n ≡ getD ranges (n - 1) (between (pos 0) (pos 0))
+number-pair n h g =
     let e : 1 + (n - 1) ≡ n = omega arith in
-    rw (← by-number, listed 1 20 (n - 1) (between (pos 0) (pos 0)) (omega arith)) (ap pairOfNumber (sym e))
+    rw (← by-number, at-place 1 20 (n - 1) (between (pos 0) (pos 0)) (omega arith)) (ap pairOfNumber (sym e))
 
 -- an Immediate has the bits of its size
 pub size-pair : (s : Size) → unsignedPair (bitCount s) 0 ≡ between (pos 0) (pos (topOf s))

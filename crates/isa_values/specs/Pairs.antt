@@ -1,5 +1,5 @@
--- How the code works out the pair of a field (02, N3): from its number sign and width in bits, from these the pair. That the
--- pairs are those of the definition is `by-number`.
+-- How the code works out the pair of a field (02, N3): the field's number gives sign, width in bits and the first value, and
+-- these give the pair. That the pairs are those of the definition is `by-number`.
 use Prim.Native.Nat.{ℕ, _+_, _-_, _^_}
 use mathlib.Core.Bool.{Bool, cond, _||_}
 use lib.Dec.{ltb, eqb}
@@ -21,7 +21,7 @@ unsignedWidth n = cond (ltb n 10) 32 (cond (eqb n 11) 4 (cond (eqb n 12) 8 (cond
 abbrev pub signedPair : ℕ → Range
 signedPair w = between (negsuc (2 ^ (w - 1) - 1)) (pos (2 ^ (w - 1) - 1))
 
--- 2^w numbers from the first on
+-- 2^w values from the first on
 abbrev pub unsignedPair : ℕ → ℕ → Range
 unsignedPair w first = between (pos first) (pos (2 ^ w - 1 + first))
 

@@ -3,6 +3,7 @@ ghost use mathlib.Core.Path.{_≡_};
 ghost use Prim.Native.Nat.{_<_};
 ghost use Rattle.isa_values.specs.Pairs.{isSigned, signedWidth, unsignedWidth, signedPair, unsignedPair, pairOfNumber};
 ghost use Rattle.isa_spec.specs.Field.{fieldNumber, immediateSize, lowest, highest, alsoHolds, holds};
+use crate::code::bit;
 use crate::size::to_bits;
 use isa::Field;
 use isa::Range;
@@ -43,7 +44,7 @@ fn is_signed(number: u8) -> bool
     (number < 8) | (number == 13) | (number == 15) | (number == 17) | (number == 18)
 }
 
-// The bits of a signed field: a byte in a short branch and beside an index, or else a word.
+// The bits of a signed field: a byte in a short branch, d8(PC,Xn) and d8(An,Xn), or else a word.
 fn signed_width(number: u8) -> usize
     ensures { λ r. ⌜ (r ≡ signedWidth number) × (0 < r) × (r < 33) ⌝ }
 {
@@ -74,7 +75,7 @@ fn unsigned_width(number: u8) -> usize
     if number == 20 { 5 } else { 3 }
 }
 
-// The pair of so many bits, half of it below 0.
+// The pair of so many bits, half of its values below 0.
 fn signed_pair(width: usize) -> Range
     requires { ⌜ (0 < width) × (width < 33) ⌝ }
     ensures { λ r. ⌜ r ≡ signedPair width ⌝ }
@@ -86,7 +87,7 @@ fn signed_pair(width: usize) -> Range
     }
 }
 
-// The pair of so many bits from the first number on.
+// The pair of so many bits, from the first value on.
 fn unsigned_pair(width: usize, first: u64) -> Range
     requires { ⌜ (width < 33) × (first < 2) ⌝ }
     ensures { λ r. ⌜ r ≡ unsignedPair width first ⌝ }
@@ -98,13 +99,13 @@ fn unsigned_pair(width: usize, first: u64) -> Range
 }
 
 // The pair of the field with this number, from its sign and its width; Count begins at 1.
-fn pair(number: u8) -> Range
+fn pair_of_number(number: u8) -> Range
     ensures { λ r. ⌜ r ≡ pairOfNumber number ⌝ }
 {
     if is_signed(number) {
         return signed_pair(signed_width(number));
     }
-    unsigned_pair(unsigned_width(number), (number == 10) as u64)
+    unsigned_pair(unsigned_width(number), bit(number == 10) as u64)
 }
 
 // The pair of a field; an Immediate has the bits of its size.
@@ -112,7 +113,7 @@ pub fn range(field: Field) -> Range
     ensures { λ r. ⌜ (r .low ≡ lowest field) × (r .high ≡ highest field) ⌝ }
 {
     let Field::Immediate(size) = field else {
-        return pair(number(field));
+        return pair_of_number(number(field));
     };
     unsigned_pair(to_bits(size), 0)
 }

@@ -4,13 +4,13 @@ use Rattle.isa_values.proofs.field.range.Tie as tie
 use mathlib.Core.Path.{_≡_, refl}
 use lib.IntN.{pos}
 use Rattle.isa_spec.specs.Field.{between, ranges, pairOf, topOf}
-use Rattle.isa_values.specs.PairLaws.{pair-of-number, size-pair}
+use Rattle.isa_values.specs.PairLaws.{number-pair, size-pair}
 use Rattle.isa_values.proofs.Laws.{no-size}
 
 returns : tie.Need-returns
 returns c =
     let n = c .before .number in
-    let e : c .pair .result ≡ pairOf (c .before .before .before .args .field) = rw (c .pair .ensures, ← n .ensures .0) (pair-of-number (n .result) (n .ensures .1) (n .ensures .2)) in
+    let e : c .pair-of-number .result ≡ pairOf (c .before .before .before .args .field) = rw (c .pair-of-number .ensures, ← n .ensures .0) (number-pair (n .result) (n .ensures .1) (n .ensures .2)) in
     rw (e, no-size (c .before .before .before .args .field) (c .before .before .match .keys2)) (refl, refl)
 
 returns-2 : tie.Need-returns-2
