@@ -37,6 +37,9 @@ use std::io::{self, BufWriter, Read, Write};
 use std::process::ExitCode;
 use std::{env, fs};
 
+use reading::answer::text;
+use reading::{back, sweep};
+
 const USAGE: &str =
     "oracle generate SEED COUNT | list SEED COUNT | answer | answer-rust | compare A B [LINES]
        | coverage | manual
@@ -103,8 +106,8 @@ fn run(arguments: &[&str]) -> Result<usize, Box<dyn Error>> {
 fn against(command: &str, program: &str, seed: u64, count: usize) -> Result<usize, Box<dyn Error>> {
     match command {
         "replay" => different(replay::replay(program, seed, count)?),
-        "read-replay" => different(reading::sweep::replay(program, seed, count)?),
-        "read-back" => different(reading::back::replay(program, seed, count)?),
+        "read-replay" => different(sweep::replay(text, program, seed, count)?),
+        "read-back" => different(back::replay(text, program, seed, count)?),
         "read-decode" => unexplained(reading::decoder::compare(program, seed, count)?),
         "read-objdump" => unexplained(reading::objdump::compare(program, seed, count)?),
         "bytes-replay" => different(bytes::replay::replay(program, seed, count)?),

@@ -3,7 +3,7 @@
 
 use std::io;
 
-use super::answer::text;
+use super::answer::Text;
 use super::judge::Reading;
 use super::plain::plain;
 use super::run::Run;
@@ -28,7 +28,7 @@ pub struct Due {
 }
 
 impl Due {
-    fn expected(&self) -> Expected {
+    fn expected(&self, text: Text) -> Expected {
         let text = text(Reading::Read(self.instruction, self.bytes));
         Expected::new(text, self.of_n2)
     }
@@ -68,8 +68,8 @@ fn left_out(instruction: &Instruction, address: u32) -> bool {
     }
 }
 
-/// Compares the accepted ones of `count` generated lines.
-pub fn replay(program: &str, seed: u64, count: usize) -> io::Result<Comparison> {
+/// Compares the accepted ones of `count` generated lines, answered by `text`.
+pub fn replay(text: Text, program: &str, seed: u64, count: usize) -> io::Result<Comparison> {
     let mut comparison = Comparison::default();
     let mut batches = Batches::new(program, |asked: &[u8], due: Expected, found: &[u8]| {
         comparison.due(asked, &due, Some(found))
@@ -77,7 +77,7 @@ pub fn replay(program: &str, seed: u64, count: usize) -> io::Result<Comparison> 
     let mut random = Random::new(seed);
     for line in generate::lines(seed).take(count) {
         if let Some(due) = due(&line, &mut random) {
-            batches.push(due.run.line().as_bytes(), due.expected())?;
+            batches.push(due.run.line().as_bytes(), due.expected(text))?;
         }
     }
     batches.finish()?;

@@ -10,6 +10,21 @@ struct Class {
     example: String,
 }
 
+/// How an answer stands to what it is compared with.
+pub enum Verdict {
+    Same,
+    /// The difference has a rule of this name.
+    Class(String),
+    Unexplained,
+}
+
+impl Verdict {
+    /// That of a difference, by its class.
+    pub fn different(class: Option<String>) -> Verdict {
+        class.map_or(Verdict::Unexplained, Verdict::Class)
+    }
+}
+
 #[derive(Default)]
 pub struct Classes {
     same: usize,
@@ -18,21 +33,17 @@ pub struct Classes {
 }
 
 impl Classes {
-    pub fn same(&mut self) {
-        self.same += 1;
-    }
-
-    /// Counts a difference; without a class it is unexplained.
-    pub fn different(&mut self, class: Option<String>, example: impl FnOnce() -> String) {
-        match class {
-            Some(name) => {
+    pub fn count(&mut self, verdict: Verdict, example: impl FnOnce() -> String) {
+        match verdict {
+            Verdict::Same => self.same += 1,
+            Verdict::Class(name) => {
                 let class = self.classes.entry(name).or_insert_with(|| Class {
                     count: 0,
                     example: example(),
                 });
                 class.count += 1;
             }
-            None => {
+            Verdict::Unexplained => {
                 self.unexplained += 1;
                 if self.unexplained <= SHOWN {
                     println!("unexplained: {}", example());

@@ -3,7 +3,7 @@
 use std::io;
 
 use super::answer::{text, NOTHING, SHORT};
-use super::classes::Classes;
+use super::classes::{Classes, Verdict};
 use super::judge::{with_written_register, Reading};
 use super::plain::plain;
 use super::run::Run;
@@ -14,17 +14,27 @@ use crate::instructions::Instruction;
 use crate::machine::decode::{decode_words, Decoded};
 use crate::machine::Processor;
 
+/// How a program's answer stands to what decode.rs says.
+type Judge = fn(&Run, Option<Decoded>, &str) -> Verdict;
+
 pub fn compare(program: &str, seed: u64, tails: usize) -> io::Result<Classes> {
+    compare_by(Processor::M68020, verdict, program, seed, tails)
+}
+
+pub fn compare_by(
+    processor: Processor,
+    judge: Judge,
+    program: &str,
+    seed: u64,
+    tails: usize,
+) -> io::Result<Classes> {
     let mut classes = Classes::default();
     let mut batches = Batches::new(program, |asked: &[u8], run: Run, found: &[u8]| {
         let found = String::from_utf8_lossy(found);
-        let decoded = decoded(&run);
-        let decoder = decoder_text(decoded);
-        if decoder == found {
-            return classes.same();
-        }
-        classes.different(class(&run, decoded, &found), || {
+        let decoded = decoded(&run, processor);
+        classes.count(judge(&run, decoded, &found), || {
             let asked = String::from_utf8_lossy(asked);
+            let decoder = decoder_text(decoded);
             format!("{asked:?}: {found:?}, decode.rs {decoder:?}")
         });
     });
@@ -35,12 +45,12 @@ pub fn compare(program: &str, seed: u64, tails: usize) -> io::Result<Classes> {
     Ok(classes)
 }
 
-fn decoded(run: &Run) -> Option<Decoded> {
-    decode_words(&run.words, run.address, Processor::M68020).ok()
+pub fn decoded(run: &Run, processor: Processor) -> Option<Decoded> {
+    decode_words(&run.words, run.address, processor).ok()
 }
 
 /// What decode.rs says in the form of an answer; words that ran out as 5.
-fn decoder_text(decoded: Option<Decoded>) -> String {
+pub fn decoder_text(decoded: Option<Decoded>) -> String {
     match decoded {
         Some(decoded) => read_text(decoded.instruction, decoded),
         None => SHORT.to_string(),
@@ -49,6 +59,13 @@ fn decoder_text(decoded: Option<Decoded>) -> String {
 
 fn read_text(instruction: Instruction, decoded: Decoded) -> String {
     text(Reading::Read(instruction, decoded.size as usize))
+}
+
+fn verdict(run: &Run, decoded: Option<Decoded>, found: &str) -> Verdict {
+    match decoder_text(decoded) == found {
+        true => Verdict::Same,
+        false => Verdict::different(class(run, decoded, found)),
+    }
 }
 
 /// The rule that explains a difference.

@@ -28,14 +28,22 @@ pub fn read(words: &[u16], address: u32) -> Reading {
     if let Some((instruction, count)) = read_from(1, words, address) {
         return Reading::Read(instruction, 2 * count);
     }
-    let longer = |tail: &[u16; MOST_WORDS]| {
-        let run = [words, tail].concat();
-        read_from(words.len() + 1, &run, address).is_some()
-    };
-    match words.len() < MOST_WORDS && COMPLETIONS.iter().any(longer) {
-        true => Reading::Short,
-        false => Reading::Nothing,
+    match longer(words, address) {
+        Some(_) => Reading::Short,
+        None => Reading::Nothing,
     }
+}
+
+/// What some longer run reads as, where no beginning of `words` reads.
+pub fn longer(words: &[u16], address: u32) -> Option<Instruction> {
+    if words.len() >= MOST_WORDS {
+        return None;
+    }
+    COMPLETIONS.iter().find_map(|tail| {
+        let run = [words, tail].concat();
+        let (instruction, _) = read_from(words.len() + 1, &run, address)?;
+        Some(instruction)
+    })
 }
 
 /// The shortest beginning of at least `fewest` words that an instruction

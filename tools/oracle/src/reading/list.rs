@@ -8,7 +8,7 @@ use super::malformed;
 use super::run::Run;
 use super::samples::{encoded, ends, first_words, groups, placed_words, unused, worked};
 use crate::answer::NOT_IN_FORM;
-use crate::manual;
+use crate::manual::{self, Example};
 use crate::random::Random;
 
 /// Small letters, and runs far longer than an instruction.
@@ -21,27 +21,42 @@ const SMALL: [&str; 5] = [
 ];
 const LONG: usize = 400;
 
+/// One first word in so many is sampled; odd, so that all low bits come.
+const STEP: usize = 13;
+
+/// Runs with an unused bit set.
+const UNUSED: usize = 600;
+
 /// The last line, a NOP, which lacks its LF.
 const LAST: &str = "0\t4E71";
 
 pub fn write(seed: u64, output: &mut impl Write) -> io::Result<()> {
+    write_lines(&manual::readings(), &runs(seed), LAST, output)
+}
+
+/// Writes worked readings, runs and lines that are not in the form, none of
+/// them twice, and `last` without its LF.
+pub fn write_lines(
+    worked: &[Example],
+    runs: &[Run],
+    last: &str,
+    output: &mut impl Write,
+) -> io::Result<()> {
     let mut seen = HashSet::new();
-    for line in lines(seed) {
+    for line in lines(worked, runs) {
         if seen.insert(line.clone()) {
             output.write_all(&line)?;
             output.write_all(b"\n")?;
         }
     }
-    output.write_all(LAST.as_bytes())?;
+    output.write_all(last.as_bytes())?;
     output.flush()
 }
 
-fn lines(seed: u64) -> Vec<Vec<u8>> {
-    let mut lines: Vec<Vec<u8>> = manual::readings()
-        .iter()
-        .map(|example| example.line.as_bytes().to_vec())
-        .collect();
-    lines.extend(runs(seed).iter().map(|run| run.line().into_bytes()));
+fn lines(worked: &[Example], runs: &[Run]) -> Vec<Vec<u8>> {
+    let worked = worked.iter().map(|example| example.line.as_bytes());
+    let mut lines: Vec<Vec<u8>> = worked.map(<[u8]>::to_vec).collect();
+    lines.extend(runs.iter().map(|run| run.line().into_bytes()));
     lines.extend(SMALL.map(|line| line.as_bytes().to_vec()));
     lines.extend(long());
     for line in malformed::lines() {
@@ -58,12 +73,12 @@ fn runs(seed: u64) -> Vec<Run> {
         worked(),
         placed_words(),
         groups(&mut random),
-        first_words(&mut random),
+        first_words(STEP, &mut random),
         encoded.alone,
         encoded.behind,
         encoded.beginnings,
         encoded.changed,
-        unused(&mut random),
+        unused(UNUSED, &mut random),
         ends(&mut random),
     ]
     .concat()

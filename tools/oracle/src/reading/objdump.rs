@@ -6,7 +6,7 @@ use std::process::{Command, Stdio};
 use std::{env, fs, process};
 
 use super::answer::NOTHING;
-use super::classes::Classes;
+use super::classes::{Classes, Verdict};
 use super::family::is_of;
 use super::run::Run;
 use super::tails::tail;
@@ -17,6 +17,9 @@ use crate::schema::instructions;
 
 const OBJDUMP: &str = "m68k-linux-gnu-objdump";
 
+/// The processor as objdump names it.
+pub const MC68020: &str = "m68k:68020";
+
 /// The bytes of a run with NOPs behind it: enough that no instruction begun
 /// in the run reaches the next.
 const STRIDE: usize = 64;
@@ -24,17 +27,22 @@ const NOP: u16 = 0x4E71;
 
 /// What objdump shows at the beginning of a run.
 #[derive(Clone)]
-struct Shown {
-    text: String,
-    bytes: usize,
+pub struct Shown {
+    pub text: String,
+    pub bytes: usize,
 }
 
 impl Shown {
-    fn is_instruction(&self) -> bool {
+    pub fn is_instruction(&self) -> bool {
         !self.text.starts_with('.')
     }
 
-    fn mnemonic(&self) -> &str {
+    /// Its text and length.
+    pub fn said(&self) -> String {
+        format!("{:?}, {} bytes", self.text, self.bytes)
+    }
+
+    pub fn mnemonic(&self) -> &str {
         self.text.split_whitespace().next().unwrap_or("")
     }
 }
@@ -44,21 +52,19 @@ pub fn compare(program: &str, seed: u64, tails: usize) -> io::Result<Classes> {
     let mut batches = Batches::new(program, |asked: &[u8], note: (Run, Shown), found: &[u8]| {
         let found = String::from_utf8_lossy(found);
         let (run, shown) = note;
-        match agrees(&found, &shown) {
-            true => classes.same(),
-            false => classes.different(class(&run, &found, &shown), || {
-                let asked = String::from_utf8_lossy(asked);
-                format!(
-                    "{asked:?}: {found:?}, objdump {:?}, {} bytes",
-                    shown.text, shown.bytes
-                )
-            }),
-        }
+        let verdict = match agrees(&found, &shown) {
+            true => Verdict::Same,
+            false => Verdict::different(class(&run, &found, &shown)),
+        };
+        classes.count(verdict, || {
+            let asked = String::from_utf8_lossy(asked);
+            format!("{asked:?}: {found:?}, objdump {}", shown.said())
+        });
     });
     let mut random = Random::new(seed);
     for number in 0..tails {
         let runs = runs(number, &mut random);
-        for (run, shown) in runs.iter().zip(disassembly(&runs)?) {
+        for (run, shown) in runs.iter().zip(disassembly(&runs, MC68020)?) {
             batches.push(run.line().as_bytes(), (run.clone(), shown))?;
         }
     }
@@ -67,7 +73,7 @@ pub fn compare(program: &str, seed: u64, tails: usize) -> io::Result<Classes> {
 }
 
 /// Every first word with a tail of one kind, a stride apart.
-fn runs(number: usize, random: &mut Random) -> Vec<Run> {
+pub fn runs(number: usize, random: &mut Random) -> Vec<Run> {
     (0..=u16::MAX)
         .map(|first| Run {
             address: first as u32 * STRIDE as u32,
@@ -76,8 +82,8 @@ fn runs(number: usize, random: &mut Random) -> Vec<Run> {
         .collect()
 }
 
-/// What objdump shows of each run.
-fn disassembly(runs: &[Run]) -> io::Result<Vec<Shown>> {
+/// What objdump shows of each run for a processor.
+pub fn disassembly(runs: &[Run], machine: &str) -> io::Result<Vec<Shown>> {
     let file = env::temp_dir().join(format!("oracle-{}.bin", process::id()));
     fs::write(&file, image(runs))?;
     let child = Command::new(OBJDUMP)
@@ -88,7 +94,7 @@ fn disassembly(runs: &[Run]) -> io::Result<Vec<Shown>> {
             "-b",
             "binary",
             "-m",
-            "m68k:68020",
+            machine,
         ])
         .arg(&file)
         .stdout(Stdio::piped())
@@ -149,13 +155,13 @@ fn instruction(line: &str) -> Option<(usize, &str)> {
 }
 
 /// The variant's name and the length of an answer that reads.
-fn read(found: &str) -> Option<(&'static str, usize)> {
+pub fn read(found: &str) -> Option<(&'static str, usize)> {
     let (numbers, bytes) = found.split_once("\t=>\t")?;
     let place: usize = numbers.split('\t').next()?.parse().ok()?;
     Some((instructions().get(place)?.name, bytes.parse().ok()?))
 }
 
-fn agrees(found: &str, shown: &Shown) -> bool {
+pub fn agrees(found: &str, shown: &Shown) -> bool {
     match read(found) {
         Some((name, bytes)) => {
             shown.is_instruction() && bytes == shown.bytes && is_of(name, shown.mnemonic())
@@ -174,21 +180,33 @@ fn class(run: &Run, found: &str, shown: &Shown) -> Option<String> {
 }
 
 fn read_class(run: &Run, name: &str, shown: &Shown) -> Option<&'static str> {
-    let numbered = run.words[1] & 0x7000 != 0;
+    match (name, shown.is_instruction()) {
+        ("BF", false) if numbered(run) => Some(NUMBERED),
+        _ => line_class(name, shown),
+    }
+}
+
+/// Whether bits 14 to 12 of the second word are not all 0.
+pub fn numbered(run: &Run) -> bool {
+    run.words[1] & 0x7000 != 0
+}
+
+pub const NUMBERED: &str =
+    "exception (ii): objdump has no Test, Change, Clear or Set with a register number";
+
+/// The rules for line A and line F.
+pub fn line_class(name: &str, shown: &Shown) -> Option<&'static str> {
     match (name, shown.is_instruction()) {
         ("LINEA", false) => Some("line A: objdump has no instruction"),
         ("LINEF", false) => Some("line F: objdump has no instruction"),
         ("LINEF", true) if shown.mnemonic().starts_with(['f', 'p']) => {
             Some("line F: objdump shows an instruction of the MC68881 or MC68851")
         }
-        ("BF", false) if numbered => {
-            Some("exception (ii): objdump has no Test, Change, Clear or Set with a register number")
-        }
         _ => None,
     }
 }
 
-fn refused_class(run: &Run, shown: &Shown) -> Option<String> {
+pub fn refused_class(run: &Run, shown: &Shown) -> Option<String> {
     if let Some(rule) = rule(&run.words, run.address) {
         return Some(format!("{rule}; objdump reads"));
     }

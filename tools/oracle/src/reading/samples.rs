@@ -16,9 +16,6 @@ use crate::random::Random;
 use crate::values::ADDRESSES;
 use crate::written::place;
 
-/// One first word in so many is sampled; odd, so that all low bits come.
-const STEP: usize = 13;
-
 /// How many kinds of tail are used in turn.
 const TAILS: usize = 12;
 
@@ -31,9 +28,6 @@ const CUT: usize = 5;
 
 /// Words after the first in which a bit is changed.
 const CHANGED_WORDS: usize = 2;
-
-/// Runs with an unused bit set.
-const UNUSED: usize = 600;
 
 /// The words of the worked encodings.
 pub fn worked() -> Vec<Run> {
@@ -82,9 +76,9 @@ pub fn groups(random: &mut Random) -> Vec<Run> {
         .collect()
 }
 
-pub fn first_words(random: &mut Random) -> Vec<Run> {
+pub fn first_words(step: usize, random: &mut Random) -> Vec<Run> {
     (0..=u16::MAX)
-        .step_by(STEP)
+        .step_by(step)
         .enumerate()
         .map(|(number, first)| with_tail(first, number, random))
         .collect()
@@ -158,7 +152,7 @@ fn spread(runs: &[Run], count: usize) -> Vec<&Run> {
     kept.map(|(_, run)| run).collect()
 }
 
-fn followed(run: &Run, random: &mut Random) -> Run {
+pub fn followed(run: &Run, random: &mut Random) -> Run {
     let length = random.between(1, 3) as usize;
     Run {
         address: run.address,
@@ -166,7 +160,7 @@ fn followed(run: &Run, random: &mut Random) -> Run {
     }
 }
 
-fn beginnings(run: &Run) -> impl Iterator<Item = Run> + '_ {
+pub fn beginnings(run: &Run) -> impl Iterator<Item = Run> + '_ {
     (1..run.words.len()).map(|length| Run {
         address: run.address,
         words: run.words[..length].to_vec(),
@@ -183,10 +177,10 @@ fn changed(run: &Run) -> impl Iterator<Item = Run> + '_ {
     })
 }
 
-/// Words that read but for one bit, whole and cut after the word with the bit.
-pub fn unused(random: &mut Random) -> Vec<Run> {
+/// `count` runs that read but for one bit, whole and cut after the word with it.
+pub fn unused(count: usize, random: &mut Random) -> Vec<Run> {
     let mut found = Vec::new();
-    while found.len() < UNUSED {
+    while found.len() < count {
         let first = random.next() as u16;
         let number = random.below(TAILS as u64) as usize;
         let address = random_address(random);

@@ -2,7 +2,7 @@
 
 use std::io;
 
-use super::answer::{answer, answer_line};
+use super::answer::{answer_by, answer_line_by, Text};
 use super::malformed;
 use super::run::Run;
 use super::tails::{tail, LENGTH};
@@ -37,23 +37,23 @@ pub fn runs(seed: u64, tails: usize) -> impl Iterator<Item = Run> {
     (0..=u16::MAX).flat_map(move |first| runs_of(first, tails, &mut random))
 }
 
-/// Compares a program with the judge on the lines that are not in the form
-/// and on the whole sweep, with spoiled lines between.
-pub fn replay(program: &str, seed: u64, tails: usize) -> io::Result<Comparison> {
+/// Compares a program with the judge, whose answers `text` gives, on the lines
+/// that are not in the form and on the whole sweep, with spoiled lines between.
+pub fn replay(text: Text, program: &str, seed: u64, tails: usize) -> io::Result<Comparison> {
     let mut comparison = Comparison::default();
     let mut batches = Batches::new(program, |asked: &[u8], expected: String, found: &[u8]| {
         comparison.line(asked, expected.as_bytes(), found)
     });
     for line in malformed::lines().chain(malformed::raw_lines()) {
-        batches.push(line, answer_line(line))?;
+        batches.push(line, answer_line_by(text, line))?;
     }
     let mut random = Random::new(seed);
     for run in runs(seed, tails) {
         let line = run.line();
-        batches.push(line.as_bytes(), answer(&run))?;
+        batches.push(line.as_bytes(), answer_by(text, &run))?;
         if random.below(SPOILED) == 0 {
             let line = malformed::spoiled(&line, &mut random);
-            batches.push(&line, answer_line(&line))?;
+            batches.push(&line, answer_line_by(text, &line))?;
         }
     }
     batches.finish()?;
