@@ -37,8 +37,7 @@ use std::io::{self, BufWriter, Read, Write};
 use std::process::ExitCode;
 use std::{env, fs};
 
-use reading::answer::text;
-use reading::{back, sweep};
+use reading::{back, mc68000, sweep};
 
 const USAGE: &str =
     "oracle generate SEED COUNT | list SEED COUNT | answer | answer-rust | compare A B [LINES]
@@ -46,6 +45,8 @@ const USAGE: &str =
        | replay PROGRAM SEED COUNT | places | reasons
        | read-answer | read-list SEED | read-replay PROGRAM SEED TAILS | read-back PROGRAM SEED COUNT
        | read-decode PROGRAM SEED TAILS | read-objdump PROGRAM SEED TAILS
+       | read-68000-answer | read-68000-list SEED | read-68000-replay PROGRAM SEED TAILS
+       | read-68000-back PROGRAM SEED COUNT
        | bytes-answer | bytes-list SEED | bytes-replay PROGRAM SEED COUNT
        | values-answer | values-list | values-replay PROGRAM
        | sheet-answer | sheet-one | sheet-list SEED | sheet-replay PROGRAM SEED COUNT
@@ -83,6 +84,8 @@ fn run(arguments: &[&str]) -> Result<usize, Box<dyn Error>> {
         ["reasons"] => reasons(),
         ["read-answer"] => answer(reading::answer::answer_line)?,
         ["read-list", seed] => reading::list::write(seed.parse()?, &mut output())?,
+        ["read-68000-answer"] => answer(mc68000::answer::answer_line)?,
+        ["read-68000-list", seed] => mc68000::list::write(seed.parse()?, &mut output())?,
         ["bytes-answer"] => answer(bytes::answer::answer_line)?,
         ["bytes-list", seed] => bytes::list::write(seed.parse()?, &mut output())?,
         ["values-answer"] => answer(given::answer::answer_line)?,
@@ -104,12 +107,15 @@ fn run(arguments: &[&str]) -> Result<usize, Box<dyn Error>> {
 
 /// Runs a command that asks a program.
 fn against(command: &str, program: &str, seed: u64, count: usize) -> Result<usize, Box<dyn Error>> {
+    let (first, second) = (reading::answer::text, mc68000::answer::text);
     match command {
         "replay" => different(replay::replay(program, seed, count)?),
-        "read-replay" => different(sweep::replay(text, program, seed, count)?),
-        "read-back" => different(back::replay(text, program, seed, count)?),
+        "read-replay" => different(sweep::replay(first, program, seed, count)?),
+        "read-back" => different(back::replay(first, program, seed, count)?),
         "read-decode" => unexplained(reading::decoder::compare(program, seed, count)?),
         "read-objdump" => unexplained(reading::objdump::compare(program, seed, count)?),
+        "read-68000-replay" => different(sweep::replay(second, program, seed, count)?),
+        "read-68000-back" => different(back::replay(second, program, seed, count)?),
         "bytes-replay" => different(bytes::replay::replay(program, seed, count)?),
         "sheet-replay" => different(sheet::replay::replay(program, seed, count)?),
         "srecord-replay" => different(srecord::replay::replay(program, seed, count)?),

@@ -5,6 +5,7 @@ use crate::{answer, reading, sheet, srecord};
 
 const MANUAL: &str = include_str!("../manual.txt");
 const READING: &str = include_str!("../reading.txt");
+const READING_68000: &str = include_str!("../reading_68000.txt");
 
 pub struct Example {
     pub text: &'static str,
@@ -20,6 +21,11 @@ pub fn examples() -> Vec<Example> {
 /// The readings in order.
 pub fn readings() -> Vec<Example> {
     read(READING)
+}
+
+/// The readings for the MC68000 in order.
+pub fn readings_68000() -> Vec<Example> {
+    read(READING_68000)
 }
 
 /// The examples of a text; a line that begins with `;` is a remark.
@@ -40,9 +46,11 @@ fn read(text: &'static str) -> Vec<Example> {
 /// Checks every example; gives how many differ.
 pub fn check() -> usize {
     let encoding = |line: &[u8]| (answer::answer_line(line), answer::line_of_n2(line));
-    let reading = |line: &[u8]| (reading::answer::answer_line(line), false);
+    let first = |line: &[u8]| (reading::answer::answer_line(line), false);
+    let second = |line: &[u8]| (reading::mc68000::answer::answer_line(line), false);
     differing("encodings", &examples(), encoding)
-        + differing("readings", &readings(), reading)
+        + differing("readings", &readings(), first)
+        + differing("readings for the MC68000", &readings_68000(), second)
         + sheet::manual::check()
         + srecord::manual::check()
 }

@@ -9,6 +9,7 @@ mod family;
 mod judge;
 pub mod list;
 mod malformed;
+pub mod mc68000;
 pub mod objdump;
 mod plain;
 mod run;
