@@ -46,7 +46,8 @@ const USAGE: &str =
        | read-answer | read-list SEED | read-replay PROGRAM SEED TAILS | read-back PROGRAM SEED COUNT
        | read-decode PROGRAM SEED TAILS | read-objdump PROGRAM SEED TAILS
        | read-68000-answer | read-68000-list SEED | read-68000-replay PROGRAM SEED TAILS
-       | read-68000-back PROGRAM SEED COUNT
+       | read-68000-back PROGRAM SEED COUNT | read-68000-decode PROGRAM SEED TAILS
+       | read-68000-objdump PROGRAM SEED TAILS
        | bytes-answer | bytes-list SEED | bytes-replay PROGRAM SEED COUNT
        | values-answer | values-list | values-replay PROGRAM
        | sheet-answer | sheet-one | sheet-list SEED | sheet-replay PROGRAM SEED COUNT
@@ -116,6 +117,8 @@ fn against(command: &str, program: &str, seed: u64, count: usize) -> Result<usiz
         "read-objdump" => unexplained(reading::objdump::compare(program, seed, count)?),
         "read-68000-replay" => different(sweep::replay(second, program, seed, count)?),
         "read-68000-back" => different(back::replay(second, program, seed, count)?),
+        "read-68000-decode" => unexplained(mc68000::decoder::compare(program, seed, count)?),
+        "read-68000-objdump" => unexplained(mc68000::objdump::compare(program, seed, count)?),
         "bytes-replay" => different(bytes::replay::replay(program, seed, count)?),
         "sheet-replay" => different(sheet::replay::replay(program, seed, count)?),
         "srecord-replay" => different(srecord::replay::replay(program, seed, count)?),

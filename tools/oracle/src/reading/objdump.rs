@@ -17,7 +17,8 @@ use crate::schema::instructions;
 
 const OBJDUMP: &str = "m68k-linux-gnu-objdump";
 
-/// The processor as objdump names it.
+/// The processors as objdump names them.
+pub const MC68000: &str = "m68k:68000";
 pub const MC68020: &str = "m68k:68020";
 
 /// The bytes of a run with NOPs behind it: enough that no instruction begun
