@@ -6,8 +6,8 @@ ghost use Rattle.base_spec.specs.Parts.{fields};
 ghost use Rattle.explain_spec.specs.Sentence.{lineTexts, sheetTexts, fieldTexts, reasonTexts};
 
 // What is wrong with a line of a sheet or a record of a text, or with what is printed without a line.
-pub fn line_texts() -> [u8; 854]
-    ensures { λ r. ⌜ (fields r ≡ [] ∷ lineTexts) × (854 ≡ length r) ⌝ }
+pub fn line_texts() -> [u8; 937]
+    ensures { λ r. ⌜ (fields r ≡ [] ∷ lineTexts) × (937 ≡ length r) ⌝ }
 {
     *b"\
           \tno such instruction: an `Extended` base above 8, a full word there that is reserved or has another spelling, or a word outside 40960 to 45055 for LINEA, 61440 to 65535 for LINEF\
@@ -23,12 +23,13 @@ pub fn line_texts() -> [u8; 854]
           \t\
           \tnot S1, S2, S3, or S7, S8, S9 without data; not capitals and a line feed; a wrong length; data bytes odd in number; or the record is missing, or stands after the closing one\
           \tthe checksum of this S-record is wrong\
-          \tthis S-record does not begin where the last ended, passes 2^32, or closes with another start"
+          \tthis S-record does not begin where the last ended, passes 2^32, or closes with another start\
+          \tnot of the MC68000: the instruction, its size or an operand is of later processors"
 }
 
 // What is wrong outside lines.
-pub fn sheet_texts() -> [u8; 475]
-    ensures { λ r. ⌜ (fields r ≡ [] ∷ sheetTexts) × (475 ≡ length r) ⌝ }
+pub fn sheet_texts() -> [u8; 476]
+    ensures { λ r. ⌜ (fields r ≡ [] ∷ sheetTexts) × (476 ≡ length r) ⌝ }
 {
     *b"\
           \t\
@@ -42,6 +43,7 @@ pub fn sheet_texts() -> [u8; 475]
           \tthe start of a sheet is odd, or the end is above 2^32\
           \tthe sheet is empty, is longer than 65,536 bytes, does not end in a line feed, or does not have 1 to 4,096 instruction lines; or S-records are longer than 1 MiB\
           \tmore lines than places are lent (4,096), more words than there is room for (`sheet` and `srecord` have 16,384, `image` 45,056), or a text longer than the bytes lent\
+          \t\
           \t\
           \t\
           \t"

@@ -20,6 +20,7 @@ numberRows =
     ∷ ("not S1, S2, S3, or S7, S8, S9 without data; not capitals and a line feed; a wrong length; data bytes odd in number; or the record is missing, or stands after the closing one", "")
     ∷ ("the checksum of this S-record is wrong", "")
     ∷ ("this S-record does not begin where the last ended, passes 2^32, or closes with another start", "")
+    ∷ ("not of the MC68000: the instruction, its size or an operand is of later processors", "")
     ∷ []
 
 -- by the detail of 2: the field, and what it holds

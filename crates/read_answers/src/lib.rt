@@ -59,7 +59,7 @@ fn put_read(out: &mut [u8], at: usize, numbers: Numbers, bytes: u32) -> usize
     base_text::put_byte(out, next, b'\n')
 }
 
-fn put_reading(out: &mut [u8], at: usize, reading: Reading) -> usize
+pub fn put_reading(out: &mut [u8], at: usize, reading: Reading) -> usize
     requires { ⌜ at + 398 ≤ length (now out) ⌝ }
     ensures { λ r. ⌜ Wrote (now (out .entry)) at (readingText reading) (now (out .exit)) r × (r ≤ at + 398) ⌝ }
 {

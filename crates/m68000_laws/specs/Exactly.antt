@@ -1,0 +1,85 @@
+-- The second reader's answer is the first's, or 15 exactly where the first reads what the MC68000 has not.
+use Prim.Native.Nat.{ℕ}
+use mathlib.Core.Path.{_≡_, refl, sym, ap, _∙_}
+use mathlib.Core.Bool.{Bool, true, false, cond}
+use mathlib.Core.List.{List}
+use native.Mathlib.Omega.{arith}
+use Rattle.isa.specs.declared.Instruction.{Instruction}
+use Rattle.read_spec.specs.declared.Reading.{Reading}
+use Rattle.read_spec.specs.declared.Reading.the-variants.{Read, Short, Nothing}
+use Rattle.read_spec.specs.Read.{readOf}
+use Rattle.m68000_spec.specs.declared.Reading68000.{Reading68000}
+use Rattle.m68000_spec.specs.declared.Reading68000.the-variants.{First, NotOf68000}
+use Rattle.m68000_spec.specs.Of68000.{of68000}
+use Rattle.m68000_spec.specs.Read68000.{answer68000, read68000Of}
+use Rattle.base_facts.specs.Tests.{cond-true, cond-false}
+
+-- ---- of a reading that is answered
+first-same : (q r : Reading) → First q ≡ First r → q ≡ r
+first-same q r e = cc
+
+no-first : {C : Type 0} {r : Reading} → NotOf68000 ≡ First r → C
+no-first e = let z : _≡_ {A = ℕ} 0 1 = cc in absurd (omega arith)
+
+first-no : {C : Type 0} {r : Reading} → First r ≡ NotOf68000 → C
+first-no e = let z : _≡_ {A = ℕ} 0 1 = cc in absurd (omega arith)
+
+answer-first : (q r : Reading) → answer68000 q ≡ First r → q ≡ r
+answer-first (Read i n) r e = go (of68000 i) e
+  where
+    go : (t : Bool) → cond t (First (Read i n)) NotOf68000 ≡ First r → Read i n ≡ r
+    go true g = first-same (Read i n) r g
+    go false g = no-first g
+answer-first Short r e = first-same Short r e
+answer-first Nothing r e = first-same Nothing r e
+
+answer-of : (i : Instruction) (n : ℕ) {r : Reading} → answer68000 (Read i n) ≡ First r → of68000 i ≡ true
+answer-of i n {r} e = go (of68000 i) refl
+  where
+    go : (t : Bool) → of68000 i ≡ t → of68000 i ≡ true
+    go true g = g
+    go false g = no-first (rw g at e)
+
+abbrev Refused : Reading → Type 0
+Refused q = (i : Instruction) × (n : ℕ) × (q ≡ Read i n) × (of68000 i ≡ false)
+
+answer-refused : (q : Reading) → answer68000 q ≡ NotOf68000 → Refused q
+answer-refused (Read i n) e = go (of68000 i) refl
+  where
+    go : (t : Bool) → of68000 i ≡ t → Refused (Read i n)
+    go true g = first-no (rw g at e)
+    go false g = (i, n, refl, g)
+answer-refused Short e = first-no e
+answer-refused Nothing e = first-no e
+
+-- ---- of a run of words
+module _ (ws : List ℕ) (a : ℕ) where
+  first-alike : (r : Reading) → read68000Of ws a ≡ First r → readOf ws a ≡ r
+  unfolding read68000Of
+  first-alike r e = answer-first (readOf ws a) r e
+
+  pub answered : (r : Reading) → readOf ws a ≡ r → read68000Of ws a ≡ answer68000 r
+  unfolding read68000Of
+  answered r e = ap answer68000 e
+
+  -- it answers 5 exactly where the first does, and 6 exactly where the first does
+  pub short-alike : (read68000Of ws a ≡ First Short → readOf ws a ≡ Short) × (readOf ws a ≡ Short → read68000Of ws a ≡ First Short)
+  short-alike = (first-alike Short, answered Short)
+
+  pub nothing-alike : (read68000Of ws a ≡ First Nothing → readOf ws a ≡ Nothing) × (readOf ws a ≡ Nothing → read68000Of ws a ≡ First Nothing)
+  nothing-alike = (first-alike Nothing, answered Nothing)
+
+  -- it shows an instruction and a length exactly where the first shows these and the instruction is of the MC68000
+  pub shown-exactly : (i : Instruction) (n : ℕ)
+      → (read68000Of ws a ≡ First (Read i n) → (readOf ws a ≡ Read i n) × (of68000 i ≡ true))
+      × (readOf ws a ≡ Read i n → of68000 i ≡ true → read68000Of ws a ≡ First (Read i n))
+  shown-exactly i n = (
+    (λ e. let q = first-alike (Read i n) e in (q, answer-of i n (sym (answered (Read i n) q) ∙ e))),
+    (λ e t. answered (Read i n) e ∙ cond-true (of68000 i) _ _ t),
+  )
+
+  -- it answers 15 exactly where the first reads what is not of the MC68000
+  pub refused-exactly : (read68000Of ws a ≡ NotOf68000 → (i : Instruction) × (n : ℕ) × (readOf ws a ≡ Read i n) × (of68000 i ≡ false))
+      × ((i : Instruction) (n : ℕ) → readOf ws a ≡ Read i n → of68000 i ≡ false → read68000Of ws a ≡ NotOf68000)
+  unfolding read68000Of
+  refused-exactly = (answer-refused (readOf ws a), (λ i n e t. answered (Read i n) e ∙ cond-false (of68000 i) _ _ t))

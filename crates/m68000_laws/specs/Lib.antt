@@ -1,0 +1,4 @@
+pub mod Exactly
+pub mod Shown
+pub mod Never
+pub mod Whole

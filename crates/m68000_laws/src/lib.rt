@@ -1,0 +1,1 @@
+// Laws alone: the second reader against the first, and what it never shows.
