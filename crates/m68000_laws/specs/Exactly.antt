@@ -53,33 +53,34 @@ answer-refused Short e = first-no e
 answer-refused Nothing e = first-no e
 
 -- ---- of a run of words
-module _ (ws : List ℕ) (a : ℕ) where
-  first-alike : (r : Reading) → read68000Of ws a ≡ First r → readOf ws a ≡ r
-  unfolding read68000Of
-  first-alike r e = answer-first (readOf ws a) r e
+first-alike : (ws : List ℕ) (a : ℕ) (r : Reading) → read68000Of ws a ≡ First r → readOf ws a ≡ r
+unfolding read68000Of
+first-alike ws a r e = answer-first (readOf ws a) r e
 
-  pub answered : (r : Reading) → readOf ws a ≡ r → read68000Of ws a ≡ answer68000 r
-  unfolding read68000Of
-  answered r e = ap answer68000 e
+pub answered : (ws : List ℕ) (a : ℕ) (r : Reading) → readOf ws a ≡ r → read68000Of ws a ≡ answer68000 r
+unfolding read68000Of
+answered ws a r e = ap answer68000 e
 
-  -- it answers 5 exactly where the first does, and 6 exactly where the first does
-  pub short-alike : (read68000Of ws a ≡ First Short → readOf ws a ≡ Short) × (readOf ws a ≡ Short → read68000Of ws a ≡ First Short)
-  short-alike = (first-alike Short, answered Short)
+-- it answers 5 exactly where the first does, and 6 exactly where the first does
+pub short-alike : (ws : List ℕ) (a : ℕ) → (read68000Of ws a ≡ First Short → readOf ws a ≡ Short) × (readOf ws a ≡ Short → read68000Of ws a ≡ First Short)
+short-alike ws a = (first-alike ws a Short, answered ws a Short)
 
-  pub nothing-alike : (read68000Of ws a ≡ First Nothing → readOf ws a ≡ Nothing) × (readOf ws a ≡ Nothing → read68000Of ws a ≡ First Nothing)
-  nothing-alike = (first-alike Nothing, answered Nothing)
+pub nothing-alike : (ws : List ℕ) (a : ℕ)
+    → (read68000Of ws a ≡ First Nothing → readOf ws a ≡ Nothing) × (readOf ws a ≡ Nothing → read68000Of ws a ≡ First Nothing)
+nothing-alike ws a = (first-alike ws a Nothing, answered ws a Nothing)
 
-  -- it shows an instruction and a length exactly where the first shows these and the instruction is of the MC68000
-  pub shown-exactly : (i : Instruction) (n : ℕ)
-      → (read68000Of ws a ≡ First (Read i n) → (readOf ws a ≡ Read i n) × (of68000 i ≡ true))
-      × (readOf ws a ≡ Read i n → of68000 i ≡ true → read68000Of ws a ≡ First (Read i n))
-  shown-exactly i n = (
-    (λ e. let q = first-alike (Read i n) e in (q, answer-of i n (sym (answered (Read i n) q) ∙ e))),
-    (λ e t. answered (Read i n) e ∙ cond-true (of68000 i) _ _ t),
-  )
+-- it shows an instruction and a length exactly where the first shows these and the instruction is of the MC68000
+pub shown-exactly : (ws : List ℕ) (a : ℕ) (i : Instruction) (n : ℕ)
+    → (read68000Of ws a ≡ First (Read i n) → (readOf ws a ≡ Read i n) × (of68000 i ≡ true))
+    × (readOf ws a ≡ Read i n → of68000 i ≡ true → read68000Of ws a ≡ First (Read i n))
+shown-exactly ws a i n = (
+  (λ e. let q = first-alike ws a (Read i n) e in (q, answer-of i n (sym (answered ws a (Read i n) q) ∙ e))),
+  (λ e t. answered ws a (Read i n) e ∙ cond-true (of68000 i) _ _ t),
+)
 
-  -- it answers 15 exactly where the first reads what is not of the MC68000
-  pub refused-exactly : (read68000Of ws a ≡ NotOf68000 → (i : Instruction) × (n : ℕ) × (readOf ws a ≡ Read i n) × (of68000 i ≡ false))
-      × ((i : Instruction) (n : ℕ) → readOf ws a ≡ Read i n → of68000 i ≡ false → read68000Of ws a ≡ NotOf68000)
-  unfolding read68000Of
-  refused-exactly = (answer-refused (readOf ws a), (λ i n e t. answered (Read i n) e ∙ cond-false (of68000 i) _ _ t))
+-- it answers 15 exactly where the first reads what is not of the MC68000
+pub refused-exactly : (ws : List ℕ) (a : ℕ)
+    → (read68000Of ws a ≡ NotOf68000 → (i : Instruction) × (n : ℕ) × (readOf ws a ≡ Read i n) × (of68000 i ≡ false))
+    × ((i : Instruction) (n : ℕ) → readOf ws a ≡ Read i n → of68000 i ≡ false → read68000Of ws a ≡ NotOf68000)
+unfolding read68000Of
+refused-exactly ws a = (answer-refused (readOf ws a), (λ i n e t. answered ws a (Read i n) e ∙ cond-false (of68000 i) _ _ t))

@@ -122,13 +122,15 @@ module _ (base w : ℕ) (z outer : ℤ) (h : isFullOrScaled w ≡ true) where
       rw f
   among-refused (o ∷ os) (p ∷ ps) (inr m) ((s, q), k) = ap (λ (b : Bool). operandOf68000 p && b) (among-refused os ps m k) ∙ and-false (operandOf68000 p)
 
-  pub extended-refused : (a : ℕ) (i : Instruction) (rest : List ℕ) → Accepted a i → HasOperand i (Extended base w z outer)
-      → read68000Of (wordsOf i a ++ rest) a ≡ NotOf68000
-  unfolding of68000
-  extended-refused a i rest g m =
-      let f = among-refused (operandsOf i) (operandsOf (plain i)) m (plain-operands i) in
-      accepted-answer a i rest g
-      ∙ cond-false (of68000 (plain i)) _ _ (ap (λ (b : Bool). entryOf68000 (plain i) && b) f ∙ and-false (entryOf68000 (plain i)))
+-- so the words of an accepted instruction with a full extension word or a scale above 1 are answered 15
+pub extended-refused : (a : ℕ) (i : Instruction) (rest : List ℕ) → Accepted a i
+    → (base w : ℕ) (z outer : ℤ) → HasOperand i (Extended base w z outer) → isFullOrScaled w ≡ true
+    → read68000Of (wordsOf i a ++ rest) a ≡ NotOf68000
+unfolding of68000
+extended-refused a i rest g base w z outer m h =
+    let f = among-refused base w z outer h (operandsOf i) (operandsOf (plain i)) m (plain-operands i) in
+    accepted-answer a i rest g
+    ∙ cond-false (of68000 (plain i)) _ _ (ap (λ (b : Bool). entryOf68000 (plain i) && b) f ∙ and-false (entryOf68000 (plain i)))
 
 -- ---- no branch of Long is shown, and words of one are answered 15
 pub no-long-branch : (ws : List ℕ) (a : ℕ) (i : Instruction) (n : ℕ) → read68000Of ws a ≡ First (Read i n)
@@ -175,12 +177,13 @@ module _ (a w : ℕ) (hl : w / 4096 ≡ 6) (hb : w % 256 ≡ 255) where
   unfolding readOf
   ff-reads v u rest = ap readingOf (ff-run (v ∷ u ∷ rest))
 
-  -- a byte $FF in line 6: with two words more 15, with fewer 5
-  pub byte-ff : (read68000Of (w ∷ []) a ≡ First Short) × ((v : ℕ) → read68000Of (w ∷ v ∷ []) a ≡ First Short)
-      × ((v u : ℕ) (rest : List ℕ) → read68000Of (w ∷ v ∷ u ∷ rest) a ≡ NotOf68000)
-  unfolding readOf
-  byte-ff = (
-    short-alike (w ∷ []) a .1 (ap readingOf (ff-run [])),
-    (λ v. short-alike (w ∷ v ∷ []) a .1 (ap readingOf (ff-run (v ∷ [])))),
-    (λ v u rest. refused-exactly (w ∷ v ∷ u ∷ rest) a .1 _ 6 (ff-reads v u rest) (branch-refused code (target v u))),
-  )
+-- a byte $FF in line 6: with two words more 15, with fewer 5
+pub byte-ff : (a w : ℕ) → w / 4096 ≡ 6 → w % 256 ≡ 255
+    → (read68000Of (w ∷ []) a ≡ First Short) × ((v : ℕ) → read68000Of (w ∷ v ∷ []) a ≡ First Short)
+    × ((v u : ℕ) (rest : List ℕ) → read68000Of (w ∷ v ∷ u ∷ rest) a ≡ NotOf68000)
+unfolding readOf
+byte-ff a w hl hb = (
+  short-alike (w ∷ []) a .1 (ap readingOf (ff-run a w hl hb [])),
+  (λ v. short-alike (w ∷ v ∷ []) a .1 (ap readingOf (ff-run a w hl hb (v ∷ [])))),
+  (λ v u rest. refused-exactly (w ∷ v ∷ u ∷ rest) a .1 _ 6 (ff-reads a w hl hb v u rest) (branch-refused (code a w hl hb) (target a w hl hb v u))),
+)
