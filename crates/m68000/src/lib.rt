@@ -1,12 +1,13 @@
 // The entry point of the reader of MC68000 boards: from words and an address to an instruction of the MC68000.
 ghost use mathlib.Core.Path.{_≡_};
-ghost use Rattle.m68000_spec.specs.Read68000.{answer68000, read68000Of};
+ghost use Rattle.m68000_spec.specs.Read68000.{restricted, read68000Of};
 use m68000_instruction::of_68000;
 use m68000_spec::Reading68000;
 use read_spec::Reading;
 
-fn answer(reading: Reading) -> Reading68000
-    ensures { λ r. ⌜ r ≡ answer68000 reading ⌝ }
+// What `read` gave, or 15.
+fn restricted(reading: Reading) -> Reading68000
+    ensures { λ r. ⌜ r ≡ restricted reading ⌝ }
 {
     match reading {
         Reading::Read(i, _) => {
@@ -25,5 +26,5 @@ fn answer(reading: Reading) -> Reading68000
 pub fn read_68000(words: &[u16], address: u32) -> Reading68000
     ensures { λ r. ⌜ r ≡ read68000Of (now (words .entry)) address ⌝ }
 {
-    answer(m68k_read::read(words, address))
+    restricted(m68k_read::read(words, address))
 }

@@ -1,4 +1,4 @@
-// The answer to a line of an address and words on an MC68000 board, written into a lent buffer.
+// The second reader's answer to a line of an address and words, written into a lent buffer.
 ghost use mathlib.Core.Path.{_≡_};
 ghost use Prim.Native.Nat.{_+_, _≤_};
 ghost use lib.ListN.{length};

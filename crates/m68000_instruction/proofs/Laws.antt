@@ -11,7 +11,7 @@ use Rattle.isa.specs.declared.Operand.{Operand}
 use Rattle.isa.specs.declared.Operand.the-variants.{Immediate, Register, Indirect, PostIndirect, PreIndirect, IndirectDisplacement, IndirectIndex, PcDisplacement, PcIndex, Extended, Absolute}
 use Rattle.isa.specs.declared.Instruction.{Instruction}
 use Rattle.isa.specs.declared.Instruction.the-variants.{IntoRegister, MOVEM, Transfer, Pair, Quick, MOVEQ, ImmediateInto, WordIntoData, SWAP, EXG, UnsizedIntoRegister, UnsizedOne, UnsizedPair, EXT, OneOperand, Bcc, Scc, DBcc, Branch, Link, UNLK, Shift, Vector, Status, ConditionCode, MOVEUSP, Raw, NoOperand, RTD, MOVEC, TRAPcc, MULL, Pack, CAS, CAS2, BF, DIVL}
-use Rattle.m68000_spec.specs.Of68000.{entryOf68000, operandOf68000, operandsOf, allOf68000}
+use Rattle.m68000_spec.specs.Of68000.{instructionOf68000, operandOf68000, operandsOf, allOf68000}
 
 -- every variant of Operand but Extended
 abbrev notExtended : List ℕ
@@ -34,44 +34,44 @@ not-extended (Absolute a width) k = refl
 abbrev always : List ℕ
 always = 1 ∷ 3 ∷ 4 ∷ 5 ∷ 7 ∷ 8 ∷ 9 ∷ 12 ∷ 16 ∷ 17 ∷ 20 ∷ 21 ∷ 23 ∷ 24 ∷ 25 ∷ 26 ∷ 27 ∷ []
 
-pub always-entry : (i : Instruction) → OneOf always (tagOf instruction.the-type i) → true ≡ entryOf68000 i
-always-entry (IntoRegister op o r s) k = absurd (miss always 0 tt k)
-always-entry (MOVEM direction s mask o) k = refl
-always-entry (Transfer op direction s r o) k = absurd (miss always 2 tt k)
-always-entry (Pair op o d s) k = refl
-always-entry (Quick op n o s) k = refl
-always-entry (MOVEQ v r) k = refl
-always-entry (ImmediateInto op v o s) k = absurd (miss always 6 tt k)
-always-entry (WordIntoData op o r sign) k = refl
-always-entry (SWAP r) k = refl
-always-entry (EXG x y) k = refl
-always-entry (UnsizedIntoRegister op o r) k = absurd (miss always 10 tt k)
-always-entry (UnsizedOne op o) k = absurd (miss always 11 tt k)
-always-entry (UnsizedPair op o d) k = refl
-always-entry (EXT r from to) k = absurd (miss always 13 tt k)
-always-entry (OneOperand op o s) k = absurd (miss always 14 tt k)
-always-entry (Bcc t condition s) k = absurd (miss always 15 tt k)
-always-entry (Scc o condition) k = refl
-always-entry (DBcc r t condition) k = refl
-always-entry (Branch op t s) k = absurd (miss always 18 tt k)
-always-entry (Link op r d) k = absurd (miss always 19 tt k)
-always-entry (UNLK r) k = refl
-always-entry (Shift op count o direction s) k = refl
-always-entry (Vector op v) k = absurd (miss always 22 tt k)
-always-entry (Status op v) k = refl
-always-entry (ConditionCode op v) k = refl
-always-entry (MOVEUSP to r) k = refl
-always-entry (Raw op w) k = refl
-always-entry (NoOperand op) k = refl
-always-entry (RTD d) k = absurd (miss always 28 tt k)
-always-entry (MOVEC to control r) k = absurd (miss always 29 tt k)
-always-entry (TRAPcc condition x) k = absurd (miss always 30 tt k)
-always-entry (MULL o low high sign) k = absurd (miss always 31 tt k)
-always-entry (Pack op o d adjustment) k = absurd (miss always 32 tt k)
-always-entry (CAS compare update o s) k = absurd (miss always 33 tt k)
-always-entry (CAS2 compare1 compare2 update1 update2 pointer1 pointer2 s) k = absurd (miss always 34 tt k)
-always-entry (BF op o f r) k = absurd (miss always 35 tt k)
-always-entry (DIVL o quotient remainder wide sign) k = absurd (miss always 36 tt k)
+pub always-instruction : (i : Instruction) → OneOf always (tagOf instruction.the-type i) → true ≡ instructionOf68000 i
+always-instruction (IntoRegister op o r s) k = absurd (miss always 0 tt k)
+always-instruction (MOVEM direction s mask o) k = refl
+always-instruction (Transfer op direction s r o) k = absurd (miss always 2 tt k)
+always-instruction (Pair op o d s) k = refl
+always-instruction (Quick op n o s) k = refl
+always-instruction (MOVEQ v r) k = refl
+always-instruction (ImmediateInto op v o s) k = absurd (miss always 6 tt k)
+always-instruction (WordIntoData op o r sign) k = refl
+always-instruction (SWAP r) k = refl
+always-instruction (EXG x y) k = refl
+always-instruction (UnsizedIntoRegister op o r) k = absurd (miss always 10 tt k)
+always-instruction (UnsizedOne op o) k = absurd (miss always 11 tt k)
+always-instruction (UnsizedPair op o d) k = refl
+always-instruction (EXT r from to) k = absurd (miss always 13 tt k)
+always-instruction (OneOperand op o s) k = absurd (miss always 14 tt k)
+always-instruction (Bcc t condition s) k = absurd (miss always 15 tt k)
+always-instruction (Scc o condition) k = refl
+always-instruction (DBcc r t condition) k = refl
+always-instruction (Branch op t s) k = absurd (miss always 18 tt k)
+always-instruction (Link op r d) k = absurd (miss always 19 tt k)
+always-instruction (UNLK r) k = refl
+always-instruction (Shift op count o direction s) k = refl
+always-instruction (Vector op v) k = absurd (miss always 22 tt k)
+always-instruction (Status op v) k = refl
+always-instruction (ConditionCode op v) k = refl
+always-instruction (MOVEUSP to r) k = refl
+always-instruction (Raw op w) k = refl
+always-instruction (NoOperand op) k = refl
+always-instruction (RTD d) k = absurd (miss always 28 tt k)
+always-instruction (MOVEC to control r) k = absurd (miss always 29 tt k)
+always-instruction (TRAPcc condition x) k = absurd (miss always 30 tt k)
+always-instruction (MULL o low high sign) k = absurd (miss always 31 tt k)
+always-instruction (Pack op o d adjustment) k = absurd (miss always 32 tt k)
+always-instruction (CAS compare update o s) k = absurd (miss always 33 tt k)
+always-instruction (CAS2 compare1 compare2 update1 update2 pointer1 pointer2 s) k = absurd (miss always 34 tt k)
+always-instruction (BF op o f r) k = absurd (miss always 35 tt k)
+always-instruction (DIVL o quotient remainder wide sign) k = absurd (miss always 36 tt k)
 
 -- the instructions without an operand
 abbrev bare : List ℕ

@@ -1,6 +1,6 @@
 // Whether an instruction in plain form is of the MC68000.
 ghost use mathlib.Core.Path.{_≡_};
-ghost use Rattle.m68000_spec.specs.Of68000.{intoRegisterOf68000, transferOf68000, immediateIntoOf68000, unsizedIntoRegisterOf68000, unsizedOneOf68000, extOf68000, oneOperandOf68000, branchOf68000, linkOf68000, vectorOf68000, entryOf68000, operandOf68000, operandsOf, allOf68000, of68000};
+ghost use Rattle.m68000_spec.specs.Of68000.{intoRegisterOf68000, transferOf68000, immediateIntoOf68000, unsizedIntoRegisterOf68000, unsizedOneOf68000, extOf68000, oneOperandOf68000, branchOf68000, linkOf68000, vectorOf68000, instructionOf68000, operandOf68000, operandsOf, allOf68000, of68000};
 use isa::BranchSize;
 use isa::ImmediateOperation;
 use isa::Instruction;
@@ -129,9 +129,9 @@ fn vector(op: VectorOperation) -> bool
     }
 }
 
-// Whether the manual's entry has the instruction for the MC68000.
-fn entry(i: Instruction) -> bool
-    ensures { λ r. ⌜ r ≡ entryOf68000 i ⌝ }
+// Whether the manual's entry has the instruction for the MC68000, with the modes of TST and CMPI.
+fn has_instruction(i: Instruction) -> bool
+    ensures { λ r. ⌜ r ≡ instructionOf68000 i ⌝ }
 {
     match i {
         Instruction::IntoRegister(op, ..) => into_register(op),
@@ -158,7 +158,8 @@ fn entry(i: Instruction) -> bool
     }
 }
 
-fn operand(o: Operand) -> bool
+// Neither a full extension word nor a scale above 1.
+fn has_operand(o: Operand) -> bool
     ensures { λ r. ⌜ r ≡ operandOf68000 o ⌝ }
 {
     let Operand::Extended { .. } = o else {
@@ -168,28 +169,28 @@ fn operand(o: Operand) -> bool
 }
 
 // Whether each operand is of the MC68000.
-fn operands(i: Instruction) -> bool
+fn has_operands(i: Instruction) -> bool
     ensures { λ r. ⌜ r ≡ allOf68000 (operandsOf i) ⌝ }
 {
     match i {
-        Instruction::IntoRegister(_, o, _, _) => operand(o),
-        Instruction::MOVEM { target, .. } => operand(target),
-        Instruction::Transfer { target, .. } => operand(target),
-        Instruction::Pair(_, o, d, _) => operand(o) & operand(d),
-        Instruction::Quick(_, _, o, _) => operand(o),
-        Instruction::ImmediateInto(_, _, o, _) => operand(o),
-        Instruction::WordIntoData(_, o, _, _) => operand(o),
-        Instruction::UnsizedIntoRegister(_, o, _) => operand(o),
-        Instruction::UnsizedOne(_, o) => operand(o),
-        Instruction::UnsizedPair(_, o, d) => operand(o) & operand(d),
-        Instruction::OneOperand(_, o, _) => operand(o),
-        Instruction::Scc(o, _) => operand(o),
-        Instruction::Shift(_, count, o, _, _) => operand(count) & operand(o),
-        Instruction::MULL { source, .. } => operand(source),
-        Instruction::Pack(_, o, d, _) => operand(o) & operand(d),
-        Instruction::CAS { target, .. } => operand(target),
-        Instruction::BF { target, .. } => operand(target),
-        Instruction::DIVL { source, .. } => operand(source),
+        Instruction::IntoRegister(_, o, _, _) => has_operand(o),
+        Instruction::MOVEM { target, .. } => has_operand(target),
+        Instruction::Transfer { target, .. } => has_operand(target),
+        Instruction::Pair(_, o, d, _) => has_operand(o) & has_operand(d),
+        Instruction::Quick(_, _, o, _) => has_operand(o),
+        Instruction::ImmediateInto(_, _, o, _) => has_operand(o),
+        Instruction::WordIntoData(_, o, _, _) => has_operand(o),
+        Instruction::UnsizedIntoRegister(_, o, _) => has_operand(o),
+        Instruction::UnsizedOne(_, o) => has_operand(o),
+        Instruction::UnsizedPair(_, o, d) => has_operand(o) & has_operand(d),
+        Instruction::OneOperand(_, o, _) => has_operand(o),
+        Instruction::Scc(o, _) => has_operand(o),
+        Instruction::Shift(_, count, o, _, _) => has_operand(count) & has_operand(o),
+        Instruction::MULL { source, .. } => has_operand(source),
+        Instruction::Pack(_, o, d, _) => has_operand(o) & has_operand(d),
+        Instruction::CAS { target, .. } => has_operand(target),
+        Instruction::BF { target, .. } => has_operand(target),
+        Instruction::DIVL { source, .. } => has_operand(source),
         _ => true,
     }
 }
@@ -198,5 +199,5 @@ fn operands(i: Instruction) -> bool
 pub fn of_68000(i: Instruction) -> bool
     ensures { λ r. ⌜ r ≡ of68000 i ⌝ }
 {
-    entry(i) & operands(i)
+    has_instruction(i) & has_operands(i)
 }

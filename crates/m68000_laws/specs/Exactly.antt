@@ -11,7 +11,8 @@ use Rattle.read_spec.specs.Read.{readOf}
 use Rattle.m68000_spec.specs.declared.Reading68000.{Reading68000}
 use Rattle.m68000_spec.specs.declared.Reading68000.the-variants.{First, NotOf68000}
 use Rattle.m68000_spec.specs.Of68000.{of68000}
-use Rattle.m68000_spec.specs.Read68000.{answer68000, read68000Of}
+use Rattle.m68000_spec.specs.Read68000.{restricted, read68000Of, refusal68000}
+use Rattle.m68000_spec.specs.Promises.{Unmarked}
 use Rattle.base_facts.specs.Tests.{cond-true, cond-false}
 
 -- ---- of a reading that is answered
@@ -24,7 +25,7 @@ no-first e = let z : _≡_ {A = ℕ} 0 1 = cc in absurd (omega arith)
 first-no : {C : Type 0} {r : Reading} → First r ≡ NotOf68000 → C
 first-no e = let z : _≡_ {A = ℕ} 0 1 = cc in absurd (omega arith)
 
-answer-first : (q r : Reading) → answer68000 q ≡ First r → q ≡ r
+answer-first : (q r : Reading) → restricted q ≡ First r → q ≡ r
 answer-first (Read i n) r e = go (of68000 i) e
   where
     go : (t : Bool) → cond t (First (Read i n)) NotOf68000 ≡ First r → Read i n ≡ r
@@ -33,20 +34,17 @@ answer-first (Read i n) r e = go (of68000 i) e
 answer-first Short r e = first-same Short r e
 answer-first Nothing r e = first-same Nothing r e
 
-answer-of : (i : Instruction) (n : ℕ) {r : Reading} → answer68000 (Read i n) ≡ First r → of68000 i ≡ true
+answer-of : (i : Instruction) (n : ℕ) {r : Reading} → restricted (Read i n) ≡ First r → of68000 i ≡ true
 answer-of i n {r} e = go (of68000 i) refl
   where
     go : (t : Bool) → of68000 i ≡ t → of68000 i ≡ true
     go true g = g
     go false g = no-first (rw g at e)
 
-abbrev Refused : Reading → Type 0
-Refused q = (i : Instruction) × (n : ℕ) × (q ≡ Read i n) × (of68000 i ≡ false)
-
-answer-refused : (q : Reading) → answer68000 q ≡ NotOf68000 → Refused q
+answer-refused : (q : Reading) → restricted q ≡ NotOf68000 → Unmarked q
 answer-refused (Read i n) e = go (of68000 i) refl
   where
-    go : (t : Bool) → of68000 i ≡ t → Refused (Read i n)
+    go : (t : Bool) → of68000 i ≡ t → Unmarked (Read i n)
     go true g = first-no (rw g at e)
     go false g = (i, n, refl, g)
 answer-refused Short e = first-no e
@@ -57,9 +55,9 @@ first-alike : (ws : List ℕ) (a : ℕ) (r : Reading) → read68000Of ws a ≡ F
 unfolding read68000Of
 first-alike ws a r e = answer-first (readOf ws a) r e
 
-pub answered : (ws : List ℕ) (a : ℕ) (r : Reading) → readOf ws a ≡ r → read68000Of ws a ≡ answer68000 r
+pub answered : (ws : List ℕ) (a : ℕ) (r : Reading) → readOf ws a ≡ r → read68000Of ws a ≡ restricted r
 unfolding read68000Of
-answered ws a r e = ap answer68000 e
+answered ws a r e = ap restricted e
 
 -- it answers 5 exactly where the first does, and 6 exactly where the first does
 pub short-alike : (ws : List ℕ) (a : ℕ) → (read68000Of ws a ≡ First Short → readOf ws a ≡ Short) × (readOf ws a ≡ Short → read68000Of ws a ≡ First Short)
@@ -79,8 +77,14 @@ shown-exactly ws a i n = (
 )
 
 -- it answers 15 exactly where the first reads what is not of the MC68000
-pub refused-exactly : (ws : List ℕ) (a : ℕ)
-    → (read68000Of ws a ≡ NotOf68000 → (i : Instruction) × (n : ℕ) × (readOf ws a ≡ Read i n) × (of68000 i ≡ false))
-    × ((i : Instruction) (n : ℕ) → readOf ws a ≡ Read i n → of68000 i ≡ false → read68000Of ws a ≡ NotOf68000)
+pub refused-exactly : (ws : List ℕ) (a : ℕ) → (read68000Of ws a ≡ NotOf68000 → Unmarked (readOf ws a)) × (Unmarked (readOf ws a) → read68000Of ws a ≡ NotOf68000)
 unfolding read68000Of
-refused-exactly ws a = (answer-refused (readOf ws a), (λ i n e t. answered ws a (Read i n) e ∙ cond-false (of68000 i) _ _ t))
+refused-exactly ws a = (answer-refused (readOf ws a), (λ (i, n, e, t). answered ws a (Read i n) e ∙ cond-false (of68000 i) _ _ t))
+
+-- 5, 6 and 15 are the numbers of these three answers alone
+pub numbered : (r : Reading68000)
+    → (refusal68000 r .number ≡ 5 → r ≡ First Short) × (refusal68000 r .number ≡ 6 → r ≡ First Nothing) × (refusal68000 r .number ≡ 15 → r ≡ NotOf68000)
+numbered (First (Read i n)) = ((λ e. absurd (omega (arith, e))), (λ e. absurd (omega (arith, e))), (λ e. absurd (omega (arith, e))))
+numbered (First Short) = ((λ e. refl), (λ e. absurd (omega (arith, e))), (λ e. absurd (omega (arith, e))))
+numbered (First Nothing) = ((λ e. absurd (omega (arith, e))), (λ e. refl), (λ e. absurd (omega (arith, e))))
+numbered NotOf68000 = ((λ e. absurd (omega (arith, e))), (λ e. absurd (omega (arith, e))), (λ e. refl))

@@ -3,11 +3,10 @@ use Prim.Native.Nat.{ℕ, _+_, _*_, _/_, _%_, _<_}
 use mathlib.Core.Path.{_≡_, refl, sym, ap, _∙_}
 use mathlib.Core.Bool.{Bool, true, false, not, _&&_, _||_, cond, false≢true}
 use mathlib.Core.List.{List, [], _∷_, _++_}
-use mathlib.Core.Logic.{_⊎_, inl, inr}
+use mathlib.Core.Logic.{inl, inr}
 use native.Mathlib.Omega.{arith}
 use lib.Dec.{eqb}
 use lib.IntN.{ℤ, pos}
-use lib.ListN.{length}
 use Rattle.isa.specs.declared.Size.{Size}
 use Rattle.isa.specs.declared.Size.the-variants.{Byte, Word, Long}
 use Rattle.isa.specs.declared.BranchSize.the-variants as branch
@@ -40,7 +39,7 @@ use Rattle.read_spec.specs.Read.{groupTree, wordTree, reader, readingOf, readOf
 use Rattle.read_spec.specs.Accepted.{Accepted}
 use Rattle.read_laws.specs.MapLaws.{at-line}
 use Rattle.m68000_spec.specs.declared.Reading68000.the-variants.{First, NotOf68000}
-use Rattle.m68000_spec.specs.Of68000.{operandOf68000, operandsOf, allOf68000, entryOf68000, of68000}
+use Rattle.m68000_spec.specs.Of68000.{operandOf68000, operandsOf, allOf68000, instructionOf68000, of68000}
 use Rattle.m68000_spec.specs.Read68000.{read68000Of}
 use Rattle.m68000_spec.specs.Promises.{Among, HasOperand, isFullOrScaled}
 use Rattle.m68000_laws.specs.Exactly.{short-alike, shown-exactly, refused-exactly}
@@ -56,7 +55,7 @@ pub no-extended : (ws : List ℕ) (a : ℕ) (i : Instruction) (n : ℕ) → read
     → (base w : ℕ) (z outer : ℤ) → HasOperand i (Extended base w z outer) → ⊥
 unfolding of68000
 no-extended ws a i n e base w z outer m =
-    let t = and-true (entryOf68000 i) (allOf68000 (operandsOf i)) (shown-exactly ws a i n .0 e .1) .1 in
+    let t = and-true (instructionOf68000 i) (allOf68000 (operandsOf i)) (shown-exactly ws a i n .0 e .1) .1 in
     false≢true (among-all (operandsOf i) (Extended base w z outer) m t)
 
 -- ---- words of an instruction that has such an operand are answered 15
@@ -130,7 +129,7 @@ unfolding of68000
 extended-refused a i rest g base w z outer m h =
     let f = among-refused base w z outer h (operandsOf i) (operandsOf (plain i)) m (plain-operands i) in
     accepted-answer a i rest g
-    ∙ cond-false (of68000 (plain i)) _ _ (ap (λ (b : Bool). entryOf68000 (plain i) && b) f ∙ and-false (entryOf68000 (plain i)))
+    ∙ cond-false (of68000 (plain i)) _ _ (ap (λ (b : Bool). instructionOf68000 (plain i) && b) f ∙ and-false (instructionOf68000 (plain i)))
 
 -- ---- no branch of Long is shown, and words of one are answered 15
 pub no-long-branch : (ws : List ℕ) (a : ℕ) (i : Instruction) (n : ℕ) → read68000Of ws a ≡ First (Read i n)
@@ -185,5 +184,5 @@ unfolding readOf
 byte-ff a w hl hb = (
   short-alike (w ∷ []) a .1 (ap readingOf (ff-run a w hl hb [])),
   (λ v. short-alike (w ∷ v ∷ []) a .1 (ap readingOf (ff-run a w hl hb (v ∷ [])))),
-  (λ v u rest. refused-exactly (w ∷ v ∷ u ∷ rest) a .1 _ 6 (ff-reads a w hl hb v u rest) (branch-refused (code a w hl hb) (target a w hl hb v u))),
+  (λ v u rest. refused-exactly (w ∷ v ∷ u ∷ rest) a .1 (_, 6, ff-reads a w hl hb v u rest, branch-refused (code a w hl hb) (target a w hl hb v u))),
 )

@@ -13,13 +13,13 @@ use Rattle.read_laws.specs.Kept.{read-kept}
 use Rattle.print_spec.specs.Run.{isAddressField, areWords, fieldWords}
 use Rattle.read_runs.specs.Kept.{keptRun, noRun, runIn, runOf}
 use Rattle.read_runs.specs.RunLaws.{kept-words}
-use Rattle.m68000_spec.specs.Read68000.{answer68000, read68000Of}
+use Rattle.m68000_spec.specs.Read68000.{restricted, read68000Of}
 use Rattle.m68000_spec.specs.Answer68000.{reading68000Text, answer68000To, read68000AnswerOf}
 use Rattle.m68000_answers.specs.Kept.{run68000Text, kept68000AnswerOf}
 
 kept-address : (a : ℕ) (ws : List ℕ) → read68000Of (take 16 ws) (keptRun a ws .address) ≡ read68000Of ws a
 unfolding keptRun read68000Of
-kept-address a ws = ap answer68000 (read-kept ws a)
+kept-address a ws = ap restricted (read-kept ws a)
 
 kept-text : (a : ℕ) (ws : List ℕ) → run68000Text (keptRun a ws) ≡ reading68000Text (read68000Of ws a)
 unfolding run68000Text

@@ -101,50 +101,50 @@ abbrev pub vectorOf68000 : VectorOperation → Bool
 vectorOf68000 TRAP = true
 vectorOf68000 BKPT = false
 
--- whether the entry has the instruction for the MC68000, and the modes that this entry alone marks. Under their titles RTD and MOVEC are of the
+-- whether its entry has the instruction for the MC68000, with the modes of TST and CMPI. Under their titles RTD and MOVEC are of the
 -- MC68010 and later, TRAPcc, PACK, UNPK, CAS, CAS2 and the bit fields of the MC68020 and later; so are the long forms of MULS, MULU, DIVS and
 -- DIVU. Line A and line F words are shown (02); the reader leaves out IllegalWord and SIMHALT (01), of which the manual has no entry
-abbrev pub entryOf68000 : Instruction → Bool
-entryOf68000 (IntoRegister op o r s) = intoRegisterOf68000 op
-entryOf68000 (MOVEM direction s mask o) = true
-entryOf68000 (Transfer op direction s r o) = transferOf68000 op
-entryOf68000 (Pair op o d s) = true
-entryOf68000 (Quick op n o s) = true
-entryOf68000 (MOVEQ v r) = true
-entryOf68000 (ImmediateInto op v o s) = immediateIntoOf68000 op o
-entryOf68000 (WordIntoData op o r sign) = true
-entryOf68000 (SWAP r) = true
-entryOf68000 (EXG x y) = true
-entryOf68000 (UnsizedIntoRegister op o r) = unsizedIntoRegisterOf68000 op
-entryOf68000 (UnsizedOne op o) = unsizedOneOf68000 op
-entryOf68000 (UnsizedPair op o d) = true
-entryOf68000 (EXT r from to) = extOf68000 from to
-entryOf68000 (OneOperand op o s) = oneOperandOf68000 op o
-entryOf68000 (Bcc t condition s) = branchOf68000 s
-entryOf68000 (Scc o condition) = true
-entryOf68000 (DBcc r t condition) = true
-entryOf68000 (Branch op t s) = branchOf68000 s
-entryOf68000 (Link op r d) = linkOf68000 op
-entryOf68000 (UNLK r) = true
-entryOf68000 (Shift op count o direction s) = true
-entryOf68000 (Vector op v) = vectorOf68000 op
-entryOf68000 (Status op v) = true
-entryOf68000 (ConditionCode op v) = true
-entryOf68000 (MOVEUSP to r) = true
-entryOf68000 (Raw op w) = true
-entryOf68000 (NoOperand op) = true
-entryOf68000 (RTD d) = false
-entryOf68000 (MOVEC to control r) = false
-entryOf68000 (TRAPcc condition x) = false
-entryOf68000 (MULL o low high sign) = false
-entryOf68000 (Pack op o d adjustment) = false
-entryOf68000 (CAS compare update o s) = false
-entryOf68000 (CAS2 compare1 compare2 update1 update2 pointer1 pointer2 s) = false
-entryOf68000 (BF op o f r) = false
-entryOf68000 (DIVL o quotient remainder wide sign) = false
+abbrev pub instructionOf68000 : Instruction → Bool
+instructionOf68000 (IntoRegister op o r s) = intoRegisterOf68000 op
+instructionOf68000 (MOVEM direction s mask o) = true
+instructionOf68000 (Transfer op direction s r o) = transferOf68000 op
+instructionOf68000 (Pair op o d s) = true
+instructionOf68000 (Quick op n o s) = true
+instructionOf68000 (MOVEQ v r) = true
+instructionOf68000 (ImmediateInto op v o s) = immediateIntoOf68000 op o
+instructionOf68000 (WordIntoData op o r sign) = true
+instructionOf68000 (SWAP r) = true
+instructionOf68000 (EXG x y) = true
+instructionOf68000 (UnsizedIntoRegister op o r) = unsizedIntoRegisterOf68000 op
+instructionOf68000 (UnsizedOne op o) = unsizedOneOf68000 op
+instructionOf68000 (UnsizedPair op o d) = true
+instructionOf68000 (EXT r from to) = extOf68000 from to
+instructionOf68000 (OneOperand op o s) = oneOperandOf68000 op o
+instructionOf68000 (Bcc t condition s) = branchOf68000 s
+instructionOf68000 (Scc o condition) = true
+instructionOf68000 (DBcc r t condition) = true
+instructionOf68000 (Branch op t s) = branchOf68000 s
+instructionOf68000 (Link op r d) = linkOf68000 op
+instructionOf68000 (UNLK r) = true
+instructionOf68000 (Shift op count o direction s) = true
+instructionOf68000 (Vector op v) = vectorOf68000 op
+instructionOf68000 (Status op v) = true
+instructionOf68000 (ConditionCode op v) = true
+instructionOf68000 (MOVEUSP to r) = true
+instructionOf68000 (Raw op w) = true
+instructionOf68000 (NoOperand op) = true
+instructionOf68000 (RTD d) = false
+instructionOf68000 (MOVEC to control r) = false
+instructionOf68000 (TRAPcc condition x) = false
+instructionOf68000 (MULL o low high sign) = false
+instructionOf68000 (Pack op o d adjustment) = false
+instructionOf68000 (CAS compare update o s) = false
+instructionOf68000 (CAS2 compare1 compare2 update1 update2 pointer1 pointer2 s) = false
+instructionOf68000 (BF op o f r) = false
+instructionOf68000 (DIVL o quotient remainder wide sign) = false
 
--- every table of addressing modes has (bd,An,Xn), (bd,PC,Xn) and the memory indirect modes, those with a full extension word, for the MC68020 and
--- later alone; and the MC68000's extension word has no scale (section 2.4). In plain form these are the `Extended` operands
+-- (bd,An,Xn), (bd,PC,Xn) and the memory indirect modes, those of a full extension word, are of later processors in every table that has them; and
+-- the MC68000's extension word has no scale (section 2.4). In plain form these are the `Extended` operands
 abbrev pub operandOf68000 : Operand → Bool
 operandOf68000 (Immediate v) = true
 operandOf68000 (Register r) = true
@@ -158,7 +158,7 @@ operandOf68000 (PcIndex t x) = true
 operandOf68000 (Extended base w z outer) = false
 operandOf68000 (Absolute a width) = true
 
--- the operands of an instruction
+-- an instruction's fields of the type Operand
 abbrev pub operandsOf : Instruction → List Operand
 operandsOf (IntoRegister op o r s) = o ∷ []
 operandsOf (MOVEM direction s mask o) = o ∷ []
@@ -204,4 +204,4 @@ allOf68000 (o ∷ os) = operandOf68000 o && allOf68000 os
 
 -- the instruction and its operands
 unfoldable pub of68000 : Instruction → Bool
-of68000 i = entryOf68000 i && allOf68000 (operandsOf i)
+of68000 i = instructionOf68000 i && allOf68000 (operandsOf i)

@@ -1,4 +1,4 @@
--- What a run of words reads as on an MC68000 board (02, N4).
+-- What the second reader answers, for boards with an MC68000 (02, N4).
 use Prim.Native.Nat.{ℕ}
 use mathlib.Core.Bool.{cond}
 use mathlib.Core.List.{List}
@@ -11,14 +11,14 @@ use Rattle.m68000_spec.specs.declared.Reading68000.{Reading68000}
 use Rattle.m68000_spec.specs.declared.Reading68000.the-variants.{First, NotOf68000}
 use Rattle.m68000_spec.specs.Of68000.{of68000}
 
--- what the first reader answers; 15 comes after 5 and 6, so only where it reads
-abbrev pub answer68000 : Reading → Reading68000
-answer68000 (Read i n) = cond (of68000 i) (First (Read i n)) NotOf68000
-answer68000 Short = First Short
-answer68000 Nothing = First Nothing
+-- of the first reader's answer: 15 comes after 5 and 6, so only where it reads
+abbrev pub restricted : Reading → Reading68000
+restricted (Read i n) = cond (of68000 i) (First (Read i n)) NotOf68000
+restricted Short = First Short
+restricted Nothing = First Nothing
 
 unfoldable pub read68000Of : List ℕ → ℕ → Reading68000
-read68000Of ws a = answer68000 (readOf ws a)
+read68000Of ws a = restricted (readOf ws a)
 
 -- the length in bytes, or number, detail and value
 abbrev pub refusal68000 : Reading68000 → Measured

@@ -1,4 +1,4 @@
-// Prints the instruction that each run of words reads as on an MC68000 board, in numeric form, and its length.
+// Prints the instruction that each run of words reads as, in numeric form, and its length, for boards with an MC68000.
 
 ghost use mathlib.Core.Path.{_≡_};
 ghost use lib.ListN.{length, replicate};

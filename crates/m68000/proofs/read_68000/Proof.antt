@@ -5,7 +5,7 @@ use Rattle.m68000.proofs.read_68000.Tie as tie
 
 returns : tie.Need-returns
 unfolding read68000Of
-returns c = rw (c .answer .ensures, c .before .read .ensures)
+returns c = rw (c .restricted .ensures, c .before .read .ensures)
 
 pub read-68000-spec : {M : Type 1} → statement M
 read-68000-spec = tie.close (tie.spec (λ c κs. search needs) (λ c κs. search needs) returns)

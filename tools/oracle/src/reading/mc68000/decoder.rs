@@ -16,6 +16,7 @@ use crate::reading::judge::{longer, read, Reading};
 use crate::reading::plain::plain;
 use crate::reading::run::Run;
 use crate::reading::unused::rule;
+use crate::written::place;
 
 /// A rule, and the answer that it calls for.
 type Due = Option<(String, String)>;
@@ -100,7 +101,7 @@ fn branch(run: &Run) -> Due {
 fn whole(run: &Run, instruction: Instruction, reading: Reading) -> Due {
     match reading {
         Reading::Read(first, _) => match index_words(first) {
-            (_, true) => due(
+            (_, true) if place(&first) == place(&instruction) => due(
                 "full word: decode.rs reads a brief one; 15".into(),
                 NOT_68000,
             ),
@@ -111,9 +112,11 @@ fn whole(run: &Run, instruction: Instruction, reading: Reading) -> Due {
             _ => None,
         },
         Reading::Short => {
-            let (_, full) = index_words(longer(&run.words, run.address)?);
+            let first = longer(&run.words, run.address)?;
+            let (_, full) = index_words(first);
             let rule = "full word, cut: decode.rs reads a brief one; 5";
-            full.then(|| (rule.to_string(), SHORT.to_string()))
+            (full && place(&first) == place(&instruction))
+                .then(|| (rule.to_string(), SHORT.to_string()))
         }
         Reading::Nothing => {
             let rule = rule(&run.words, run.address)?;

@@ -24,7 +24,7 @@ const SOURCES: [u16; 2] = [0x0030, 0x003B];
 const DESTINATION: u16 = 0x0180;
 
 /// First words whose operand has an index, and the words before the index word.
-const OTHERS: [(u16, &[u16]); 26] = [
+const OTHERS: [(u16, &[u16]); 29] = [
     (0x0030, &[0x0012]),
     (0x00B0, &[0x0001, 0x0002]),
     (0x0830, &[0x0007]),
@@ -50,6 +50,9 @@ const OTHERS: [(u16, &[u16]); 26] = [
     (0xD0B0, &[]),
     (0xD1B0, &[]),
     (0xE1F0, &[]),
+    (0xE3F0, &[]),
+    (0xE4F0, &[]),
+    (0xE7F0, &[]),
     (0xE8F0, &[0x0001]),
 ];
 

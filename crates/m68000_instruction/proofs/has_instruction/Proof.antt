@@ -1,7 +1,7 @@
-use Rattle.m68000_instruction.proofs.Laws.{always-entry}
+use Rattle.m68000_instruction.proofs.Laws.{always-instruction}
 use borrow.Author.Needs.{needs}
-use Rattle.m68000_instruction.proofs.entry.Statement.{statement}
-use Rattle.m68000_instruction.proofs.entry.Tie as tie
+use Rattle.m68000_instruction.proofs.has_instruction.Statement.{statement}
+use Rattle.m68000_instruction.proofs.has_instruction.Tie as tie
 
 returns : tie.Need-returns
 returns c = rw (c .into-register .ensures, c .before .before .i .given .1)
@@ -64,10 +64,10 @@ returns-20 : tie.Need-returns-20
 returns-20 c = rw (c .enum-told9 .given .1)
 
 returns-21 : tie.Need-returns-21
-returns-21 c = always-entry (c .before .args .i) (c .match .keys21)
+returns-21 c = always-instruction (c .before .args .i) (c .match .keys21)
 
-pub entry-spec : {M : Type 1} → statement M
-entry-spec =
+pub has-instruction-spec : {M : Type 1} → statement M
+has-instruction-spec =
     tie.close
     (tie.spec
     (λ c. search needs)
