@@ -55,33 +55,34 @@ first-alike : (ws : List ℕ) (a : ℕ) (r : Reading) → read68000Of ws a ≡ F
 unfolding read68000Of
 first-alike ws a r e = answer-first (readOf ws a) r e
 
-pub answered : (ws : List ℕ) (a : ℕ) (r : Reading) → readOf ws a ≡ r → read68000Of ws a ≡ restricted r
+-- what it answers, by the first's answer
+pub as-restricted : (ws : List ℕ) (a : ℕ) (r : Reading) → readOf ws a ≡ r → read68000Of ws a ≡ restricted r
 unfolding read68000Of
-answered ws a r e = ap restricted e
+as-restricted ws a r e = ap restricted e
 
 -- it answers 5 exactly where the first does, and 6 exactly where the first does
 pub short-alike : (ws : List ℕ) (a : ℕ) → (read68000Of ws a ≡ First Short → readOf ws a ≡ Short) × (readOf ws a ≡ Short → read68000Of ws a ≡ First Short)
-short-alike ws a = (first-alike ws a Short, answered ws a Short)
+short-alike ws a = (first-alike ws a Short, as-restricted ws a Short)
 
 pub nothing-alike : (ws : List ℕ) (a : ℕ)
     → (read68000Of ws a ≡ First Nothing → readOf ws a ≡ Nothing) × (readOf ws a ≡ Nothing → read68000Of ws a ≡ First Nothing)
-nothing-alike ws a = (first-alike ws a Nothing, answered ws a Nothing)
+nothing-alike ws a = (first-alike ws a Nothing, as-restricted ws a Nothing)
 
 -- it shows an instruction and a length exactly where the first shows these and the instruction is of the MC68000
 pub shown-exactly : (ws : List ℕ) (a : ℕ) (i : Instruction) (n : ℕ)
     → (read68000Of ws a ≡ First (Read i n) → (readOf ws a ≡ Read i n) × (of68000 i ≡ true))
     × (readOf ws a ≡ Read i n → of68000 i ≡ true → read68000Of ws a ≡ First (Read i n))
 shown-exactly ws a i n = (
-  (λ e. let q = first-alike ws a (Read i n) e in (q, answer-of i n (sym (answered ws a (Read i n) q) ∙ e))),
-  (λ e t. answered ws a (Read i n) e ∙ cond-true (of68000 i) _ _ t),
+  (λ e. let q = first-alike ws a (Read i n) e in (q, answer-of i n (sym (as-restricted ws a (Read i n) q) ∙ e))),
+  (λ e t. as-restricted ws a (Read i n) e ∙ cond-true (of68000 i) _ _ t),
 )
 
 -- it answers 15 exactly where the first reads what is not of the MC68000
 pub refused-exactly : (ws : List ℕ) (a : ℕ) → (read68000Of ws a ≡ NotOf68000 → Unmarked (readOf ws a)) × (Unmarked (readOf ws a) → read68000Of ws a ≡ NotOf68000)
 unfolding read68000Of
-refused-exactly ws a = (answer-refused (readOf ws a), (λ (i, n, e, t). answered ws a (Read i n) e ∙ cond-false (of68000 i) _ _ t))
+refused-exactly ws a = (answer-refused (readOf ws a), (λ (i, n, e, t). as-restricted ws a (Read i n) e ∙ cond-false (of68000 i) _ _ t))
 
--- 5, 6 and 15 are the numbers of these three answers alone
+-- no other answer has the number 5, 6 or 15
 pub numbered : (r : Reading68000)
     → (refusal68000 r .number ≡ 5 → r ≡ First Short) × (refusal68000 r .number ≡ 6 → r ≡ First Nothing) × (refusal68000 r .number ≡ 15 → r ≡ NotOf68000)
 numbered (First (Read i n)) = ((λ e. absurd (omega (arith, e))), (λ e. absurd (omega (arith, e))), (λ e. absurd (omega (arith, e))))

@@ -41,9 +41,10 @@ use Rattle.read_laws.specs.MapLaws.{at-line}
 use Rattle.m68000_spec.specs.declared.Reading68000.the-variants.{First, NotOf68000}
 use Rattle.m68000_spec.specs.Of68000.{operandOf68000, operandsOf, allOf68000, instructionOf68000, of68000}
 use Rattle.m68000_spec.specs.Read68000.{read68000Of}
-use Rattle.m68000_spec.specs.Promises.{Among, HasOperand, isFullOrScaled}
+use Rattle.m68000_spec.specs.Promises.{HasOperand, isFullOrScaled}
 use Rattle.m68000_laws.specs.Exactly.{short-alike, shown-exactly, refused-exactly}
 use Rattle.m68000_laws.specs.Shown.{accepted-answer}
+use Rattle.m68000_laws.specs.Operands.{Among, among}
 
 -- ---- what is shown has no Extended operand
 among-all : (os : List Operand) (o : Operand) → Among o os → allOf68000 os ≡ true → operandOf68000 o ≡ true
@@ -52,11 +53,11 @@ among-all (x ∷ xs) o (inr m) t = among-all xs o m (and-true (operandOf68000 x)
 
 -- no operand of it is one of a full extension word or of a scale above 1, which in plain form are `Extended`
 pub no-extended : (ws : List ℕ) (a : ℕ) (i : Instruction) (n : ℕ) → read68000Of ws a ≡ First (Read i n)
-    → (base w : ℕ) (z outer : ℤ) → HasOperand i (Extended base w z outer) → ⊥
+    → (base w : ℕ) (z outer : ℤ) → HasOperand (Extended base w z outer) i → ⊥
 unfolding of68000
 no-extended ws a i n e base w z outer m =
     let t = and-true (instructionOf68000 i) (allOf68000 (operandsOf i)) (shown-exactly ws a i n .0 e .1) .1 in
-    false≢true (among-all (operandsOf i) (Extended base w z outer) m t)
+    false≢true (among-all (operandsOf i) (Extended base w z outer) (among _ i m) t)
 
 -- ---- words of an instruction that has such an operand are answered 15
 -- the operands ps are the plain forms of the operands os
@@ -123,11 +124,11 @@ module _ (base w : ℕ) (z outer : ℤ) (h : isFullOrScaled w ≡ true) where
 
 -- so the words of an accepted instruction with a full extension word or a scale above 1 are answered 15
 pub extended-refused : (a : ℕ) (i : Instruction) (rest : List ℕ) → Accepted a i
-    → (base w : ℕ) (z outer : ℤ) → HasOperand i (Extended base w z outer) → isFullOrScaled w ≡ true
+    → (base w : ℕ) (z outer : ℤ) → HasOperand (Extended base w z outer) i → isFullOrScaled w ≡ true
     → read68000Of (wordsOf i a ++ rest) a ≡ NotOf68000
 unfolding of68000
 extended-refused a i rest g base w z outer m h =
-    let f = among-refused base w z outer h (operandsOf i) (operandsOf (plain i)) m (plain-operands i) in
+    let f = among-refused base w z outer h (operandsOf i) (operandsOf (plain i)) (among _ i m) (plain-operands i) in
     accepted-answer a i rest g
     ∙ cond-false (of68000 (plain i)) _ _ (ap (λ (b : Bool). instructionOf68000 (plain i) && b) f ∙ and-false (instructionOf68000 (plain i)))
 

@@ -16,12 +16,12 @@ use Rattle.read_laws.specs.ReaderLaws.{complete, sound}
 use Rattle.m68k_facts.specs.Laws.{accepted-words}
 use Rattle.m68000_spec.specs.declared.Reading68000.the-variants.{First}
 use Rattle.m68000_spec.specs.Read68000.{restricted, read68000Of}
-use Rattle.m68000_laws.specs.Exactly.{answered, shown-exactly}
+use Rattle.m68000_laws.specs.Exactly.{as-restricted, shown-exactly}
 
 -- an accepted instruction's words, whatever follows them, are answered by its plain form
 pub accepted-answer : (a : ℕ) (i : Instruction) (rest : List ℕ) → Accepted a i
     → read68000Of (wordsOf i a ++ rest) a ≡ restricted (Read (plain i) (2 * length (wordsOf i a)))
-accepted-answer a i rest h = answered (wordsOf i a ++ rest) a _ (complete a i rest h)
+accepted-answer a i rest h = as-restricted (wordsOf i a ++ rest) a _ (complete a i rest h)
 
 accepted-count : (i : Instruction) (a : ℕ) → refusalOf true i a ≡ fine → (encodeOf i a .number ≡ 0) × (encodeOf i a .count ≡ length (wordsOf i a))
 unfolding encodeOf

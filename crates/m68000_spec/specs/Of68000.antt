@@ -102,8 +102,8 @@ vectorOf68000 TRAP = true
 vectorOf68000 BKPT = false
 
 -- whether its entry has the instruction for the MC68000, with the modes of TST and CMPI. Under their titles RTD and MOVEC are of the
--- MC68010 and later, TRAPcc, PACK, UNPK, CAS, CAS2 and the bit fields of the MC68020 and later; so are the long forms of MULS, MULU, DIVS and
--- DIVU. Line A and line F words are shown (02); the reader leaves out IllegalWord and SIMHALT (01), of which the manual has no entry
+-- MC68010 and later, TRAPcc, PACK, UNPK, CAS, CAS2 and the bit fields of the MC68020 and later; so are the long forms of MULS, MULU, DIVS
+-- and DIVU, DIVSL and DIVUL. Line A and line F words are shown (02); the reader leaves out IllegalWord and SIMHALT (01), of which the manual has no entry
 abbrev pub instructionOf68000 : Instruction → Bool
 instructionOf68000 (IntoRegister op o r s) = intoRegisterOf68000 op
 instructionOf68000 (MOVEM direction s mask o) = true
