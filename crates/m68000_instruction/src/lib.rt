@@ -1,6 +1,7 @@
-// Whether an instruction in plain form is of the MC68000.
+// Whether an instruction in plain form is of the MC68000, and so what is answered of a reading.
 ghost use mathlib.Core.Path.{_≡_};
-ghost use Rattle.m68000_spec.specs.Of68000.{intoRegisterOf68000, transferOf68000, immediateIntoOf68000, unsizedIntoRegisterOf68000, unsizedOneOf68000, extOf68000, oneOperandOf68000, branchOf68000, linkOf68000, vectorOf68000, instructionOf68000, operandOf68000, operandsOf, allOf68000, of68000};
+ghost use Rattle.m68000_spec.specs.Of68000.{intoRegisterOf68000, transferOf68000, immediateIntoOf68000, unsizedIntoRegisterOf68000, unsizedOneOf68000, extOf68000, oneOperandOf68000, branchOf68000, linkOf68000, vectorOf68000, operandOf68000, of68000};
+ghost use Rattle.m68000_spec.specs.Read68000.{restricted};
 use isa::BranchSize;
 use isa::ImmediateOperation;
 use isa::Instruction;
@@ -16,6 +17,8 @@ use isa::VectorOperation;
 use isa_operands::DATA_ALTERABLE;
 use isa_operands::permitted;
 use isa_values::code;
+use m68000_spec::Reading68000;
+use read_spec::Reading;
 
 fn into_register(op: RegisterOperation) -> bool
     ensures { λ r. ⌜ r ≡ intoRegisterOf68000 op ⌝ }
@@ -129,21 +132,42 @@ fn vector(op: VectorOperation) -> bool
     }
 }
 
-// Whether the manual's entry has the instruction for the MC68000, with the modes of TST and CMPI.
-fn has_instruction(i: Instruction) -> bool
-    ensures { λ r. ⌜ r ≡ instructionOf68000 i ⌝ }
+// Neither a full extension word nor a scale above 1.
+fn operand(o: Operand) -> bool
+    ensures { λ r. ⌜ r ≡ operandOf68000 o ⌝ }
+{
+    let Operand::Extended { .. } = o else {
+        return true;
+    };
+    false
+}
+
+// Whether an instruction is of the MC68000.
+fn of_68000(i: Instruction) -> bool
+    ensures { λ r. ⌜ r ≡ of68000 i ⌝ }
 {
     match i {
-        Instruction::IntoRegister(op, ..) => into_register(op),
-        Instruction::Transfer { operation, .. } => transfer(operation),
-        Instruction::ImmediateInto(op, _, o, _) => immediate_into(op, o),
-        Instruction::UnsizedIntoRegister(op, ..) => unsized_into_register(op),
-        Instruction::UnsizedOne(op, _) => unsized_one(op),
+        Instruction::IntoRegister(op, o, ..) => into_register(op) & operand(o),
+        Instruction::MOVEM { target, .. } => operand(target),
+        Instruction::Transfer {
+            operation,
+            target,
+            ..
+        } => transfer(operation) & operand(target),
+        Instruction::Pair(_, o, d, _) => operand(o) & operand(d),
+        Instruction::Quick(_, _, o, _) => operand(o),
+        Instruction::ImmediateInto(op, _, o, _) => immediate_into(op, o) & operand(o),
+        Instruction::WordIntoData(_, o, ..) => operand(o),
+        Instruction::UnsizedIntoRegister(op, o, _) => unsized_into_register(op) & operand(o),
+        Instruction::UnsizedOne(op, o) => unsized_one(op) & operand(o),
+        Instruction::UnsizedPair(_, o, d) => operand(o) & operand(d),
         Instruction::EXT(_, from, to) => ext(from, to),
-        Instruction::OneOperand(op, o, _) => one_operand(op, o),
+        Instruction::OneOperand(op, o, _) => one_operand(op, o) & operand(o),
         Instruction::Bcc(_, _, s) => branch(s),
+        Instruction::Scc(o, _) => operand(o),
         Instruction::Branch(_, _, s) => branch(s),
         Instruction::Link(op, ..) => link(op),
+        Instruction::Shift(_, count, o, ..) => operand(count) & operand(o),
         Instruction::Vector(op, _) => vector(op),
         Instruction::RTD(_) => false,
         Instruction::MOVEC { .. } => false,
@@ -158,46 +182,19 @@ fn has_instruction(i: Instruction) -> bool
     }
 }
 
-// Neither a full extension word nor a scale above 1.
-fn has_operand(o: Operand) -> bool
-    ensures { λ r. ⌜ r ≡ operandOf68000 o ⌝ }
+// What the first reader gave, or 15.
+pub fn restricted(reading: Reading) -> Reading68000
+    ensures { λ r. ⌜ r ≡ restricted reading ⌝ }
 {
-    let Operand::Extended { .. } = o else {
-        return true;
-    };
-    false
-}
-
-// Whether each operand is of the MC68000.
-fn has_operands(i: Instruction) -> bool
-    ensures { λ r. ⌜ r ≡ allOf68000 (operandsOf i) ⌝ }
-{
-    match i {
-        Instruction::IntoRegister(_, o, _, _) => has_operand(o),
-        Instruction::MOVEM { target, .. } => has_operand(target),
-        Instruction::Transfer { target, .. } => has_operand(target),
-        Instruction::Pair(_, o, d, _) => has_operand(o) & has_operand(d),
-        Instruction::Quick(_, _, o, _) => has_operand(o),
-        Instruction::ImmediateInto(_, _, o, _) => has_operand(o),
-        Instruction::WordIntoData(_, o, _, _) => has_operand(o),
-        Instruction::UnsizedIntoRegister(_, o, _) => has_operand(o),
-        Instruction::UnsizedOne(_, o) => has_operand(o),
-        Instruction::UnsizedPair(_, o, d) => has_operand(o) & has_operand(d),
-        Instruction::OneOperand(_, o, _) => has_operand(o),
-        Instruction::Scc(o, _) => has_operand(o),
-        Instruction::Shift(_, count, o, _, _) => has_operand(count) & has_operand(o),
-        Instruction::MULL { source, .. } => has_operand(source),
-        Instruction::Pack(_, o, d, _) => has_operand(o) & has_operand(d),
-        Instruction::CAS { target, .. } => has_operand(target),
-        Instruction::BF { target, .. } => has_operand(target),
-        Instruction::DIVL { source, .. } => has_operand(source),
-        _ => true,
+    match reading {
+        Reading::Read(i, _) => {
+            if of_68000(i) {
+                Reading68000::First(reading)
+            } else {
+                Reading68000::NotOf68000
+            }
+        }
+        Reading::Short => Reading68000::First(reading),
+        Reading::Nothing => Reading68000::First(reading),
     }
-}
-
-// Whether an instruction is of the MC68000.
-pub fn of_68000(i: Instruction) -> bool
-    ensures { λ r. ⌜ r ≡ of68000 i ⌝ }
-{
-    has_instruction(i) & has_operands(i)
 }

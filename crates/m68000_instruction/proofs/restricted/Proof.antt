@@ -2,8 +2,8 @@ use mathlib.Core.Path.{sym, _∙_}
 use Rattle.base_facts.specs.Tests.{cond-true, cond-false}
 use Rattle.m68000_spec.specs.Of68000.{of68000}
 use borrow.Author.Needs.{needs}
-use Rattle.m68000.proofs.restricted.Statement.{statement}
-use Rattle.m68000.proofs.restricted.Tie as tie
+use Rattle.m68000_instruction.proofs.restricted.Statement.{statement}
+use Rattle.m68000_instruction.proofs.restricted.Tie as tie
 
 returns : tie.Need-returns
 returns c = rw (c .before .before .before .reading .given .1) (sym (cond-true (of68000 (c .before .before .before .reading .given .0 .0)) _ _ (sym (c .before .of-68000 .ensures) ∙ c .if1 .taken)))
