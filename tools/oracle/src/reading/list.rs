@@ -74,10 +74,7 @@ fn runs(seed: u64) -> Vec<Run> {
         placed_words(),
         groups(&mut random),
         first_words(STEP, &mut random),
-        encoded.alone,
-        encoded.behind,
-        encoded.beginnings,
-        encoded.changed,
+        encoded.runs(),
         unused(UNUSED, &mut random),
         ends(&mut random),
     ]

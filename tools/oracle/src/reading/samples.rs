@@ -105,6 +105,12 @@ pub struct Encoded {
     pub changed: Vec<Run>,
 }
 
+impl Encoded {
+    pub fn runs(self) -> Vec<Run> {
+        [self.alone, self.behind, self.beginnings, self.changed].concat()
+    }
+}
+
 pub fn encoded(seed: u64, random: &mut Random) -> Encoded {
     let mut made = Encoded::default();
     for of_variant in by_variant(seed, random).values() {

@@ -31,10 +31,7 @@ fn runs(seed: u64) -> Vec<Run> {
         indexed(&mut random),
         groups(&mut random),
         first_words(STEP, &mut random),
-        encoded.alone,
-        encoded.behind,
-        encoded.beginnings,
-        encoded.changed,
+        encoded.runs(),
         unused(UNUSED, &mut random),
     ]
     .concat()
