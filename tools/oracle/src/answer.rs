@@ -2,7 +2,7 @@
 
 use crate::instructions::Instruction;
 use crate::machine::encode::{self as rust, EncodeError, Field};
-use crate::minus_one;
+use crate::negative_immediates;
 use crate::numeric::{placed, Placed};
 
 include!(concat!(env!("OUT_DIR"), "/field_numbers.rs"));
@@ -32,7 +32,7 @@ const OUTSIDE: Refusal = Refusal {
 type Encode = fn(&Instruction, u32) -> Result<Vec<u16>, EncodeError>;
 
 pub fn answer(placed: &Placed) -> Answer {
-    answer_by(minus_one::encode, placed)
+    answer_by(negative_immediates::encode, placed)
 }
 
 /// The original's own, without N2.
@@ -42,7 +42,7 @@ pub fn rust_answer(placed: &Placed) -> Answer {
 
 /// Whether the original refuses an immediate that N2 lets in.
 pub fn of_n2(placed: &Placed) -> bool {
-    !placed.outside && minus_one::lets_in(&placed.instruction, placed.address)
+    !placed.outside && negative_immediates::lets_in(&placed.instruction, placed.address)
 }
 
 pub fn line_of_n2(line: &[u8]) -> bool {
@@ -67,7 +67,7 @@ pub fn encoded_bytes(placed: &Placed) -> Result<Vec<u8>, Refusal> {
     if placed.outside {
         return Err(OUTSIDE);
     }
-    minus_one::encode_bytes(&placed.instruction, placed.address).map_err(refusal)
+    negative_immediates::encode_bytes(&placed.instruction, placed.address).map_err(refusal)
 }
 
 fn refusal(error: EncodeError) -> Refusal {

@@ -19,7 +19,7 @@ mod list;
 mod machine;
 mod malformed;
 mod manual;
-mod minus_one;
+mod negative_immediates;
 mod numeric;
 mod operands;
 mod random;

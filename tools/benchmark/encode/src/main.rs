@@ -10,8 +10,8 @@ mod export;
 mod instructions;
 #[path = "../../../oracle/src/machine.rs"]
 mod machine;
-#[path = "../../../oracle/src/minus_one.rs"]
-mod minus_one;
+#[path = "../../../oracle/src/negative_immediates.rs"]
+mod negative_immediates;
 #[allow(dead_code)]
 #[path = "../../../oracle/src/numeric.rs"]
 mod numeric;

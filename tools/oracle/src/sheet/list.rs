@@ -4,7 +4,7 @@ use std::collections::HashSet;
 use std::io::{self, Write};
 use std::ops::RangeInclusive;
 
-use super::cases::{ends, instructions, large, lines, minus_one, order, reach, shown};
+use super::cases::{ends, immediates, instructions, large, lines, order, reach, shown};
 use super::generate::record;
 use super::manual::{self, Example};
 use super::record::Record;
@@ -32,7 +32,7 @@ pub fn records(seed: u64) -> Vec<Record> {
         reach::all(),
         large::all(),
         sampled(&mut random),
-        minus_one::all(&mut random),
+        immediates::all(&mut random),
         worked(manual::guide()),
         shown::all(),
     ];

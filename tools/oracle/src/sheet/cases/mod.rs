@@ -1,10 +1,10 @@
 //! The sheets of the stored list that are made by rule, and those of examples/.
 
 pub mod ends;
+pub mod immediates;
 pub mod instructions;
 pub mod large;
 pub mod lines;
-pub mod minus_one;
 pub mod order;
 pub mod reach;
 pub mod shown;
