@@ -1,9 +1,9 @@
-//! The original's answer to a line of the numeric form, with request N2.
+//! The original's answer to a line of the numeric form, with requests N2 and N5.
 
 use crate::instructions::Instruction;
 use crate::machine::encode::{self as rust, EncodeError, Field};
-use crate::negative_immediates;
 use crate::numeric::{placed, Placed};
+use crate::{negative_immediates, short_branch};
 
 include!(concat!(env!("OUT_DIR"), "/field_numbers.rs"));
 include!(concat!(env!("OUT_DIR"), "/reason_texts.rs"));
@@ -32,10 +32,18 @@ const OUTSIDE: Refusal = Refusal {
 type Encode = fn(&Instruction, u32) -> Result<Vec<u16>, EncodeError>;
 
 pub fn answer(placed: &Placed) -> Answer {
+    answer_by(encode, placed)
+}
+
+pub fn answer_without_n2(placed: &Placed) -> Answer {
+    answer_by(short_branch::encode, placed)
+}
+
+pub fn answer_without_n5(placed: &Placed) -> Answer {
     answer_by(negative_immediates::encode, placed)
 }
 
-/// The original's own, without N2.
+/// The original's own, without either.
 pub fn rust_answer(placed: &Placed) -> Answer {
     answer_by(rust::encode, placed)
 }
@@ -45,8 +53,14 @@ pub fn of_n2(placed: &Placed) -> bool {
     !placed.outside && negative_immediates::lets_in(&placed.instruction, placed.address)
 }
 
-pub fn line_of_n2(line: &[u8]) -> bool {
-    placed(line).is_some_and(|placed| of_n2(&placed))
+/// Whether the original accepts a short branch that N5 turns back.
+pub fn of_n5(placed: &Placed) -> bool {
+    !placed.outside && short_branch::turns_back(&placed.instruction, placed.address)
+}
+
+fn encode(instruction: &Instruction, address: u32) -> Result<Vec<u16>, EncodeError> {
+    let said = negative_immediates::encode(instruction, address);
+    short_branch::due(instruction, address, said)
 }
 
 fn answer_by(encode: Encode, placed: &Placed) -> Answer {
@@ -67,7 +81,8 @@ pub fn encoded_bytes(placed: &Placed) -> Result<Vec<u8>, Refusal> {
     if placed.outside {
         return Err(OUTSIDE);
     }
-    negative_immediates::encode_bytes(&placed.instruction, placed.address).map_err(refusal)
+    let said = negative_immediates::encode_bytes(&placed.instruction, placed.address);
+    short_branch::due(&placed.instruction, placed.address, said).map_err(refusal)
 }
 
 fn refusal(error: EncodeError) -> Refusal {
@@ -95,7 +110,7 @@ pub fn answer_line(line: &[u8]) -> String {
     line_by(answer, line)
 }
 
-/// The same without N2.
+/// The same without N2 and N5.
 pub fn rust_answer_line(line: &[u8]) -> String {
     line_by(rust_answer, line)
 }
@@ -107,9 +122,10 @@ fn line_by(answer: fn(&Placed) -> Answer, line: &[u8]) -> String {
     }
 }
 
-/// Whether `line` is in the form and `encode` accepts it.
+/// Whether `line` is in the form and `encode` accepts it. Lines are made by this;
+/// N5 is left out, so that a seed still gives the lines that it gave before.
 pub fn accepts(line: &str) -> bool {
-    placed(line.as_bytes()).is_some_and(|placed| answer(&placed).words.is_ok())
+    placed(line.as_bytes()).is_some_and(|placed| answer_without_n5(&placed).words.is_ok())
 }
 
 impl Answer {

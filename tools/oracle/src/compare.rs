@@ -1,32 +1,33 @@
 //! Answers compared line by line.
 
+use crate::requests::Requests;
+
 const SHOWN: usize = 20;
 
 #[derive(Default)]
 pub struct Comparison {
     pub compared: usize,
     pub different: usize,
-    /// Of those compared, the ones whose immediate the Rust alone refuses.
-    pub of_n2: usize,
+    /// How many of those compared are of each.
+    pub requests: Requests,
 }
 
 /// The answer that is due.
 pub struct Expected {
     pub text: String,
-    /// Whether the Rust alone refuses the immediate.
-    pub of_n2: bool,
+    pub requests: Requests,
 }
 
 impl Expected {
-    pub fn new(text: String, of_n2: bool) -> Expected {
-        Expected { text, of_n2 }
+    pub fn new(text: String, requests: Requests) -> Expected {
+        Expected { text, requests }
     }
 }
 
 impl Comparison {
     /// Compares what is due with the answer to one case, of one line or several.
     pub fn due(&mut self, asked: &[u8], due: &Expected, found: Option<&[u8]>) {
-        self.of_n2 += due.of_n2 as usize;
+        self.requests += due.requests;
         self.answer(asked, due.text.as_bytes(), found);
     }
 
@@ -72,14 +73,9 @@ impl Comparison {
         println!("{} compared, {} different", self.compared, self.different);
     }
 
-    pub fn report_n2(&self) {
-        println!("{}", n2_count(self.of_n2));
+    pub fn report_requests(&self) {
+        println!("{}", self.requests);
     }
-}
-
-/// How many are of N2.
-pub fn n2_count(of_n2: usize) -> String {
-    format!("N2: {of_n2} whose immediate the Rust alone refuses")
 }
 
 fn at_or_none<'l>(list: &[&'l [u8]], at: usize) -> &'l [u8] {

@@ -3,15 +3,15 @@
 use std::collections::{BTreeMap, BTreeSet};
 
 use crate::answer::{
-    answer, answer_line, field_number, line_of_n2, lines, Answer, Refusal, NOT_IN_FORM, REASONS,
+    answer, answer_line, field_number, lines, Answer, Refusal, NOT_IN_FORM, REASONS,
 };
-use crate::compare::n2_count;
 use crate::draft::{Draft, Kind};
 use crate::immediate_ends::ImmediateEnds;
 use crate::instructions::Size;
 use crate::kinds::KINDS;
 use crate::machine::encode::Field;
 use crate::numeric::placed;
+use crate::requests::Requests;
 use crate::schema::{instructions, is_plain_enum, operands, variants, Number};
 use crate::systematic::operand_kinds;
 
@@ -66,7 +66,7 @@ struct Coverage {
     refused: BTreeMap<u32, BTreeSet<i64>>,
     immediate_ends: ImmediateEnds,
     addresses: BTreeSet<u32>,
-    of_n2: usize,
+    requests: Requests,
 }
 
 impl Tally {
@@ -82,7 +82,7 @@ pub fn report(input: &[u8]) {
     let mut coverage = Coverage::default();
     for line in lines(input) {
         coverage.lines += 1;
-        coverage.of_n2 += line_of_n2(line) as usize;
+        coverage.requests += Requests::of_line(line);
         match answer_line(line) == NOT_IN_FORM {
             true => coverage.not_in_form += 1,
             false => coverage.line(std::str::from_utf8(line).expect("digits and tabs")),
@@ -181,7 +181,7 @@ impl Coverage {
             "accepted {}, refused {}",
             self.all.accepted, self.all.refused
         );
-        println!("{}", n2_count(self.of_n2));
+        println!("{}", self.requests);
         println!("refused by `size` too {}", self.refused_by_size);
         println!("refusals of `encode` by number {:?}", self.numbers);
         let odd = self
@@ -315,9 +315,18 @@ fn distances(number: Number, value: i128) -> Vec<i128> {
 
 /// Number, low end, high end and name of every field; Immediate by size.
 fn field_ends() -> Vec<(u32, i64, i64, String)> {
-    let ends = |field: Field| {
-        let (low, high) = field.range();
-        (field_number(field), low, high, format!("{field:?}"))
-    };
-    ALL_FIELDS.iter().map(|field| ends(*field)).collect()
+    let fields = ALL_FIELDS.iter().flat_map(|field| {
+        let ranges = ranges(*field).into_iter();
+        ranges.map(move |(low, high)| (field_number(*field), low, high, format!("{field:?}")))
+    });
+    fields.collect()
+}
+
+/// The range of a field; ShortBranch holds neither -1 nor 0.
+fn ranges(field: Field) -> Vec<(i64, i64)> {
+    let (low, high) = field.range();
+    match field {
+        Field::ShortBranch => vec![(low, -2), (1, high)],
+        _ => vec![(low, high)],
+    }
 }

@@ -25,8 +25,10 @@ mod operands;
 mod random;
 mod reading;
 mod replay;
+mod requests;
 mod schema;
 mod sheet;
+mod short_branch;
 mod srecord;
 mod systematic;
 mod values;
@@ -38,6 +40,7 @@ use std::process::ExitCode;
 use std::{env, fs};
 
 use reading::{back, mc68000, sweep};
+use requests::Requests;
 
 const USAGE: &str =
     "oracle generate SEED COUNT | list SEED COUNT | answer | answer-rust | compare A B [LINES]
@@ -128,7 +131,7 @@ fn against(command: &str, program: &str, seed: u64, count: usize) -> Result<usiz
 
 fn different(comparison: compare::Comparison) -> Result<usize, Box<dyn Error>> {
     comparison.report();
-    comparison.report_n2();
+    comparison.report_requests();
     Ok(comparison.different)
 }
 
@@ -176,7 +179,9 @@ fn compare(first: &str, second: &str, asked: Option<&str>) -> Result<usize, Box<
     let asked = fs::read(asked)?;
     let asked = answer::lines(&asked);
     comparison.lists(&asked, &first, &second);
-    comparison.of_n2 = asked.iter().filter(|line| answer::line_of_n2(line)).count();
+    for line in asked {
+        comparison.requests += Requests::of_line(line);
+    }
     different(comparison)
 }
 

@@ -1,6 +1,6 @@
 //! Worked encodings and readings written down by hand: the text, the line and the answer.
 
-use crate::compare::n2_count;
+use crate::requests::Requests;
 use crate::{answer, reading, sheet, srecord};
 
 const MANUAL: &str = include_str!("../manual.txt");
@@ -45,9 +45,12 @@ fn read(text: &'static str) -> Vec<Example> {
 
 /// Checks every example; gives how many differ.
 pub fn check() -> usize {
-    let encoding = |line: &[u8]| (answer::answer_line(line), answer::line_of_n2(line));
-    let first = |line: &[u8]| (reading::answer::answer_line(line), false);
-    let second = |line: &[u8]| (reading::mc68000::answer::answer_line(line), false);
+    let encoding = |line: &[u8]| (answer::answer_line(line), Requests::of_line(line));
+    let first = |line: &[u8]| (reading::answer::answer_line(line), Requests::default());
+    let second = |line: &[u8]| {
+        let answer = reading::mc68000::answer::answer_line(line);
+        (answer, Requests::default())
+    };
     differing("encodings", &examples(), encoding)
         + differing("readings", &readings(), first)
         + differing("readings for the MC68000", &readings_68000(), second)
@@ -55,14 +58,14 @@ pub fn check() -> usize {
         + srecord::manual::check()
 }
 
-fn differing(what: &str, examples: &[Example], judge: fn(&[u8]) -> (String, bool)) -> usize {
+fn differing(what: &str, examples: &[Example], judge: fn(&[u8]) -> (String, Requests)) -> usize {
     let outcomes = examples.iter().map(|example| {
-        let (answer, of_n2) = judge(example.line.as_bytes());
+        let (answer, requests) = judge(example.line.as_bytes());
         Outcome {
             text: example.text,
             by_hand: example.answer.to_string(),
             answer,
-            of_n2,
+            requests,
         }
     });
     count_different(what, outcomes)
@@ -72,16 +75,15 @@ pub struct Outcome {
     pub text: &'static str,
     pub by_hand: String,
     pub answer: String,
-    /// Whether the Rust alone refuses the immediate.
-    pub of_n2: bool,
+    pub requests: Requests,
 }
 
 /// Prints the outcomes that differ, and how many.
 pub fn count_different(what: &str, outcomes: impl Iterator<Item = Outcome>) -> usize {
-    let (mut all, mut different, mut of_n2) = (0, 0, 0);
+    let (mut all, mut different, mut requests) = (0, 0, Requests::default());
     for outcome in outcomes {
         all += 1;
-        of_n2 += outcome.of_n2 as usize;
+        requests += outcome.requests;
         if outcome.answer != outcome.by_hand {
             different += 1;
             println!(
@@ -90,7 +92,7 @@ pub fn count_different(what: &str, outcomes: impl Iterator<Item = Outcome>) -> u
             );
         }
     }
-    println!("{all} {what}, {different} different; {}", n2_count(of_n2));
+    println!("{all} {what}, {different} different; {requests}");
     different
 }
 

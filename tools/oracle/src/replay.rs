@@ -2,18 +2,19 @@
 
 use std::io;
 
-use crate::answer::{answer_line, line_of_n2};
+use crate::answer::answer_line;
 use crate::batch::Batches;
 use crate::compare::{Comparison, Expected};
 use crate::generate;
 use crate::malformed::{lines as malformed, raw_lines, spoiled};
 use crate::random::Random;
+use crate::requests::Requests;
 
 /// One line in so many is spoiled.
 const SPOILED: u64 = 50;
 
 pub fn replay(program: &str, seed: u64, count: usize) -> io::Result<Comparison> {
-    let expected = |line: &[u8]| Expected::new(answer_line(line), line_of_n2(line));
+    let expected = |line: &[u8]| Expected::new(answer_line(line), Requests::of_line(line));
     replay_as(program, seed, count, b"", |line, _| line, expected)
 }
 

@@ -17,6 +17,8 @@ mod negative_immediates;
 mod numeric;
 #[path = "../../../oracle/src/operands.rs"]
 mod operands;
+#[path = "../../../oracle/src/short_branch.rs"]
+mod short_branch;
 
 use std::hint::black_box;
 use std::process::ExitCode;
@@ -71,7 +73,7 @@ fn lines(list: &[u8]) -> Vec<Line> {
 }
 
 /// The lines that both accept, where both encoders answer every line alike but
-/// for N2, also in a second call at another address; else the number of
+/// for N2 and N5, also in a second call at another address; else the number of
 /// differences.
 fn compared(list: &[u8], lines: Vec<Line>) -> Result<Vec<Line>, usize> {
     let differ = |line: &Line| {
@@ -94,7 +96,7 @@ fn compared(list: &[u8], lines: Vec<Line>) -> Result<Vec<Line>, usize> {
     Ok(lines.into_iter().filter(accepted).collect())
 }
 
-/// What the original answers, with N2, in the places of an exported answer.
+/// What the original answers, with N2 and N5, in the places of an exported answer.
 fn original_answer(line: &Line, address: u32) -> Answer {
     let placed = numeric::Placed {
         address,

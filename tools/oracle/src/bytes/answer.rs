@@ -1,8 +1,9 @@
 //! The answer to a line: how many bytes are lent, then a line of the numeric
 //! form.
 
-use crate::answer::{encoded_bytes, of_n2, Refusal, NOT_IN_FORM};
+use crate::answer::{encoded_bytes, Refusal, NOT_IN_FORM};
 use crate::numeric::{digits, placed, Placed};
+use crate::requests::Requests;
 
 /// The most bytes that a line lends.
 pub const MOST: u64 = 32;
@@ -25,9 +26,9 @@ pub fn answer_line(line: &[u8]) -> String {
     }
 }
 
-/// Whether the original alone refuses the immediate.
-pub fn line_of_n2(line: &[u8]) -> bool {
-    called(line).is_some_and(|(_, placed)| of_n2(&placed))
+pub fn line_requests(line: &[u8]) -> Requests {
+    let called = called(line).map(|(_, placed)| Requests::of(&placed));
+    called.unwrap_or_default()
 }
 
 fn called(line: &[u8]) -> Option<(usize, Placed)> {

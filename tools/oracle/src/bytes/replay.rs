@@ -2,7 +2,7 @@
 
 use std::io;
 
-use super::answer::{answer_line, line_of_n2, MOST};
+use super::answer::{answer_line, line_requests, MOST};
 use super::list::lengths;
 use crate::answer::encoded_bytes;
 use crate::compare::{Comparison, Expected};
@@ -12,7 +12,7 @@ use crate::replay::replay_as;
 
 pub fn replay(program: &str, seed: u64, count: usize) -> io::Result<Comparison> {
     let given = |line: String, random: &mut Random| format!("{}\t{line}", lent(&line, random));
-    let expected = |line: &[u8]| Expected::new(answer_line(line), line_of_n2(line));
+    let expected = |line: &[u8]| Expected::new(answer_line(line), line_requests(line));
     replay_as(program, seed, count, b"32\t", given, expected)
 }
 

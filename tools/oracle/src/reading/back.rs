@@ -1,5 +1,5 @@
-//! Accepted instructions through encode.rs, with N2, and then through a program:
-//! their plain form comes back. The judge of runs has no part in it.
+//! Accepted instructions through encode.rs, with N2 and N5, and then through a
+//! program: their plain form comes back. The judge of runs has no part in it.
 
 use std::io;
 
@@ -8,13 +8,14 @@ use super::judge::Reading;
 use super::plain::plain;
 use super::run::Run;
 use super::tails::mixed;
-use crate::answer::{answer, of_n2};
+use crate::answer::answer;
 use crate::batch::Batches;
 use crate::compare::{Comparison, Expected};
 use crate::generate;
-use crate::instructions::{BranchSize, Instruction};
+use crate::instructions::Instruction;
 use crate::numeric::placed;
 use crate::random::Random;
+use crate::requests::Requests;
 
 /// The most words behind an instruction.
 const BEHIND: u64 = 3;
@@ -24,13 +25,13 @@ pub struct Due {
     pub run: Run,
     pub instruction: Instruction,
     pub bytes: usize,
-    pub of_n2: bool,
+    pub requests: Requests,
 }
 
 impl Due {
     fn expected(&self, text: Text) -> Expected {
         let text = text(Reading::Read(self.instruction, self.bytes));
-        Expected::new(text, self.of_n2)
+        Expected::new(text, self.requests)
     }
 }
 
@@ -42,7 +43,7 @@ pub fn due(line: &str, random: &mut Random) -> Option<Due> {
     let (Ok(mut words), Ok(bytes)) = (answer.words, answer.size) else {
         return None;
     };
-    if left_out(&placed.instruction, placed.address) {
+    if left_out(&placed.instruction) {
         return None;
     }
     words.extend(mixed(random.below(BEHIND + 1) as usize, random));
@@ -53,19 +54,15 @@ pub fn due(line: &str, random: &mut Random) -> Option<Due> {
         },
         instruction: plain(placed.instruction),
         bytes: bytes as usize,
-        of_n2: of_n2(&placed),
+        requests: Requests::of(&placed),
     })
 }
 
-fn left_out(instruction: &Instruction, address: u32) -> bool {
-    let before_next = address.wrapping_add(1);
-    match instruction {
-        Instruction::IllegalWord(_) | Instruction::SIMHALT => true,
-        Instruction::BRA(target, BranchSize::Short)
-        | Instruction::BSR(target, BranchSize::Short)
-        | Instruction::Bcc(target, _, BranchSize::Short) => *target == before_next,
-        _ => false,
-    }
+fn left_out(instruction: &Instruction) -> bool {
+    matches!(
+        instruction,
+        Instruction::IllegalWord(_) | Instruction::SIMHALT
+    )
 }
 
 /// Compares the accepted ones of `count` generated lines, answered by `text`.

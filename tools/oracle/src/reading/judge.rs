@@ -1,15 +1,15 @@
 //! The judge: what a run of words reads as, by the rules of the scope.
 //!
-//! decode.rs is asked only for candidates. A run reads where encode.rs writes
-//! a candidate's plain form as exactly a beginning of it. N2 plays no part here:
-//! a plain form has none of its numbers.
+//! decode.rs is asked only for candidates. A run reads where encode.rs, with N5,
+//! writes a candidate's plain form as exactly a beginning of it. N2 plays no part
+//! here: a plain form has none of its numbers.
 
 use super::plain::{is_canonical, plain};
 use super::tails::COMPLETIONS;
-use crate::instructions::{BranchSize, Instruction};
+use crate::instructions::Instruction;
 use crate::machine::decode::decode_words;
-use crate::machine::encode::encode;
 use crate::machine::Processor;
+use crate::short_branch::encode;
 
 /// The most words of an instruction.
 pub const MOST_WORDS: usize = 11;
@@ -58,7 +58,7 @@ fn read_from(fewest: usize, words: &[u16], address: u32) -> Option<(Instruction,
 /// The instruction in plain form that encodes to exactly `run`.
 pub fn exact(run: &[u16], address: u32) -> Option<Instruction> {
     let instruction = plain(candidate(run, address)?);
-    let reads = !left_out(&instruction, run)
+    let reads = !left_out(&instruction)
         && is_canonical(instruction)
         && encode(&instruction, address).is_ok_and(|words| words == run);
     reads.then_some(instruction)
@@ -89,12 +89,9 @@ pub fn with_written_register(instruction: Instruction, run: &[u16]) -> Instructi
     }
 }
 
-fn left_out(instruction: &Instruction, run: &[u16]) -> bool {
-    match instruction {
-        Instruction::IllegalWord(_) | Instruction::SIMHALT => true,
-        Instruction::BRA(_, BranchSize::Short)
-        | Instruction::BSR(_, BranchSize::Short)
-        | Instruction::Bcc(_, _, BranchSize::Short) => run[0] & 0xFF == 0xFF,
-        _ => false,
-    }
+fn left_out(instruction: &Instruction) -> bool {
+    matches!(
+        instruction,
+        Instruction::IllegalWord(_) | Instruction::SIMHALT
+    )
 }

@@ -2,8 +2,9 @@
 
 use super::line::Line;
 use super::record::Record;
-use crate::answer::{answer, rust_answer, Answer, Refusal};
+use crate::answer::{answer, answer_without_n2, answer_without_n5, Answer, Refusal};
 use crate::numeric::{digits, Placed};
+use crate::requests::Requests;
 
 const MOST_BYTES: usize = 65_536;
 const MOST_LINES: usize = 4_096;
@@ -32,9 +33,14 @@ pub fn judge(record: &Record) -> Result<Vec<Listed>, Refused> {
     judge_by(answer, record)
 }
 
-/// Whether the answer meets a line whose immediate the original alone refuses.
-pub fn of_n2(record: &Record) -> bool {
-    judge(record) != judge_by(rust_answer, record)
+/// The requests without which the answer would be another.
+pub fn requests(record: &Record) -> Requests {
+    let due = judge(record);
+    let differs = |answer| judge_by(answer, record) != due;
+    Requests {
+        n2: differs(answer_without_n2) as usize,
+        n5: differs(answer_without_n5) as usize,
+    }
 }
 
 fn judge_by(answer: fn(&Placed) -> Answer, record: &Record) -> Result<Vec<Listed>, Refused> {

@@ -1,7 +1,7 @@
 //! Worked sheets written down by hand, and those of the guide.
 
 use super::answer::answer;
-use super::judge::of_n2;
+use super::judge::requests;
 use super::record::Record;
 use crate::manual::{count_different, parted, spelled_out, Outcome};
 
@@ -47,7 +47,7 @@ pub fn check() -> usize {
     let outcomes = outcomes.map(|example| Outcome {
         text: example.what,
         answer: answer(&example.record),
-        of_n2: of_n2(&example.record),
+        requests: requests(&example.record),
         by_hand: example.answer,
     });
     count_different("sheets", outcomes)

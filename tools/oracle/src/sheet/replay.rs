@@ -4,7 +4,7 @@ use std::io;
 
 use super::answer::answer;
 use super::generate::record;
-use super::judge::of_n2;
+use super::judge::requests;
 use super::manual;
 use super::record::Record;
 use crate::batch::Lists;
@@ -27,5 +27,5 @@ pub fn replay(program: &str, seed: u64, count: usize) -> io::Result<Comparison> 
 fn push(lists: &mut Lists, record: &Record) -> io::Result<()> {
     let mut asked = Vec::new();
     record.write(&mut asked)?;
-    lists.push(asked, Expected::new(answer(record), of_n2(record)))
+    lists.push(asked, Expected::new(answer(record), requests(record)))
 }

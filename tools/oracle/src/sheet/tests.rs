@@ -3,7 +3,7 @@ use std::collections::{BTreeSet, HashMap};
 use super::answer::answer;
 use super::cases::{large, lines, order};
 use super::generate::{places, sheet};
-use super::judge::{judge, Refused};
+use super::judge::{judge, requests, Refused};
 use super::line::Line;
 use super::list;
 use super::record::{records, Record};
@@ -138,6 +138,13 @@ fn the_stored_list_reads_back() {
     assert!(found == list::records(SEED));
     let lent = |record: &Record| record.places <= 4_096 && record.room <= 45_056;
     assert!(found.iter().all(lent));
+}
+
+/// Lines stand at even addresses, and branches name lines.
+#[test]
+fn no_sheet_is_of_n5() {
+    let of_n5 = |record: &Record| requests(record).n5 > 0;
+    assert!(!list::records(SEED).iter().any(of_n5));
 }
 
 /// The drafts of the lines of accepted sheets of the stored list.

@@ -3,6 +3,7 @@
 use super::answer::{answer, NOT_IN_FORM};
 use super::case::{Case, Way};
 use crate::manual::{count_different, parted, spelled_out, Outcome};
+use crate::requests::Requests;
 
 const SRECORDS: &str = include_str!("../../srecords.txt");
 
@@ -37,7 +38,7 @@ pub fn check() -> usize {
         text: example.what,
         answer: answer(&example.case).unwrap_or(NOT_IN_FORM.to_string()),
         by_hand: example.answer,
-        of_n2: false,
+        requests: Requests::default(),
     });
     count_different("texts of S-records", outcomes)
 }

@@ -9,6 +9,7 @@ use super::{manual, outside};
 use crate::batch::Lists;
 use crate::compare::{Comparison, Expected};
 use crate::random::Random;
+use crate::requests::Requests;
 
 /// Compares lists that are not in the form, the worked cases, and `count`
 /// random ones of `seed`.
@@ -52,5 +53,5 @@ fn push(lists: &mut Lists, case: &Case) -> io::Result<()> {
     let mut asked = Vec::new();
     case.write(&mut asked)?;
     let due = answer(case).unwrap_or(NOT_IN_FORM.to_string());
-    lists.push(asked, Expected::new(due, false))
+    lists.push(asked, Expected::new(due, Requests::default()))
 }

@@ -1,0 +1,44 @@
+//! How many answers are of the requests by which they differ from the Rust's.
+
+use std::fmt;
+use std::ops::AddAssign;
+
+use crate::answer::{of_n2, of_n5};
+use crate::numeric::{placed, Placed};
+
+#[derive(Debug, Default, Clone, Copy, PartialEq, Eq)]
+pub struct Requests {
+    pub n2: usize,
+    pub n5: usize,
+}
+
+impl Requests {
+    pub fn of(placed: &Placed) -> Requests {
+        Requests {
+            n2: of_n2(placed) as usize,
+            n5: of_n5(placed) as usize,
+        }
+    }
+
+    /// Those of a line; none where it is not in the form.
+    pub fn of_line(line: &[u8]) -> Requests {
+        placed(line).as_ref().map(Requests::of).unwrap_or_default()
+    }
+}
+
+impl AddAssign for Requests {
+    fn add_assign(&mut self, other: Requests) {
+        self.n2 += other.n2;
+        self.n5 += other.n5;
+    }
+}
+
+impl fmt::Display for Requests {
+    fn fmt(&self, formatter: &mut fmt::Formatter) -> fmt::Result {
+        write!(
+            formatter,
+            "N2: {} whose immediate the Rust alone refuses; N5: {} whose short branch of -1 it alone accepts",
+            self.n2, self.n5
+        )
+    }
+}
