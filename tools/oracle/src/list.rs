@@ -1,12 +1,12 @@
-//! The stored list: the worked encodings, generated lines, and the lines that
-//! are not in the form.
+//! The stored list: the worked encodings, generated lines, branches around -1,
+//! and the lines that are not in the form.
 
 use std::io::{self, Write};
 
 use crate::answer::{answer_line, NOT_IN_FORM};
 use crate::malformed;
 use crate::manual;
-use crate::{generate, numeric};
+use crate::{branches, generate, numeric};
 
 /// The last line, a NOP, which lacks its LF.
 const LAST: &str = "0\t81";
@@ -15,7 +15,7 @@ pub fn write(seed: u64, count: usize, output: &mut impl Write) -> io::Result<()>
     for example in manual::examples() {
         writeln!(output, "{}", example.line)?;
     }
-    for line in generate::lines(seed).take(count) {
+    for line in generate::lines(seed).take(count).chain(branches::lines()) {
         assert!(
             numeric::placed(line.as_bytes()).is_some(),
             "in the form: {line}"

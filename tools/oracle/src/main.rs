@@ -4,6 +4,7 @@
 
 mod answer;
 mod batch;
+mod branches;
 mod bytes;
 mod compare;
 mod coverage;

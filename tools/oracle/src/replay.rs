@@ -4,6 +4,7 @@ use std::io;
 
 use crate::answer::answer_line;
 use crate::batch::Batches;
+use crate::branches;
 use crate::compare::{Comparison, Expected};
 use crate::generate;
 use crate::malformed::{lines as malformed, raw_lines, spoiled};
@@ -18,8 +19,9 @@ pub fn replay(program: &str, seed: u64, count: usize) -> io::Result<Comparison> 
     replay_as(program, seed, count, b"", |line, _| line, expected)
 }
 
-/// Compares `count` generated lines of `seed`, as `given` has them and some of
-/// them spoiled, after the lines that are not in the form, behind `before`.
+/// Compares the branches around -1 and `count` generated lines of `seed`, as
+/// `given` has them and some of them spoiled, after the lines that are not in the
+/// form, behind `before`.
 pub fn replay_as(
     program: &str,
     seed: u64,
@@ -37,7 +39,8 @@ pub fn replay_as(
         batches.push(&line, expected(&line))?;
     }
     let mut random = Random::new(seed);
-    for line in generate::lines(seed).take(count) {
+    let branches = branches::lines().into_iter();
+    for line in branches.chain(generate::lines(seed).take(count)) {
         let line = given(line, &mut random);
         let line = match random.below(SPOILED) {
             0 => spoiled(&line, &mut random),

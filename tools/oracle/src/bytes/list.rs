@@ -1,6 +1,6 @@
 //! The stored list: every count of words with bytes just enough, more and
-//! fewer, refusals with bytes lent, the ends of every Immediate, and lines that
-//! are not in the form.
+//! fewer, refusals with bytes lent, the ends of every Immediate, branches around
+//! -1, and lines that are not in the form.
 
 use std::collections::{BTreeMap, HashMap};
 use std::io::{self, Write};
@@ -10,7 +10,7 @@ use crate::answer::{encoded_bytes, Refusal, NOT_IN_FORM};
 use crate::immediates::{immediates, ENDS};
 use crate::numeric::placed;
 use crate::random::Random;
-use crate::{generate, malformed};
+use crate::{branches, generate, malformed};
 
 /// How many generated lines are looked through.
 const LOOKED: usize = 60_000;
@@ -65,7 +65,7 @@ pub fn write(seed: u64, output: &mut impl Write) -> io::Result<()> {
             }
         }
     }
-    for line in ends(seed) {
+    for line in ends(seed).into_iter().chain(around_minus_one()) {
         writeln!(output, "{line}")?;
     }
     outside(output)?;
@@ -108,6 +108,17 @@ fn ends(seed: u64) -> Vec<String> {
         lines.extend(ENDS.map(|number| format!("{MOST}\t{}", immediate.with(number).line())));
     }
     lines
+}
+
+/// Every branch around -1 with bytes one short, just enough and one more.
+fn around_minus_one() -> Vec<String> {
+    let branches = branches::all().into_iter().enumerate();
+    let lines = branches.flat_map(|(turn, branch)| {
+        let line = branch.line(branches::address(turn));
+        let lengths = branch.bytes() - 1..=branch.bytes() + 1;
+        lengths.map(move |length| format!("{length}\t{line}"))
+    });
+    lines.collect()
 }
 
 /// `EACH` of the lines, far apart: of one instruction few, unless no others

@@ -10,6 +10,7 @@ use super::run::Run;
 use super::tails::mixed;
 use crate::answer::answer;
 use crate::batch::Batches;
+use crate::branches;
 use crate::compare::{Comparison, Expected};
 use crate::generate;
 use crate::instructions::Instruction;
@@ -65,14 +66,16 @@ fn left_out(instruction: &Instruction) -> bool {
     )
 }
 
-/// Compares the accepted ones of `count` generated lines, answered by `text`.
+/// Compares the accepted ones of the branches around -1 and of `count` generated
+/// lines, answered by `text`.
 pub fn replay(text: Text, program: &str, seed: u64, count: usize) -> io::Result<Comparison> {
     let mut comparison = Comparison::default();
     let mut batches = Batches::new(program, |asked: &[u8], due: Expected, found: &[u8]| {
         comparison.due(asked, &due, Some(found))
     });
     let mut random = Random::new(seed);
-    for line in generate::lines(seed).take(count) {
+    let branches = branches::lines().into_iter();
+    for line in branches.chain(generate::lines(seed).take(count)) {
         if let Some(due) = due(&line, &mut random) {
             batches.push(due.run.line().as_bytes(), due.expected(text))?;
         }

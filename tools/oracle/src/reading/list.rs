@@ -6,7 +6,7 @@ use std::io::{self, Write};
 use super::answer::answer_line;
 use super::malformed;
 use super::run::Run;
-use super::samples::{encoded, ends, first_words, groups, placed_words, unused, worked};
+use super::samples::{branches, encoded, ends, first_words, groups, placed_words, unused, worked};
 use crate::answer::NOT_IN_FORM;
 use crate::manual::{self, Example};
 use crate::random::Random;
@@ -77,6 +77,7 @@ fn runs(seed: u64) -> Vec<Run> {
         encoded.runs(),
         unused(UNUSED, &mut random),
         ends(&mut random),
+        branches(),
     ]
     .concat()
 }

@@ -29,6 +29,9 @@ const CUT: usize = 5;
 /// Words after the first in which a bit is changed.
 const CHANGED_WORDS: usize = 2;
 
+/// Near 0 and near 2^32, even and odd.
+const BRANCH_ADDRESSES: [u32; 5] = [0, 1, 0x1000, 0xFFFF_FFFE, 0xFFFF_FFFF];
+
 /// The words of the worked encodings.
 pub fn worked() -> Vec<Run> {
     let examples = manual::examples().into_iter();
@@ -233,4 +236,29 @@ pub fn placed_words() -> Vec<Run> {
         })
     };
     words.iter().copied().flat_map(at_every_address).collect()
+}
+
+/// First words with byte $FF alone, with one word and with two and more, and with
+/// the bytes beside $FF and $00, for BRA, BSR and every condition.
+pub fn branches() -> Vec<Run> {
+    let bytes: [(u16, &[u16]); 7] = [
+        (0xFF, &[]),
+        (0xFF, &[0xFFFF]),
+        (0xFF, &[0x0000, 0x0000]),
+        (0xFF, &[0xFFFF, 0xFFFF]),
+        (0xFF, &[0x7FFF, 0xFFFF, 0x4E71]),
+        (0xFE, &[]),
+        (0x01, &[]),
+    ];
+    let mut runs = Vec::new();
+    for condition in 0..16 {
+        for (byte, behind) in bytes {
+            let words = [&[0x6000 | condition << 8 | byte], behind].concat();
+            runs.extend(BRANCH_ADDRESSES.map(|address| Run {
+                address,
+                words: words.clone(),
+            }));
+        }
+    }
+    runs
 }

@@ -8,7 +8,7 @@ use crate::manual;
 use crate::random::Random;
 use crate::reading::list::write_lines;
 use crate::reading::run::Run;
-use crate::reading::samples::{first_words, groups, placed_words, unused};
+use crate::reading::samples::{branches, first_words, groups, placed_words, unused};
 
 /// One first word in so many is sampled; odd, so that all low bits come.
 const STEP: usize = 97;
@@ -33,6 +33,7 @@ fn runs(seed: u64) -> Vec<Run> {
         first_words(STEP, &mut random),
         encoded.runs(),
         unused(UNUSED, &mut random),
+        branches(),
     ]
     .concat()
 }

@@ -72,7 +72,7 @@ fn the_stored_list_has_its_kinds() {
     assert!(text.len() < 400_000);
     assert_ne!(text.last(), Some(&b'\n'));
     let lines = lines(&text);
-    assert!((3_000..=5_000).contains(&lines.len()));
+    assert!((3_000..=6_000).contains(&lines.len()));
     assert_eq!(lines.iter().collect::<HashSet<_>>().len(), lines.len());
     let answers: Vec<String> = lines.iter().map(|line| answer_line(line)).collect();
     let count = |kind: &str| answers.iter().filter(|answer| *answer == kind).count();
