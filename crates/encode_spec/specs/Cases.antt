@@ -1,5 +1,5 @@
--- 01's cases a to l, and cases of 02's N2.
-use Prim.Native.Nat.{ℕ}
+-- 01's cases a to l, and what 02's N2 and N5 say of `encode` and `size`.
+use Prim.Native.Nat.{ℕ, _+_, _%_, _^_, _<_, _≤_}
 use mathlib.Core.List.{List, [], _∷_}
 use mathlib.Core.Path.{_≡_}
 use Rattle.isa.specs.declared.Instruction.{Instruction}
@@ -8,13 +8,16 @@ use Rattle.isa.specs.declared.Operand.{Operand}
 use Rattle.isa.specs.declared.UnsizedRegisterOperation.{UnsizedRegisterOperation}
 use Rattle.isa.specs.declared.UnsizedRegisterOperation.the-variants.{LEA, CHK, CHKL}
 use Rattle.isa.specs.declared.UnsizedOneOperation.the-variants.{MOVEtoCCR, MOVEtoSR}
-use Rattle.isa.specs.declared.Instruction.the-variants.{UnsizedIntoRegister, UnsizedOne, Quick, OneOperand, Branch, Pair, SWAP, BF, MULL, ImmediateInto, UnsizedPair, Shift}
+use Rattle.isa.specs.declared.Instruction.the-variants.{UnsizedIntoRegister, UnsizedOne, Quick, OneOperand, Bcc, Branch, Pair, SWAP, BF, MULL, ImmediateInto, UnsizedPair, Shift}
 use Rattle.isa.specs.declared.Size.{Size}
 use Rattle.isa.specs.declared.Size.the-variants.{Byte, Word, Long}
 use Rattle.isa.specs.declared.Operand.the-variants.{Register, Absolute, Immediate, PostIndirect, PreIndirect, PcDisplacement, Extended}
 use Rattle.isa.specs.declared.QuickOperation.the-variants.{ADDQ}
 use Rattle.isa.specs.declared.OneOperation.the-variants.{CLR}
+use Rattle.isa.specs.declared.BranchOperation.{BranchOperation}
 use Rattle.isa.specs.declared.BranchOperation.the-variants.{BRA}
+use Rattle.isa.specs.declared.BranchSize.{BranchSize}
+use Rattle.isa.specs.declared.Condition.{Condition}
 use Rattle.isa.specs.declared.Sign.the-variants.{Signed}
 use Rattle.isa.specs.declared.RegisterChoice.the-variants.{None}
 use Rattle.isa.specs.declared.BitFieldOperation.{BitFieldOperation}
@@ -23,9 +26,10 @@ use Rattle.isa.specs.declared.ImmediateOperation.the-variants.{ADDI}
 use Rattle.isa.specs.declared.UnsizedPairOperation.the-variants.{BTST}
 use Rattle.isa.specs.declared.ShiftOperation.the-variants.{LSd}
 use Rattle.isa.specs.declared.ShiftDirection.the-variants.{Left}
-use Rattle.encode_spec.specs.Item.{fine}
+use Rattle.isa_spec.specs.Code.{conditionCode}
+use Rattle.encode_spec.specs.Item.{fine, noEncoding}
 use Rattle.encode_spec.specs.Encode.{encodedAs, encodeOf, sizeOf}
-use lib.IntN.{ℤ, pos}
+use lib.IntN.{ℤ, pos, negsuc}
 use lib.ListN.{replicate}
 use Rattle.isa.specs.declared.AddressWidth.the-variants as width
 use Rattle.isa.specs.declared.BranchSize.the-variants as branch
@@ -113,3 +117,18 @@ pub record Negatives : Type 0 where
   pub dynamic-bit : (at : ℕ) → Has (dynamicBit 4294967295) at (0x033C ∷ 0x00FF ∷ [])
   pub static-bit : (at : ℕ) → OutOf (staticBit 4294967295) at 12 (pos 4294967295)
   pub count : (at : ℕ) → OutOf (shiftBy 4294967295) at 10 (pos 4294967295)
+
+-- N5: at every address a short branch to the address and 1 is refused by its distance of -1, as one to the next word is by 0, and keeps its size; Bcc on True or False has its reason first
+abbrev pub TwoBytes : Instruction → Type 0
+TwoBytes i = sizeOf i ≡ record { size = 2; number = 0; detail = 0; value = pos 0 }
+
+pub record ShortBranches : Type 0 where
+  pub minus-one : (op : BranchOperation) (at : ℕ) → OutOf (Branch op ((at + 1) % 2 ^ 32) branch.Short) at 1 (negsuc 0)
+  pub zero : (op : BranchOperation) (at : ℕ) → OutOf (Branch op ((at + 2) % 2 ^ 32) branch.Short) at 1 (pos 0)
+  pub size : (op : BranchOperation) (t : ℕ) → TwoBytes (Branch op t branch.Short)
+  pub bcc-minus-one : (c : Condition) (at : ℕ) → 2 ≤ conditionCode c → OutOf (Bcc ((at + 1) % 2 ^ 32) c branch.Short) at 1 (negsuc 0)
+  pub bcc-zero : (c : Condition) (at : ℕ) → 2 ≤ conditionCode c → OutOf (Bcc ((at + 2) % 2 ^ 32) c branch.Short) at 1 (pos 0)
+  pub bcc-size : (c : Condition) (t : ℕ) → 2 ≤ conditionCode c → TwoBytes (Bcc t c branch.Short)
+  pub bcc-reason : (c : Condition) (t at : ℕ) (s : BranchSize) → conditionCode c < 2 → encodeOf (Bcc t c s) at ≡ encodedAs (noEncoding 36) []
+  pub back : Has (braShort 0x1000) 0x1000 (0x60FE ∷ [])
+  pub forward : Has (braShort 0x1003) 0x1000 (0x6001 ∷ [])

@@ -29,7 +29,7 @@ relativeLong t at = longItems (difference t at)
 abbrev pub conditionOperation : ℕ → Condition → ℕ → ℕ → Item
 conditionOperation line condition x ea = operation line (conditionCode condition / 2) (4 * (conditionCode condition % 2) + x) ea
 
--- the distance in the operation word's low byte, from the word after it; -1 is written $FF (01, exception i)
+-- the distance in the operation word's low byte, from the word after it
 abbrev pub shortBranch : Condition → ℕ → Part
 shortBranch condition t at =
     range field.ShortBranch (distance t (wordAddress at 1))

@@ -10,7 +10,7 @@ use Rattle.explain_spec.specs.Explained.{explainedLine, explainedFrom, explaine
 
 -- a line of a listing and a sheet's refusal; the last line has no LF
 sheet : equal (explained (bytes "1\t00001000\t7005\nrefused\t2\t3\t1\t128\nrefused\t7\t5\t0\t0"))
-    (bytes "1\t00001000\t7005\nrefused\t2\t3\t1\t128\nline 3: the value 128 does not fit field 1, the displacement byte of a short branch, which holds -128 to 127, not 0\nrefused\t7\t5\t0\t0")
+    (bytes "1\t00001000\t7005\nrefused\t2\t3\t1\t128\nline 3: the value 128 does not fit field 1, the displacement byte of a short branch, which holds -128 to 127, not 0 or -1\nrefused\t7\t5\t0\t0")
     ≡ true
 unfolding explainedFrom explainedLine refusalIn refusalOf noRefusal sentenceOf isKnown wrongOf detailOf whereOf decimalOf
 sheet = refl

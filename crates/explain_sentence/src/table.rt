@@ -50,11 +50,11 @@ pub fn sheet_texts() -> [u8; 476]
 }
 
 // The fields of 2.
-pub fn field_texts() -> [u8; 1565]
-    ensures { λ r. ⌜ (fields r ≡ [] ∷ fieldTexts) × (1565 ≡ length r) ⌝ }
+pub fn field_texts() -> [u8; 1571]
+    ensures { λ r. ⌜ (fields r ≡ [] ∷ fieldTexts) × (1571 ≡ length r) ⌝ }
 {
     *b"\
-          \tthe displacement byte of a short branch, which holds -128 to 127, not 0\
+          \tthe displacement byte of a short branch, which holds -128 to 127, not 0 or -1\
           \tthe displacement word of a word branch or a DBcc, which holds -32768 to 32767\
           \tthe displacement word of d16(PC), which holds -32768 to 32767\
           \tthe displacement byte of d8(PC,Xn), which holds -128 to 127\

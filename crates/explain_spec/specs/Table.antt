@@ -26,7 +26,7 @@ numberRows =
 -- by the detail of 2: the field, and what it holds
 abbrev pub fieldRows : List (String × String)
 fieldRows =
-    ("the displacement byte of a short branch", "-128 to 127, not 0")
+    ("the displacement byte of a short branch", "-128 to 127, not 0 or -1")
     ∷ ("the displacement word of a word branch or a DBcc", "-32768 to 32767")
     ∷ ("the displacement word of d16(PC)", "-32768 to 32767")
     ∷ ("the displacement byte of d8(PC,Xn)", "-128 to 127")

@@ -2,3 +2,4 @@ pub mod Code
 pub mod Condition
 pub mod Field
 pub mod Mode
+pub mod Ordinary

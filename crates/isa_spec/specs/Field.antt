@@ -1,4 +1,4 @@
--- The fields that hold a number: their numbers, and the values that each holds (01, "The words"; 02, N2).
+-- The fields that hold a number: their numbers, and the values that each holds (01, "The words"; 02, N2 and N5).
 use Prim.Native.Nat.{ℕ, _-_, _%_, _^_}
 use mathlib.Core.Bool.{Bool, false, not, _&&_, _||_}
 use mathlib.Core.List.{List, [], _∷_}
@@ -123,9 +123,17 @@ abbrev pub isZero : ℤ → Bool
 isZero (pos n) = eqb n 0
 isZero (negsuc n) = false
 
--- a field holds what lies in its pair or beside it; ShortBranch does not hold 0, which marks a word branch
+abbrev pub isMinusOne : ℤ → Bool
+isMinusOne (pos n) = false
+isMinusOne (negsuc n) = eqb n 0
+
+-- ShortBranch excludes 0, which marks a word branch, and -1, which marks a long one (02, N5); no other field excludes a value
+abbrev pub excludes : Field → ℤ → Bool
+excludes f z = eqb (fieldNumber f) 1 && (isZero z || isMinusOne z)
+
+-- a field holds what lies in its pair or beside it and is not excluded
 unfoldable pub holds : Field → ℤ → Bool
-holds f z = (within (between (lowest f) (highest f)) z || alsoHolds (immediateSize f) z) && (not (eqb (fieldNumber f) 1) || not (isZero z))
+holds f z = (within (between (lowest f) (highest f)) z || alsoHolds (immediateSize f) z) && not (excludes f z)
 
 -- what an Immediate of a size is written as (02, N2): of Byte its remainder by 256, of Word by 65,536, of Long itself
 abbrev pub remainderOf : Size → ℕ → ℕ

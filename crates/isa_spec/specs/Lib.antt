@@ -4,3 +4,4 @@ pub mod Code
 pub mod Condition
 pub mod IndexBase
 pub mod Mode
+pub mod Ordinary

@@ -1,6 +1,6 @@
 -- Laws of powers and signed numbers, and that no field but Immediate has a size. Assumes nothing.
 use Prim.Native.Nat.{ℕ, suc, _-_, _*_, _%_, _^_, _≤_, _<_}
-use mathlib.Core.Path.{_≡_, refl, _∙_}
+use mathlib.Core.Path.{_≡_, refl, sym, _∙_}
 use mathlib.Core.List.{List, [], _∷_}
 use mathlib.Core.Option.{none}
 use lib.IntN.{ℤ, pos, negsuc}
@@ -16,7 +16,8 @@ use denote.Enum.Declared.{tagOf}
 use Rattle.isa.proofs.Field.{the-type}
 use Rattle.isa.specs.declared.Field.{Field}
 use Rattle.isa.specs.declared.Field.the-variants as field
-use Rattle.isa_spec.specs.Field.{isZero, immediateSize}
+use Rattle.base_facts.specs.Tests.{Eq, eq?}
+use Rattle.isa_spec.specs.Field.{isZero, isMinusOne, immediateSize}
 
 pub one-shl : (w : ℕ) → w < 33 → (1 * 2 ^ w) % 2 ^ 64 ≡ 2 ^ w
 one-shl w h = shl-exact {a = 1} 1 w 64 (lit< tt) (omega arith) ∙ one-mul (2 ^ w)
@@ -27,6 +28,14 @@ power-bounds w h = (pow-pos w, pow-mono {i = w} {j = 32} (omega arith))
 pub zero-bits : (z : ℤ) → SFits w64 z → eqb (ofZ w64 z) 0 ≡ isZero z
 zero-bits (pos n) h = refl
 zero-bits (negsuc n) h = let q : n < 2 ^ 63 = h .sfits in ne-eqb (2 ^ 64 - suc n) 0 (λ (e : 2 ^ 64 - suc n ≡ 0). omega arith)
+
+pub minus-one-bits : (z : ℤ) → SFits w64 z → eqb (ofZ w64 z) (2 ^ 64 - 1) ≡ isMinusOne z
+minus-one-bits (pos n) h = let q : n < 2 ^ 63 = h .sfits in ne-eqb n (2 ^ 64 - 1) (λ e. omega arith)
+minus-one-bits (negsuc n) h = go (eq? n 0)
+  where
+    go : Eq n 0 → eqb (2 ^ 64 - suc n) (2 ^ 64 - 1) ≡ eqb n 0
+    go (Eq.same p e) = rw p
+    go (Eq.other p e) = let q : n < 2 ^ 63 = h .sfits in ne-eqb (2 ^ 64 - suc n) (2 ^ 64 - 1) (λ d. p (omega (arith, d, q))) ∙ sym e
 
 -- the tags of the fields other than Immediate
 abbrev pub others : List ℕ

@@ -2,7 +2,7 @@
 ghost use mathlib.Core.Path.{_≡_};
 ghost use Prim.Native.Nat.{_<_};
 ghost use Rattle.isa_values.specs.Pairs.{isSigned, signedWidth, unsignedWidth, signedPair, unsignedPair, pairOfNumber};
-ghost use Rattle.isa_spec.specs.Field.{fieldNumber, immediateSize, lowest, highest, alsoHolds, holds};
+ghost use Rattle.isa_spec.specs.Field.{fieldNumber, immediateSize, lowest, highest, alsoHolds, excludes, holds};
 use crate::code::bit;
 use crate::size::to_bits;
 use isa::Field;
@@ -133,6 +133,14 @@ pub fn also_holds(field: Field, value: i64) -> bool
     }
 }
 
+// Whether the field excludes the value: in the byte of a short branch 0 marks a word branch, -1 a
+// long one.
+pub fn excludes(field: Field, value: i64) -> bool
+    ensures { λ r. ⌜ r ≡ excludes field value ⌝ }
+{
+    (number(field) == 1) & ((value == 0) | (value == -1))
+}
+
 // Whether the field holds the value.
 pub fn holds(field: Field, value: i64) -> bool
     ensures { λ r. ⌜ r ≡ holds field value ⌝ }
@@ -141,5 +149,5 @@ pub fn holds(field: Field, value: i64) -> bool
     let low = ends.low;
     let high = ends.high;
     let also = also_holds(field, value);
-    ((low <= value) & (value <= high) | also) & ((number(field) != 1) | (value != 0))
+    ((low <= value) & (value <= high) | also) & !excludes(field, value)
 }

@@ -6,6 +6,7 @@ use native.Mathlib.Omega.{arith}
 use borrow.Author.Tests.{eq-eqb}
 use Rattle.isa.specs.declared.RawOperation.the-variants.{LINEA, LINEF}
 use Rattle.isa.specs.declared.Instruction.the-variants.{Raw}
+use Rattle.isa_facts.specs.Ordinary.{ordinary}
 use Rattle.encode_spec.specs.System.{rawParts}
 use Rattle.read_spec.specs.declared.Reading.the-variants.{Read}
 use Rattle.read_spec.specs.Read.{readOf}
@@ -18,11 +19,11 @@ use Rattle.m68000_laws.specs.Exactly.{shown-exactly}
 
 line-a-accepted : (a w : ℕ) → w / 4096 ≡ 10 → Accepted a (Raw LINEA w)
 unfolding rawParts
-line-a-accepted a w e = (omega (arith, e), simp (eq-eqb _ _ e), refl)
+line-a-accepted a w e = (omega (arith, e), simp (eq-eqb _ _ e), ordinary _ refl)
 
 line-f-accepted : (a w : ℕ) → w / 4096 ≡ 15 → Accepted a (Raw LINEF w)
 unfolding rawParts
-line-f-accepted a w e = (omega (arith, e), simp (eq-eqb _ _ e), refl)
+line-f-accepted a w e = (omega (arith, e), simp (eq-eqb _ _ e), ordinary _ refl)
 
 pub line-a-shown : (a w : ℕ) (rest : List ℕ) → w / 4096 ≡ 10
     → (readOf (w ∷ rest) a ≡ Read (Raw LINEA w) 2) × (read68000Of (w ∷ rest) a ≡ First (Read (Raw LINEA w) 2))

@@ -4,3 +4,4 @@ pub mod Laws
 pub mod Cases
 pub mod Sizes
 pub mod Remainders
+pub mod ShortBranches

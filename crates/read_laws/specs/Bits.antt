@@ -61,6 +61,7 @@ use Rattle.read_laws.specs.MapLaws.{At, at-code, at-below, at-sizes, at-
 use Rattle.read_laws.specs.DecodedLaws.{Kind, displaced, post, other, kind?}
 use Rattle.read_laws.specs.LayingLaws.{Passing, passing, passed, checked, tailOf, behind, one-there, Laying, form-is, form-as, laying-reads, laying-encodes, decoded-as, word-as, alone-reads, alone-encodes, either-encodes, one-words}
 use Rattle.read_laws.specs.Operands.{is-register, by-kind, data-bits, address-is}
+use Rattle.isa_facts.specs.Ordinary.{ordinary}
 
 -- ---- an immediate before the destination
 immediate-passing : (v : ℕ) (s : Size) → v < suc (topOf s) → Passing (immediateItems v s)
@@ -158,11 +159,11 @@ status-is STOP e = absurd (true≢false e)
 condition-code-encodes : (a : ℕ) (op : ConditionCodeOperation) (v : ℕ) → v < 256
     → Encodes a (ConditionCode op v) (wordOf 0 (conditionCodeCode op) 0 60 ∷ v ∷ [])
 unfolding conditionCodeParts
-condition-code-encodes a op v h = rw (condition-code-is op .0) ((h, refl, refl), refl, refl)
+condition-code-encodes a op v h = rw (condition-code-is op .0) ((h, refl, ordinary _ refl), refl, refl)
 
 status-encodes : (a : ℕ) (op : StatusOperation) (v : ℕ) → isStop op ≡ false → v < 65536 → Encodes a (Status op v) (wordOf 0 (statusCode op) 1 60 ∷ v ∷ [])
 unfolding statusParts
-status-encodes a op v n h = rw (status-is op n .0) ((h, refl, refl), refl, refl)
+status-encodes a op v n h = rw (status-is op n .0) ((h, refl, ordinary _ refl), refl, refl)
 
 pub condition-code-reads : (a : ℕ) (op : ConditionCodeOperation) (v : ℕ) → Accepted a (ConditionCode op v) → Reads a (ConditionCode op v)
 condition-code-reads a op v (h, e, l) =
@@ -317,7 +318,7 @@ movep-encodes a direction s r z n d h e b =
       (
         tt,
         passed (itemsOf (movepOf direction s r z n) a) (refl, (d, (refl, (lt-number n h, (e, (true-unless (not (isByte s)) (noEncoding 6) b, tt)))))),
-        refl,
+        ordinary _ refl,
       ),
       refl,
       rw m,

@@ -1,7 +1,7 @@
 -- Lines 0101 to 0111: ADDQ SUBQ; Scc DBcc TRAPcc; Bcc BRA BSR; MOVEQ.
 use Prim.Native.Nat.{ℕ, _%_, _^_, _<_, _≤_, _+_, _*_, _/_, _-_}
 use mathlib.Core.Path.{_≡_, ap, sym, _∙_, refl, subst}
-use mathlib.Core.Bool.{true, not, _&&_, false, cond}
+use mathlib.Core.Bool.{true, not, _&&_, _||_, false, cond}
 use native.Mathlib.Omega.{arith}
 use lib.IntN.{ℤ, pos, negsuc}
 use Rattle.base_spec.specs.Signed.{signed32, bitsOf, difference}
@@ -48,9 +48,9 @@ use Rattle.isa.specs.declared.BranchSize.{BranchSize}
 use Rattle.isa.specs.declared.BranchSize.the-variants as branch
 use Rattle.isa.specs.declared.BranchOperation.{BranchOperation}
 use Rattle.isa.specs.declared.BranchOperation.the-variants.{BRA, BSR}
-use Rattle.isa_spec.specs.Field.{holds, isZero}
+use Rattle.isa_spec.specs.Field.{holds, isZero, isMinusOne}
 use Rattle.encode_spec.specs.Instruction.{branchesParts}
-use Rattle.read_spec.specs.LeftOut.{isMinusOne, branchLeftOut}
+use Rattle.isa_facts.specs.Ordinary.{ordinary}
 use Rattle.encode_spec.specs.Movement.{moveqParts}
 use Rattle.read_laws.specs.Statements.{Reads, Encodes, Sound}
 use Rattle.read_spec.specs.Accepted.{TrapInTypes, Accepted}
@@ -58,7 +58,7 @@ use Rattle.read_laws.specs.Tests.{equal, yes, no, implies, among, each, 
 use Rattle.read_laws.specs.MapLaws.{At, at-registers, at-line, in-group, each-size}
 use Rattle.read_laws.specs.LayingLaws.{Passing, passed, checked, Laying, form-as, form-byte, laying-reads, laying-encodes, decoded-as, word-as, alone-reads, alone-encodes, either-encodes, form-behind, form-bare}
 use Rattle.read_laws.specs.Operands.{data-is}
-use Rattle.base_facts.specs.Tests.{Lt, lt?, and-true, true-and, leb-is, leb-true, ltb-true, eqb-eq, Eq, eq?, eqb-is, true-not-false, ltb-is, eqb-not}
+use Rattle.base_facts.specs.Tests.{Lt, lt?, and-true, true-and, leb-is, leb-true, ltb-true, eqb-eq, Eq, eq?, eqb-is, true-not-false, ltb-is, eqb-not, or-no}
 
 -- ---- ADDQ SUBQ
 abbrev quickOpmode : QuickOperation → Size → ℕ
@@ -182,7 +182,7 @@ dbcc-encodes a n v c h g =
           lt-number n h,
           (rw (word-reach a v g) (word-branch-holds z ∙ signed16-fits v g), tt),
         ),
-        refl,
+        ordinary _ refl,
       ),
       refl,
       rw (word-reach a v g, e, low-signed16 v g),
@@ -207,9 +207,9 @@ dbcc-reads a r t c h =
 trapcc-encodes : (a : ℕ) (c : Condition) (x : TrapOperand) → TrapInTypes x
     → Encodes a (TRAPcc c x) (wordOf 5 (high c) (opmodeOf c) (56 + trapOpmode x) ∷ wordsIn (trapItems x))
 unfolding trapccParts
-trapcc-encodes a c trap.None n = ((n, refl, refl), refl, refl)
-trapcc-encodes a c (trap.Word v) n = ((n, refl, refl), refl, refl)
-trapcc-encodes a c (trap.Long v) n = ((n, refl, refl), refl, refl)
+trapcc-encodes a c trap.None n = ((n, refl, ordinary _ refl), refl, refl)
+trapcc-encodes a c (trap.Word v) n = ((n, refl, ordinary _ refl), refl, refl)
+trapcc-encodes a c (trap.Long v) n = ((n, refl, ordinary _ refl), refl, refl)
 
 pub trapcc-reads : (a : ℕ) (c : Condition) (x : TrapOperand) → Accepted a (TRAPcc c x) → Reads a (TRAPcc c x)
 trapcc-reads a c trap.None (n, e, l) =
@@ -288,17 +288,17 @@ words-as a c t branch.Short = ap (λ (w : ℕ). w ∷ []) (omega arith)
 words-as a c t branch.Word = refl
 words-as a c t branch.Long = refl
 
--- a short distance that is not 0 or -1, by its byte
-short-byte : (z : ℤ) → holds field.ShortBranch z ≡ true → isMinusOne z ≡ false
+-- a short distance is not 0 or -1: its byte marks no word or long branch
+short-byte : (z : ℤ) → holds field.ShortBranch z ≡ true
     → (fits (2 ^ 7) z ≡ true) × (eqb (bitsOf z % 256) 0 ≡ false) × (eqb (bitsOf z % 256) 255 ≡ false)
-short-byte z e m =
+short-byte z e =
     let p = and-true (fits (2 ^ 7) z) _ (sym (short-branch-holds z) ∙ e) in
-    let q = go z (ltb-is (mag z) (2 ^ 7) (p .0)) (p .1) m in
+    let q = go z (ltb-is (mag z) (2 ^ 7) (p .0)) (not-true (isZero z || isMinusOne z) (p .1)) in
     rw (low8 z (p .0)) (p .0, q .0, q .1)
   where
-    go : (z : ℤ) → mag z < 2 ^ 7 → not (isZero z) ≡ true → isMinusOne z ≡ false → (eqb (low (2 ^ 7) z) 0 ≡ false) × (eqb (low (2 ^ 7) z) 255 ≡ false)
-    go (pos n) l k m = (not-true (eqb n 0) k, eqb-not n 255 (omega arith))
-    go (negsuc n) l k m = (eqb-not (255 - n) 0 (omega arith), eqb-not (255 - n) 255 (λ e. true-not-false (eqb-is n 0 (omega (arith, e, l))) m))
+    go : (z : ℤ) → mag z < 2 ^ 7 → (isZero z || isMinusOne z) ≡ false → (eqb (low (2 ^ 7) z) 0 ≡ false) × (eqb (low (2 ^ 7) z) 255 ≡ false)
+    go (pos n) l k = (sym (or-no (eqb n 0)) ∙ k, eqb-not n 255 (omega arith))
+    go (negsuc n) l k = (eqb-not (255 - n) 0 (omega arith), eqb-not (255 - n) 255 (λ e. true-not-false (eqb-is n 0 (omega (arith, e, l))) k))
 
 -- a distance that a branch of a size holds
 abbrev Held : BranchSize → ℤ → Type 0
@@ -318,16 +318,16 @@ held-there a c t branch.Short h = (h, tt)
 held-there a c t branch.Word h = (word-branch-holds (distance t (wordAddress a 1)) ∙ h, tt)
 held-there a c t branch.Long h = tt
 
-layout-as : (a t : ℕ) (s : BranchSize) → t < 2 ^ 32 → Held s (distance t (wordAddress a 1)) → branchLeftOut t s a ≡ false
+layout-as : (a t : ℕ) (s : BranchSize) → t < 2 ^ 32 → Held s (distance t (wordAddress a 1))
     → (branchLayout (byteOf t (wordAddress a 1) s) ≡ alone (kindOf s)) × SpecifierStands (kindOf s) (valueOf t (wordAddress a 1) s)
     × ((k : ℕ) → branchDecoded a k (byteOf t (wordAddress a 1) s) (valueOf t (wordAddress a 1) s) ≡ branchTo k t s)
-layout-as a t branch.Short l h m =
-    let b = short-byte (distance t (wordAddress a 1)) h m in
+layout-as a t branch.Short l h =
+    let b = short-byte (distance t (wordAddress a 1)) h in
     let r : reach (wordAddress a 1) (signed8 (bitsOf (distance t (wordAddress a 1)) % 256)) ≡ t = ap (reach (wordAddress a 1)) (signed8-low (distance t (wordAddress a 1)) (b .0))
     ∙ reach-distance t (wordAddress a 1) l (address-lt a 1) in
     rw (b .1, b .2, r) (refl, refl, λ k. refl)
-layout-as a t branch.Word l h m = (refl, (omega arith, refl), λ k. rw (reach-word a t l h))
-layout-as a t branch.Long l h m = (refl, (omega arith, refl, refl), λ k. rw (reach-distance t (wordAddress a 1) l (address-lt a 1)))
+layout-as a t branch.Word l h = (refl, (omega arith, refl), λ k. rw (reach-word a t l h))
+layout-as a t branch.Long l h = (refl, (omega arith, refl, refl), λ k. rw (reach-distance t (wordAddress a 1) l (address-lt a 1)))
 
 -- a part before a branch that lays down no words does not move it
 from-there : (a : ℕ) (c : Condition) (t : ℕ) (s : BranchSize) → laid (branchParts c t s) (wordAddress a 0) ≡ laid (branchParts c t s) a
@@ -342,18 +342,18 @@ bcc-to k t s h = rw (eqb-not k 0 (omega arith), eqb-not k 1 (omega arith))
 abbrev branchWords : Condition → ℕ → BranchSize → ℕ → List ℕ
 branchWords c t s a = wordsIn (laid (branchParts c t s) a)
 
-bcc-encodes : (a t : ℕ) (c : Condition) (s : BranchSize) → 2 ≤ conditionCode c → t < 2 ^ 32 → Held s (distance t (wordAddress a 1)) → branchLeftOut t s a ≡ false
+bcc-encodes : (a t : ℕ) (c : Condition) (s : BranchSize) → 2 ≤ conditionCode c → t < 2 ^ 32 → Held s (distance t (wordAddress a 1))
     → Encodes a (Bcc t c s) (branchWords c t s a)
 unfolding bccParts
-bcc-encodes a t c s g l h m =
+bcc-encodes a t c s g l h =
     let k = conditionCode c in
     let e = passed (itemsOf (Bcc t c s) a) (true-unless (leb 2 k) (noEncoding 36) (leb-true 2 k g), rw (from-there a c t s) (held-there a c t s h)) in
-    ((l, e, m), refl, ap wordsIn (from-there a c t s))
+    ((l, e, ordinary _ refl), refl, ap wordsIn (from-there a c t s))
 
-branch-encodes : (a k t : ℕ) (s : BranchSize) → k < 16 → t < 2 ^ 32 → Held s (distance t (wordAddress a 1)) → branchLeftOut t s a ≡ false
+branch-encodes : (a k t : ℕ) (s : BranchSize) → k < 16 → t < 2 ^ 32 → Held s (distance t (wordAddress a 1))
     → Encodes a (branchTo k t s) (branchWord k t s a ∷ specifierWords (kindOf s) (valueOf t (wordAddress a 1) s))
 unfolding branchesParts
-branch-encodes a k t s hk l h m =
+branch-encodes a k t s hk l h =
     subst (Encodes a (branchTo k t s)) (words-as a (conditionOf k) t s ∙ ap (λ (n : ℕ). branchWord n t s a ∷ specifierWords (kindOf s) (valueOf t (wordAddress a 1) s)) c)
     (go (eq? k 0) (eq? k 1))
   where
@@ -363,34 +363,34 @@ branch-encodes a k t s hk l h m =
     go : Eq k 0 → Eq k 1 → Encodes a (branchTo k t s) (branchWords (conditionOf k) t s a)
     go (Eq.same z g) y =
         subst (λ (k : ℕ). Encodes a (branchTo k t s) (branchWords (conditionOf k) t s a)) (sym z)
-        ((l, passed (itemsOf (Branch BRA t s) a) (held-there a True t s h), m), refl, refl)
+        ((l, passed (itemsOf (Branch BRA t s) a) (held-there a True t s h), ordinary _ refl), refl, refl)
     go (Eq.other n g) (Eq.same z f) =
         subst (λ (k : ℕ). Encodes a (branchTo k t s) (branchWords (conditionOf k) t s a)) (sym z)
-        ((l, passed (itemsOf (Branch BSR t s) a) (held-there a False t s h), m), refl, refl)
+        ((l, passed (itemsOf (Branch BSR t s) a) (held-there a False t s h), ordinary _ refl), refl, refl)
     go (Eq.other n g) (Eq.other x f) =
-        rw (bcc-to k t s (omega (arith, n, x))) (bcc-encodes a t (conditionOf k) s (rw c (omega (arith, n, x))) l h m)
+        rw (bcc-to k t s (omega (arith, n, x))) (bcc-encodes a t (conditionOf k) s (rw c (omega (arith, n, x))) l h)
 
 branch-at : (x opmode : ℕ) → x < 8 → opmode < 8 → At group.Branch 6 x opmode
 unfolding groupAt map
 branch-at x opmode hx ho = at-line group.Branch 6 (λ o. true) refl x opmode hx ho refl
 
-reads-as : (a c t : ℕ) (s : BranchSize) → c < 16 → t < 2 ^ 32 → Held s (distance t (wordAddress a 1)) → branchLeftOut t s a ≡ false → Reads a (branchTo c t s)
-reads-as a c t s hc l h m =
+reads-as : (a c t : ℕ) (s : BranchSize) → c < 16 → t < 2 ^ 32 → Held s (distance t (wordAddress a 1)) → Reads a (branchTo c t s)
+reads-as a c t s hc l h =
     let b = byteOf t (wordAddress a 1) s in
     let v = valueOf t (wordAddress a 1) s in
     let n : b < 256 = byte-lt t (wordAddress a 1) s in
-    let y = layout-as a t s l h m in
+    let y = layout-as a t s l h in
     let k : c / 2 * 2 + (4 * (c % 2) + b / 64) / 4 ≡ c = omega arith in
     let q : (4 * (c % 2) + b / 64) % 4 * 64 + b % 64 ≡ b = omega arith in
     alone-reads a (branchTo c t s) (b % 64) (kindOf s) v (branch-at (c / 2) (4 * (c % 2) + b / 64) (omega arith) (omega arith)) (omega arith)
     (ap branchLayout q ∙ y .0) (y .1)
     (ap ret (ap (λ (n : ℕ). branchDecoded a n ((4 * (c % 2) + b / 64) % 4 * 64 + b % 64) v) k ∙ ap (λ (n : ℕ). branchDecoded a c n v) q ∙ y .2 c))
-    (branch-encodes a c t s hc l h m)
+    (branch-encodes a c t s hc l h)
 
 pub branch-reads : (a : ℕ) (op : BranchOperation) (t : ℕ) (s : BranchSize) → Accepted a (Branch op t s) → Reads a (Branch op t s)
 unfolding branchesParts
-branch-reads a BRA t s h = reads-as a 0 t s (omega arith) (h .0) (held-back a True t s (checked a (Branch BRA t s) h)) (h .2)
-branch-reads a BSR t s h = reads-as a 1 t s (omega arith) (h .0) (held-back a False t s (checked a (Branch BSR t s) h)) (h .2)
+branch-reads a BRA t s h = reads-as a 0 t s (omega arith) (h .0) (held-back a True t s (checked a (Branch BRA t s) h))
+branch-reads a BSR t s h = reads-as a 1 t s (omega arith) (h .0) (held-back a False t s (checked a (Branch BSR t s) h))
 
 pub bcc-reads : (a t : ℕ) (c : Condition) (s : BranchSize) → Accepted a (Bcc t c s) → Reads a (Bcc t c s)
 unfolding bccParts
@@ -398,42 +398,39 @@ bcc-reads a t c s h =
     let k = conditionCode c in
     let (p, q) = checked a (Bcc t c s) h in
     let e = bcc-to k t s (leb-is 2 k (unless-reason (leb 2 k) 36 p)) ∙ ap (λ (c : Condition). Bcc t c s) (of-code c) in
-    subst (Reads a) e (reads-as a k t s (condition-lt c) (h .0) (held-back a c t s (rw (from-there a c t s) at q)) (h .2))
+    subst (Reads a) e (reads-as a k t s (condition-lt c) (h .0) (held-back a c t s (rw (from-there a c t s) at q)))
 
 -- what a byte and a value name
 abbrev Jump : ℕ → ℕ → ℕ → ℕ → BranchSize → Type 0
 Jump a byte v t s =
-    (t < 2 ^ 32) × Held s (distance t (wordAddress a 1)) × (branchLeftOut t s a ≡ false) × (byteOf t (wordAddress a 1) s ≡ byte) × (valueOf t (wordAddress a 1) s ≡ v)
+    (t < 2 ^ 32) × Held s (distance t (wordAddress a 1)) × (byteOf t (wordAddress a 1) s ≡ byte) × (valueOf t (wordAddress a 1) s ≡ v)
 
 jump-word : (a v : ℕ) → v < 65536 → Jump a 0 v (reach (wordAddress a 1) (signed16 (v % 65536))) branch.Word
 jump-word a v h =
-    rw (word-reach a v h) (reach-lt (wordAddress a 1) (signed16 (v % 65536)), signed16-fits v h, refl, refl, low-signed16 v h)
+    rw (word-reach a v h) (reach-lt (wordAddress a 1) (signed16 (v % 65536)), signed16-fits v h, refl, low-signed16 v h)
 
 jump-long : (a v : ℕ) → v < 2 ^ 32 → Jump a 255 v (reach (wordAddress a 1) (signed32 v)) branch.Long
 jump-long a v h =
     let z = bitsOf (signed32 v) in
     let d : difference (reach (wordAddress a 1) (signed32 v)) (wordAddress a 1) ≡ z % 2 ^ 32 = omega arith in
-    (reach-lt (wordAddress a 1) (signed32 v), tt, refl, refl, d ∙ low-signed32 v h)
+    (reach-lt (wordAddress a 1) (signed32 v), tt, refl, d ∙ low-signed32 v h)
 
-short-holds : (byte : ℕ) → byte < 256 → (byte ≡ 0 → ⊥) → (byte ≡ 255 → ⊥)
-    → (holds field.ShortBranch (signed8 byte) ≡ true) × (isMinusOne (signed8 byte) ≡ false)
+short-holds : (byte : ℕ) → byte < 256 → (byte ≡ 0 → ⊥) → (byte ≡ 255 → ⊥) → holds field.ShortBranch (signed8 byte) ≡ true
 short-holds byte h n m =
-    let z = go (lt? byte (2 ^ 7)) in
-    (short-branch-holds (signed8 byte) ∙ true-and (fits (2 ^ 7) (signed8 byte)) (not (isZero (signed8 byte))) (signed8-fits byte h) (z .0), z .1)
+    short-branch-holds (signed8 byte) ∙ true-and (fits (2 ^ 7) (signed8 byte)) (not (isZero (signed8 byte) || isMinusOne (signed8 byte))) (signed8-fits byte h) (go (lt? byte (2 ^ 7)))
   where
-    go : Lt byte (2 ^ 7) → (not (isZero (signed8 byte)) ≡ true) × (isMinusOne (signed8 byte) ≡ false)
-    go (Lt.less l e) = rw (e, eqb-not byte 0 n) (refl, refl)
-    go (Lt.past l e) = rw e (refl, eqb-not (255 - byte) 0 (λ q. m (omega (arith, q, h))))
+    go : Lt byte (2 ^ 7) → not (isZero (signed8 byte) || isMinusOne (signed8 byte)) ≡ true
+    go (Lt.less l e) = rw (e, eqb-not byte 0 n)
+    go (Lt.past l e) = rw (e, eqb-not (255 - byte) 0 (λ q. m (omega (arith, q, h))))
 
 jump-short : (a byte : ℕ) → byte < 256 → (byte ≡ 0 → ⊥) → (byte ≡ 255 → ⊥) → Jump a byte 0 (reach (wordAddress a 1) (signed8 byte)) branch.Short
 jump-short a byte h n m =
     let d = near a (2 ^ 7) (signed8 byte) (omega arith) (signed8-fits byte h) in
-    let s = short-holds byte h n m in
-    rw d (reach-lt (wordAddress a 1) (signed8 byte), s .0, s .1, low-signed8 byte h, refl)
+    rw d (reach-lt (wordAddress a 1) (signed8 byte), short-holds byte h n m, low-signed8 byte h, refl)
 
 jump-encodes : (a k byte t : ℕ) (s : BranchSize) (f : Tail) → k < 16 → TailStands a (alone (kindOf s)) f → Jump a byte (f .value) t s
     → Encodes a (branchTo k t s) (wordOf 6 (k / 2) (4 * (k % 2) + byte / 64) (byte % 64) ∷ tailWords a (alone (kindOf s)) f)
-jump-encodes a k byte t s f hk h (l, g, m, p, q) = alone-encodes a (branchTo k t s) _ (kindOf s) f h (rw (← p, ← q) (branch-encodes a k t s hk l g m))
+jump-encodes a k byte t s f hk h (l, g, p, q) = alone-encodes a (branchTo k t s) _ (kindOf s) f h (rw (← p, ← q) (branch-encodes a k t s hk l g))
 
 pub branch-sound : Sound group.Branch
 unfolding map
@@ -464,7 +461,7 @@ moveq-encodes : (a v n : ℕ) → v < 256 → n < 8 → Encodes a (MOVEQ v (Data
 unfolding moveqParts
 moveq-encodes a v n l h =
     let w : n % 8 ≡ n = omega arith in
-    ((l, passed (itemsOf (MOVEQ v (Data n)) a) (lt-number n h, tt), refl), refl, rw w)
+    ((l, passed (itemsOf (MOVEQ v (Data n)) a) (lt-number n h, tt), ordinary _ refl), refl, rw w)
 
 pub moveq-reads : (a v : ℕ) (r : RegisterOperand) → Accepted a (MOVEQ v r) → Reads a (MOVEQ v r)
 unfolding groupAt map moveqParts

@@ -45,6 +45,7 @@ use Rattle.isa.specs.declared.Instruction.{Instruction}
 use Rattle.read_laws.specs.Tests.{equal, yes, no, known, says, implies, facts-below, modes-say}
 use Rattle.read_laws.specs.MapLaws.{At, at-code, at-sizes, in-group, size-code, each-size}
 use Rattle.read_laws.specs.LayingLaws.{Passing, passed, checked, Laying, laying-reads, laying-encodes, decoded-as, word-as, alone-reads, alone-encodes, either-encodes, form-word}
+use Rattle.isa_facts.specs.Ordinary.{ordinary}
 
 -- ---- CHK2 CMP2: bit 11 of the extension word tells them apart
 abbrev boundsAt : ℕ → RegisterOperation
@@ -361,7 +362,7 @@ module _ (a compare1 compare2 update1 update2 : ℕ) (pointer1 pointer2 : Regist
   cas2-encodes : Passing (allow (not (isByte s)) 31 ∷ (cas2Items compare1 update1 pointer1 ++ cas2Items compare2 update2 pointer2))
       → Encodes a twoCas (wordOf 0 (6 + longBit s) 3 60 ∷ high ∷ low ∷ [])
   unfolding cas2Parts
-  cas2-encodes c = ((tt, passed (itemsOf twoCas a) c, refl), refl, refl)
+  cas2-encodes c = ((tt, passed (itemsOf twoCas a) c, ordinary _ refl), refl, refl)
 
   pub cas2-reads : Accepted a (CAS2 compare1 compare2 update1 update2 pointer1 pointer2 s)
       → Reads a (CAS2 compare1 compare2 update1 update2 pointer1 pointer2 s)

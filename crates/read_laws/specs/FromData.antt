@@ -38,7 +38,7 @@ use Rattle.read_operand_laws.specs.TailStands.{specifierWords, SpecifierStands,
 use Rattle.encode_facts.specs.Items.{lt-number, number-lt, fine-both, both-fine, unless-reason, true-unless}
 use lib.Dec.{ltb, eqb}
 use Rattle.encode_spec.specs.Encode.{refusalOf, itemsOf, wordsOf}
-use Rattle.read_spec.specs.LeftOut.{leftOut}
+use Rattle.isa_facts.specs.Ordinary.{isOrdinary, ordinary}
 use Rattle.isa.specs.declared.PairOperation.the-variants.{ADDX, SUBX, OR, AND, ADD, SUB, CMPM, EOR}
 use Rattle.read_spec.specs.declared.Group.the-variants as group
 use Rattle.isa.specs.declared.UnsizedPairOperation.the-variants.{ABCD, SBCD}
@@ -182,7 +182,7 @@ Joins a J reason line opmode ws =
     → (refusalOf true (J o d) a ≡ failure true (pairingChecks reason o d))
     × (wordsOf (J o d) a ≡ wordOf line (registerField d) opmode (8 * memoryBit o + registerField o) ∷ ws)
     × (InTypes o × InTypes d → InstructionInTypes (J o d))
-    × (leftOut (J o d) a ≡ false)
+    × (isOrdinary (J o d) ≡ true)
     × ((s : Size) × (t : Size) × (plain (J o d) ≡ J (plainOperand s o) (plainOperand t d)))
 
 joined-encodes : (a : ℕ) (J : Operand → Operand → Instruction) (reason line opmode : ℕ) (ws : List ℕ) → Joins a J reason line opmode ws
@@ -194,12 +194,12 @@ joined-encodes a J reason line opmode ws j ea x he hx = go (lt? ea 8)
         let (c, w, n, u, (_, _, p)) = j (Register (Data (ea % 8))) (Register (Data x)) in
         let t = passed (pairingChecks reason (Register (Data (ea % 8))) (Register (Data x)))
         (refl, (refl, (refl, (lt-number x hx, (lt-number (ea % 8) (omega arith), tt))))) in
-        rw e (word-as a _ _ _ _ (omega arith) ((n (tt, tt), c ∙ t, u), p, w))
+        rw e (word-as a _ _ _ _ (omega arith) ((n (tt, tt), c ∙ t, ordinary _ u), p, w))
     go (Lt.past l e) =
         let (c, w, n, u, (_, _, p)) = j (PreIndirect (ea % 8)) (PreIndirect x) in
         let t = passed (pairingChecks reason (PreIndirect (ea % 8)) (PreIndirect x))
         (refl, (refl, (refl, (lt-number x hx, (lt-number (ea % 8) (omega arith), tt))))) in
-        rw e (word-as a _ _ _ _ (omega arith) ((n (tt, tt), c ∙ t, u), p, w))
+        rw e (word-as a _ _ _ _ (omega arith) ((n (tt, tt), c ∙ t, ordinary _ u), p, w))
 
 joined-reads : (a : ℕ) (J : Operand → Operand → Instruction) (sh : Group) (reason line opmode : ℕ) (k : Specifier) (v : ℕ)
     → Joins a J reason line opmode (specifierWords k v)
@@ -359,7 +359,7 @@ exg-encodes a x y (t, h, l) = (
       true-unless (not (isAddress x) || isAddress y) (noEncoding 43) t,
       (lt-number (numberOfRegister x) h, (lt-number (numberOfRegister y) l, tt)),
     ),
-    refl,
+    ordinary _ refl,
   ),
   refl,
   refl,
@@ -475,7 +475,7 @@ unfolding pairParts cmpmParts
 cmpm-encodes a x y s hx hy =
     let m : x % 8 ≡ x = omega arith in
     let n : y % 8 ≡ y = omega arith in
-    (((tt, tt), passed (itemsOf (cmpmOf s x y) a) (refl, (refl, (refl, (lt-number x hx, (lt-number y hy, tt))))), refl), refl, rw (m, n))
+    (((tt, tt), passed (itemsOf (cmpmOf s x y) a) (refl, (refl, (refl, (lt-number x hx, (lt-number y hy, tt))))), ordinary _ refl), refl, rw (m, n))
 
 cmpm-at : (a x y : ℕ) (s : Size) → x < 8 → y < 8 → Reads a (cmpmOf s x y)
 cmpm-at a x y s hx hy =

@@ -32,7 +32,7 @@ use Rattle.isa.specs.declared.WordOperation.the-variants.{DIVx, MULx}
 use Rattle.isa.specs.declared.Operand.the-variants.{Register}
 use Rattle.isa.specs.declared.Instruction.{Instruction}
 use Rattle.encode_spec.specs.Logic.{logicalParts}
-use Rattle.read_spec.specs.LeftOut.{leftOut}
+use Rattle.isa_facts.specs.Ordinary.{isOrdinary}
 use Rattle.read_spec.specs.Modes.{readableModes}
 use Rattle.read_spec.specs.Accepted.{InTypes, InstructionInTypes, Accepted}
 use Rattle.read_laws.specs.Statements.{Reads, Sound}
@@ -155,7 +155,7 @@ Into a o r s v line =
     IntoLaying a o r s v (intoModes line s) line
     × (InstructionInTypes (intoOf line o r s) → InTypes o)
     × (InTypes o → InstructionInTypes (intoOf line o r s))
-    × (leftOut (intoOf line o r s) a ≡ false)
+    × (isOrdinary (intoOf line o r s) ≡ true)
     × (plain (intoOf line o r s) ≡ intoOf line (plainOperand s o) r s)
 
 module _ (a : ℕ) (o : Operand) (r : RegisterOperand) (s : Size) (v : ℕ) where

@@ -27,7 +27,7 @@ use Rattle.read_spec.specs.declared.Layout.{Layout}
 use Rattle.read_spec.specs.declared.Tail.{Tail}
 use Rattle.read_spec.specs.Tree.{Tree, ret}
 use Rattle.read_spec.specs.Plain.{plain, plainOperand}
-use Rattle.read_spec.specs.LeftOut.{leftOut}
+use Rattle.isa_facts.specs.Ordinary.{isOrdinary, ordinary}
 use Rattle.read_spec.specs.Operand.{permitted}
 use Rattle.read_spec.specs.Layout.{one, alone}
 use Rattle.read_spec.specs.Layouts.{layoutOf}
@@ -225,12 +225,12 @@ decoded-as a i j w u ws r e h =
 
 pub laying-encodes : {a : ℕ} {j : Instruction} {line x opmode : ℕ} {k : Specifier} {s : Size} {modes : ℕ} {C : Type 0} (ea : ℕ) (f : Tail)
     → Laying a j line x opmode k s modes (f .value) (f .source) C → C → TailStands a (one k s ea modes) f → plainTail s f ≡ f
-    → (InTypes (f .source) → InstructionInTypes j) → leftOut j a ≡ false → (plainOperand s (f .source) ≡ f .source → plain j ≡ j)
+    → (InTypes (f .source) → InstructionInTypes j) → isOrdinary j ≡ true → (plainOperand s (f .source) ≡ f .source → plain j ≡ j)
     → Encodes a j (wordOf line x opmode ea ∷ tailWords a (one k s ea modes) f)
 laying-encodes {a} {j} {line} {x} {opmode} {k} {s} {modes} ea f l c h p n o y =
     let b = one-back a k s ea modes f h in
     let r = l .there c (b .1) (b .0) in
-    ((n (b .2), r, o), y (ap (λ (g : Tail). g .source) p), l .words r ∙ rw (one-words a k s ea modes f h, b .3))
+    ((n (b .2), r, ordinary j o), y (ap (λ (g : Tail). g .source) p), l .words r ∙ rw (one-words a k s ea modes f h, b .3))
 
 -- ---- a specifier alone
 pub alone-words : (a : ℕ) (k : Specifier) (f : Tail) → TailStands a (alone k) f → tailWords a (alone k) f ≡ specifierWords k (f .value)

@@ -17,5 +17,4 @@ pub mod FromData
 pub mod Shift
 pub mod Every
 pub mod ReaderLaws
-pub mod One
 pub mod Kept

@@ -55,6 +55,7 @@ use Rattle.read_laws.specs.MapLaws.{At, at-code, at-registers, at-sizes,
 use Rattle.read_laws.specs.LayingLaws.{Passing, passed, checked, Laying, form-byte, laying-reads, laying-encodes, decoded-as, word-as, alone-reads, alone-encodes, either-encodes, form-word, form-bare, form-behind}
 use Rattle.read_laws.specs.Operands.{data-is, address-is, data-bits, address-bits}
 use Rattle.base_facts.specs.Tests.{Lt, less, past, lt?, and-true, ltb-true, ltb-not, ltb-is, eqb-eq, and-false}
+use Rattle.isa_facts.specs.Ordinary.{ordinary}
 
 -- ---- NEGX CLR NEG NOT TST: bits 11 to 9
 abbrev oneCode : OneOperation → ℕ
@@ -166,7 +167,7 @@ unsized-encodes a ea op f h p = laying-encodes ea f (unsized-laying a op (f .sou
 -- ---- ILLEGAL
 illegal-encodes : (a : ℕ) → Encodes a (NoOperand ILLEGAL) (wordOf 4 5 3 60 ∷ [])
 unfolding noOperandParts
-illegal-encodes a = ((tt, refl, refl), refl, refl)
+illegal-encodes a = ((tt, refl, ordinary _ refl), refl, refl)
 
 pub illegal-reads : (a : ℕ) → Accepted a (NoOperand ILLEGAL) → Reads a (NoOperand ILLEGAL)
 unfolding groupAt map
@@ -191,7 +192,7 @@ linkl-encodes : (a n d : ℕ) → n < 8 → d < 2 ^ 32 → Encodes a (Link LINKL
 unfolding linksParts linklParts
 linkl-encodes a n d h l =
     let e : n % 8 ≡ n = omega arith in
-    ((l, passed (itemsOf (Link LINKL (Address n) d) a) (lt-number n h, tt), refl), refl, rw e)
+    ((l, passed (itemsOf (Link LINKL (Address n) d) a) (lt-number n h, tt), ordinary _ refl), refl, rw e)
 
 pub linkl-reads : (a : ℕ) (r : RegisterOperand) (d : ℕ) → Accepted a (Link LINKL r d) → Reads a (Link LINKL r d)
 unfolding groupAt map linksParts linklParts
@@ -215,7 +216,7 @@ nbcd-link-sound a line x opmode ea hl hx ho he e f h p i r =
 -- ---- SWAP and BKPT, which stand where PEA has no mode
 swap-encodes : (a n : ℕ) → n < 8 → Encodes a (SWAP (Data n)) (wordOf 4 4 1 n ∷ [])
 unfolding swapParts
-swap-encodes a n h = let e : n % 8 ≡ n = omega arith in ((tt, passed (itemsOf (SWAP (Data n)) a) (lt-number n h, tt), refl), refl, rw e)
+swap-encodes a n h = let e : n % 8 ≡ n = omega arith in ((tt, passed (itemsOf (SWAP (Data n)) a) (lt-number n h, tt), ordinary _ refl), refl, rw e)
 
 pub swap-reads : (a : ℕ) (r : RegisterOperand) → Accepted a (SWAP r) → Reads a (SWAP r)
 unfolding groupAt map swapParts
@@ -228,7 +229,7 @@ bkpt-encodes : (a v : ℕ) → v < 8 → Encodes a (Vector BKPT v) (wordOf 4 4 1
 unfolding vectorParts
 bkpt-encodes a v h =
     let e : v % 8 ≡ v = omega arith in
-    ((tt, passed (itemsOf (Vector BKPT v) a) (breakpoint-vector-holds v ∙ ltb-true v 8 h, tt), refl), refl, rw e)
+    ((tt, passed (itemsOf (Vector BKPT v) a) (breakpoint-vector-holds v ∙ ltb-true v 8 h, tt), ordinary _ refl), refl, rw e)
 
 pub bkpt-reads : (a v : ℕ) → Accepted a (Vector BKPT v) → Reads a (Vector BKPT v)
 unfolding groupAt map vectorParts
@@ -275,7 +276,7 @@ ext-encodes : (a n : ℕ) (from to : Size) → n < 8 → Extends from to → Enc
 unfolding extParts
 ext-encodes a n from to h e =
     let m : n % 8 ≡ n = omega arith in
-    ((tt, passed (itemsOf (EXT (Data n) from to) a) (true-unless (not (eqb (extOpmode from to) 0)) (noEncoding 19) e, (lt-number n h, tt)), refl), refl, rw m)
+    ((tt, passed (itemsOf (EXT (Data n) from to) a) (true-unless (not (eqb (extOpmode from to) 0)) (noEncoding 19) e, (lt-number n h, tt)), ordinary _ refl), refl, rw m)
 
 ext-at : (a n : ℕ) (from to : Size) → n < 8 → Extends from to → Reads a (EXT (Data n) from to)
 unfolding groupAt map

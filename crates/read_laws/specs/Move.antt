@@ -43,6 +43,7 @@ use Rattle.read_laws.specs.Tests.{equal, no, modes-say, not-true}
 use Rattle.read_laws.specs.MapLaws.{At, at-line, in-group, each-size}
 use Rattle.read_laws.specs.LayingLaws.{Passing, passing-apart, passing-both, passing, passed, checked, Fitting, fitting, fitted, byte-modes, Laying, laying-reads, laying-encodes, word-as, either-encodes, form-behind}
 use Rattle.read_laws.specs.Operands.{address-bits}
+use Rattle.isa_facts.specs.Ordinary.{ordinary}
 
 -- ---- the two operands of MOVE
 abbrev destinationPlace : ℕ → Operand → Size → ℕ
@@ -196,7 +197,7 @@ move-encodes a x opmode ea s f hx (c, v, q, k) p =
     let e : modeField d * 8 + registerField d ≡ opmode * 8 + x = k .3 in
     let m : modeField d ≡ opmode = omega arith in
     let r : registerField d ≡ x = omega arith in (
-      ((q .2, k .2), move-there a o d s (q .1, k .1, g, h), refl),
+      ((q .2, k .2), move-there a o d s (q .1, k .1, g, h), ordinary _ refl),
       rw (ap (λ (g : Tail). g .source) p, ap (λ (g : Tail). g .destination) p),
       move-words a o d
           s ∙ rw (m, r, q .3),

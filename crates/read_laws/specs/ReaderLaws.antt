@@ -1,4 +1,4 @@
--- The reader and the encoder are each other's inverse: T1 to T4, from what is proved of each instruction and each group.
+-- The reader and the encoder are each other's inverse: T1 to T5, from what is proved of each instruction and each group.
 use Prim.Native.Nat.{ℕ, zero, suc, _+_, _*_, _/_, _%_, _<_}
 use mathlib.Core.Path.{_≡_, refl, ap, sym, _∙_, subst}
 use mathlib.Core.List.{List, [], _∷_, _++_, append-nil}
@@ -28,6 +28,7 @@ use Rattle.read_laws.specs.WordLaws.{following-words, word-lt}
 use Rattle.isa.specs.declared.NoOperandOperation.the-variants.{NOP}
 use Rattle.isa.specs.declared.Instruction.the-variants.{NoOperand}
 use Rattle.encode_spec.specs.System.{noOperandParts}
+use Rattle.isa_facts.specs.Ordinary.{ordinary}
 
 -- ---- the whole, from the laws of the groups and of what follows
 -- an operation word's fields
@@ -124,9 +125,9 @@ plain-words a i h =
     (reader-complete a i h []) in
     (s .0, s .1, sym (append-nil (wordsOf (plain i) a)) ∙ sym (s .2) ∙ append-nil (wordsOf i a))
 
--- ---- equal words have equal plain forms, where both read
-pub read-one : (a : ℕ) (i j : Instruction) → Accepted a i → Accepted a j → wordsOf i a ≡ wordsOf j a → plain i ≡ plain j
-read-one a i j h g e =
+-- ---- one: accepted instructions with equal words at an address have equal plain forms, so 01's rule for several with the same words never applies
+pub one : (a : ℕ) (i j : Instruction) → Accepted a i → Accepted a j → wordsOf i a ≡ wordsOf j a → plain i ≡ plain j
+one a i j h g e =
     let x : got (plain i) (length (wordsOf i a)) [] ≡ got (plain j) (length (wordsOf j a)) [] = sym (reader-complete a i h [])
     ∙ ap (λ (l : List ℕ). run (reader a) a 0 (l ++ [])) e ∙ reader-complete a j g [] in
     cc
@@ -196,7 +197,7 @@ word-longer a w ws h e =
 
 pub short-longer : (a : ℕ) (ws : List ℕ) → Words ws → readOf ws a ≡ Short → Longer a ws
 unfolding readOf noOperandParts
-short-longer a [] h e = (20081, [], NoOperand NOP, (tt, refl, refl), refl)
+short-longer a [] h e = (20081, [], NoOperand NOP, (tt, refl, ordinary _ refl), refl)
 short-longer a (w ∷ ws) h e = word-longer a w ws h (from-short (run (reader a) a 0 (w ∷ ws)) e)
 
 -- ---- the answer 5 exactly where some longer run encodes, 6 exactly where no such run does and no beginning does

@@ -54,6 +54,7 @@ use Rattle.read_laws.specs.Tests.{equal, yes, among, implies, facts-belo
 use Rattle.read_laws.specs.MapLaws.{At, at-code, at-upto, at-among, in-group}
 use Rattle.read_laws.specs.LayingLaws.{Passing, passed, checked, one-back, Laying, form-as, laying-reads, laying-encodes, decoded-as, word-as, alone-reads, alone-encodes, form-word, form-behind}
 use Rattle.read_laws.specs.Operands.{is-register, not-immediate, by-kind, by-register, data-bits}
+use Rattle.isa_facts.specs.Ordinary.{ordinary}
 
 -- ---- the fields of a shift
 kind-at : (op : ShiftOperation) → (shiftKind op < 4) × (shiftAt (shiftKind op) ≡ op)
@@ -82,9 +83,9 @@ register-encodes : (a : ℕ) (op : ShiftOperation) (count : Operand) (n : ℕ) (
     → Encodes a (Shift op count (dataOperand n) direction s) (wordOf 14 (countBits count) (4 * leftBit direction + sizeCode s) (shiftField op count n) ∷ [])
 unfolding shiftParts shiftRegisterParts
 register-encodes a op count n direction s (inRegister m h) hn =
-    (((tt, tt), passed (itemsOf (Shift op count (dataOperand n) direction s) a) (refl, (refl, (lt-number n hn, (lt-number m h, tt)))), refl), refl, refl)
+    (((tt, tt), passed (itemsOf (Shift op count (dataOperand n) direction s) a) (refl, (refl, (lt-number n hn, (lt-number m h, tt)))), ordinary _ refl), refl, refl)
 register-encodes a op count n direction s (number v h) hn =
-    (((tt, tt), passed (itemsOf (Shift op count (dataOperand n) direction s) a) (refl, (refl, (lt-number n hn, (h, tt)))), refl), refl, refl)
+    (((tt, tt), passed (itemsOf (Shift op count (dataOperand n) direction s) a) (refl, (refl, (lt-number n hn, (h, tt)))), ordinary _ refl), refl, refl)
 
 -- the count that bits 11 to 9 name, and i/r
 abbrev Counted : Operand → ℕ → Bool → Type 0

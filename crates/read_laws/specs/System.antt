@@ -1,7 +1,7 @@
 -- TRAP LINK UNLK MOVE USP RESET NOP STOP RTE RTD RTS TRAPV RTR MOVEC; LINEA LINEF.
 use Prim.Native.Nat.{ℕ, _+_, _*_, _/_, _%_, _^_, _<_}
 use mathlib.Core.Path.{_≡_, refl, ap, sym, _∙_, subst}
-use mathlib.Core.Bool.{Bool, true, false, _||_, false≢true, true≢false, cond}
+use mathlib.Core.Bool.{Bool, true, false, _||_, false≢true, cond}
 use mathlib.Core.List.{[], _∷_, List}
 use native.Mathlib.Omega.{arith}
 use lib.Dec.{ltb, eqb, leb}
@@ -46,7 +46,8 @@ use Rattle.read_laws.specs.Operands.{general-of, of-general, address-is}
 use Rattle.isa.specs.declared.RawOperation.{RawOperation}
 use Rattle.isa.specs.declared.RawOperation.the-variants.{LINEA, LINEF, IllegalWord}
 use Rattle.read_spec.specs.declared.Group.{Group}
-use Rattle.read_spec.specs.LeftOut.{leftOut}
+use Rattle.isa_spec.specs.Ordinary.{Ordinary}
+use Rattle.isa_facts.specs.Ordinary.{isOrdinary, ordinary}
 use Rattle.read_laws.specs.Tests.{Fact, Known, yes, no, equal, known, facts-below, each-eight}
 use Rattle.read_laws.specs.MapLaws.{At, at-code, at-line, in-group}
 use Rattle.read_laws.specs.LayingLaws.{missing, passed, checked, decoded-as, alone-reads, alone-encodes}
@@ -77,7 +78,7 @@ unfolding vectorParts
 trap-named a n h =
     let w : n % 16 ≡ n = omega arith in
     named (layout-is true n (facts-below 16 (layoutFacts true) refl n h)) (go (lt? n 8))
-    (λ v s. ((tt, passed (itemsOf (Vector TRAP n) a) (trap-vector-holds n ∙ ltb-true n 16 h, tt), refl), refl, rw w))
+    (λ v s. ((tt, passed (itemsOf (Vector TRAP n) a) (trap-vector-holds n ∙ ltb-true n 16 h, tt), ordinary _ refl), refl, rw w))
   where
     go : Lt n 8 → (v : ℕ) → systemDecoded n v ≡ Vector TRAP n
     go (Lt.less l e) v = let q : n / 8 ≡ 0 = omega arith in rw q
@@ -95,7 +96,7 @@ link-named a n h =
     named (eight false 16 refl n h) (λ v. rw (q, u)) (λ v s.
     let i = Link LINK (Address n) (extended (v % 65536)) in
     let e = word-extended v (s .0) in (
-      (extended-lt (v % 65536), passed (itemsOf i a) (lt-number n h, (rw e (link-displacement-holds (signed16 v) ∙ signed16-fits v (s .0)), tt)), refl),
+      (extended-lt (v % 65536), passed (itemsOf i a) (lt-number n h, (rw e (link-displacement-holds (signed16 v) ∙ signed16-fits v (s .0)), tt)), ordinary _ refl),
       refl,
       rw (e, w, low-signed16 v (s .0)),
     ))
@@ -106,11 +107,11 @@ unlk-named a n h =
     let q : (24 + n) / 8 ≡ 3 = omega arith in
     let u : (24 + n) % 8 ≡ n = omega arith in
     let w : n % 8 ≡ n = omega arith in
-    named (eight true 24 refl n h) (λ v. rw (q, u)) (λ v s. ((tt, passed (itemsOf (UNLK (Address n)) a) (lt-number n h, tt), refl), refl, rw w))
+    named (eight true 24 refl n h) (λ v. rw (q, u)) (λ v s. ((tt, passed (itemsOf (UNLK (Address n)) a) (lt-number n h, tt), ordinary _ refl), refl, rw w))
 
 moveusp-encodes : (a : ℕ) (to : Bool) (n : ℕ) → n < 8 → Encodes a (MOVEUSP to (Address n)) (wordOf 4 7 1 (cond to 32 40 + n) ∷ [])
 unfolding moveuspParts
-moveusp-encodes a to n h = let w : n % 8 ≡ n = omega arith in ((tt, passed (itemsOf (MOVEUSP to (Address n)) a) (lt-number n h, tt), refl), refl, rw w)
+moveusp-encodes a to n h = let w : n % 8 ≡ n = omega arith in ((tt, passed (itemsOf (MOVEUSP to (Address n)) a) (lt-number n h, tt), ordinary _ refl), refl, rw w)
 
 moveusp-named : (a : ℕ) (to : Bool) (n : ℕ) → n < 8 → Named a (cond to 32 40 + n) specifier.Nothing (λ v. MOVEUSP to (Address n))
 moveusp-named a true n h =
@@ -124,14 +125,14 @@ moveusp-named a false n h =
 
 stop-named : (a : ℕ) → Named a 50 specifier.Word (λ v. Status STOP (v % 65536))
 unfolding statusParts
-stop-named a = named refl (λ v. refl) (λ v s. let w : v % 65536 ≡ v = omega (arith, s .0) in rw w ((s .0, refl, refl), refl, refl))
+stop-named a = named refl (λ v. refl) (λ v s. let w : v % 65536 ≡ v = omega (arith, s .0) in rw w ((s .0, refl, ordinary _ refl), refl, refl))
 
 rtd-named : (a : ℕ) → Named a 52 specifier.Word (λ v. RTD (extended (v % 65536)))
 unfolding rtdParts
 rtd-named a =
     named refl (λ v. refl) (λ v s.
     let e = word-extended v (s .0) in (
-      (extended-lt (v % 65536), passed (itemsOf (RTD (extended (v % 65536))) a) (rw e (rtd-displacement-holds (signed16 v) ∙ signed16-fits v (s .0)), tt), refl),
+      (extended-lt (v % 65536), passed (itemsOf (RTD (extended (v % 65536))) a) (rw e (rtd-displacement-holds (signed16 v) ∙ signed16-fits v (s .0)), tt), ordinary _ refl),
       refl,
       rw (e, low-signed16 v (s .0)),
     ))
@@ -142,7 +143,7 @@ movec-encodes a to v h =
     let g = of-general (v / 4096 % 16) (omega arith) in
     let m : v % 4096 % 4096 ≡ v % 4096 = omega arith in
     let w : v / 4096 % 16 * 4096 + v % 4096 ≡ v = omega arith in (
-      (omega arith, passed (itemsOf (MOVEC to (v % 4096) (generalOf (v / 4096 % 16))) a) (lt-number (numberOfRegister (generalOf (v / 4096 % 16))) (g .1), tt), refl),
+      (omega arith, passed (itemsOf (MOVEC to (v % 4096) (generalOf (v / 4096 % 16))) a) (lt-number (numberOfRegister (generalOf (v / 4096 % 16))) (g .1), tt), ordinary _ refl),
       rw m,
       rw (m, g .0, w),
     )
@@ -175,16 +176,16 @@ plainCode SIMHALT = 0
 abbrev PlainNamed : ℕ → NoOperandOperation → Type 0
 PlainNamed a op = (plainCode op < 64) × Named a (plainCode op) specifier.Nothing (λ v. NoOperand op)
 
-no-operand-named : (a : ℕ) (op : NoOperandOperation) → isIllegal op ≡ false → leftOut (NoOperand op) a ≡ false → PlainNamed a op
+no-operand-named : (a : ℕ) (op : NoOperandOperation) → isIllegal op ≡ false → Ordinary (NoOperand op) → PlainNamed a op
 unfolding noOperandParts
-no-operand-named a RTE n l = (omega arith, named refl (λ v. refl) (λ v s. ((tt, refl, refl), refl, refl)))
-no-operand-named a RESET n l = (omega arith, named refl (λ v. refl) (λ v s. ((tt, refl, refl), refl, refl)))
-no-operand-named a RTR n l = (omega arith, named refl (λ v. refl) (λ v s. ((tt, refl, refl), refl, refl)))
-no-operand-named a TRAPV n l = (omega arith, named refl (λ v. refl) (λ v s. ((tt, refl, refl), refl, refl)))
+no-operand-named a RTE n l = (omega arith, named refl (λ v. refl) (λ v s. ((tt, refl, ordinary _ refl), refl, refl)))
+no-operand-named a RESET n l = (omega arith, named refl (λ v. refl) (λ v s. ((tt, refl, ordinary _ refl), refl, refl)))
+no-operand-named a RTR n l = (omega arith, named refl (λ v. refl) (λ v s. ((tt, refl, ordinary _ refl), refl, refl)))
+no-operand-named a TRAPV n l = (omega arith, named refl (λ v. refl) (λ v s. ((tt, refl, ordinary _ refl), refl, refl)))
 no-operand-named a ILLEGAL n l = true-not-false refl n
-no-operand-named a RTS n l = (omega arith, named refl (λ v. refl) (λ v s. ((tt, refl, refl), refl, refl)))
-no-operand-named a NOP n l = (omega arith, named refl (λ v. refl) (λ v s. ((tt, refl, refl), refl, refl)))
-no-operand-named a SIMHALT n l = true-not-false refl l
+no-operand-named a RTS n l = (omega arith, named refl (λ v. refl) (λ v s. ((tt, refl, ordinary _ refl), refl, refl)))
+no-operand-named a NOP n l = (omega arith, named refl (λ v. refl) (λ v s. ((tt, refl, ordinary _ refl), refl, refl)))
+no-operand-named a SIMHALT n l = absurd (l .1 refl)
 
 -- ---- T1
 named-reads : {a ea : ℕ} {k : Specifier} {j : ℕ → Instruction} (i : Instruction) (v : ℕ) → ea < 64 → Named a ea k j → SpecifierStands k v → j v ≡ i → Reads a i
@@ -276,8 +277,8 @@ module _ (a : ℕ) (f : Tail) where
   none-right : (ea : ℕ) → systemLayout ea ≡ noLayout → Right a f ea
   none-right ea e i h r = absurd (false≢true (subst (λ (m : Layout). TailStands a m f) e h .0))
 
-  plain-right : (op : NoOperandOperation) → isIllegal op ≡ false → leftOut (NoOperand op) a ≡ false → Right a f (plainCode op)
-  plain-right op n l = named-right (no-operand-named a op n l .1)
+  plain-right : (op : NoOperandOperation) → isIllegal op ≡ false → isOrdinary (NoOperand op) ≡ true → Right a f (plainCode op)
+  plain-right op n l = named-right (no-operand-named a op n (ordinary (NoOperand op) l) .1)
 
   return-right : (n : ℕ) → n < 8 → Right a f (48 + n)
   return-right =
@@ -313,11 +314,11 @@ Raws a op line = (w : ℕ) → w < 65536 → w / 4096 ≡ line → Encodes a (Ra
 
 line-a-encodes : (a : ℕ) → Raws a LINEA 10
 unfolding rawParts
-line-a-encodes a w h e = ((h, passed (itemsOf (Raw LINEA w) a) (true-unless (eqb (w / 4096) 10) malformed (eqb-is (w / 4096) 10 e), tt), refl), refl, refl)
+line-a-encodes a w h e = ((h, passed (itemsOf (Raw LINEA w) a) (true-unless (eqb (w / 4096) 10) malformed (eqb-is (w / 4096) 10 e), tt), ordinary _ refl), refl, refl)
 
 line-f-encodes : (a : ℕ) → Raws a LINEF 15
 unfolding rawParts
-line-f-encodes a w h e = ((h, passed (itemsOf (Raw LINEF w) a) (true-unless (eqb (w / 4096) 15) malformed (eqb-is (w / 4096) 15 e), tt), refl), refl, refl)
+line-f-encodes a w h e = ((h, passed (itemsOf (Raw LINEF w) a) (true-unless (eqb (w / 4096) 15) malformed (eqb-is (w / 4096) 15 e), tt), ordinary _ refl), refl, refl)
 
 -- a word of a line
 raw-at : (a : ℕ) (op : RawOperation) (sh : Group) (line w : ℕ) → w < 65536 → unless (eqb (w / 4096) line) malformed ≡ fine → Raws a op line
@@ -341,7 +342,7 @@ raw-reads a LINEA w h =
 raw-reads a LINEF w h =
     raw-at a LINEF group.LineF 15 w (h .0) (checked a (Raw LINEF w) h .0) (line-f-encodes a)
     (λ x o hx ho. at-line group.LineF 15 (λ o. true) refl x o hx ho refl) (λ x o ea. (refl, refl))
-raw-reads a IllegalWord w h = absurd (true≢false (h .2))
+raw-reads a IllegalWord w h = absurd (h .2 .0 w refl)
 
 pub line-a-sound : Sound group.LineA
 unfolding map

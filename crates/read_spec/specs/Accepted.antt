@@ -1,6 +1,6 @@
 -- What the reader's laws speak of: an instruction that `encode` accepts, and runs of words.
 use mathlib.Core.Path.{_≡_}
-use mathlib.Core.Bool.{true, _&&_, false}
+use mathlib.Core.Bool.{true, _&&_}
 use lib.IntN.{ℤ, pos, negsuc}
 use lib.Signed.{leZ}
 use Prim.Native.Nat.{_^_, _<_, ℕ}
@@ -12,7 +12,7 @@ use Rattle.isa.specs.declared.Instruction.the-variants.{IntoRegister, MOVEM, Tr
 use Rattle.isa.specs.declared.TrapOperand.the-variants as trap
 use Rattle.encode_spec.specs.Item.{fine}
 use Rattle.encode_spec.specs.Encode.{refusalOf, wordsOf}
-use Rattle.read_spec.specs.LeftOut.{leftOut}
+use Rattle.isa_spec.specs.Ordinary.{Ordinary}
 use mathlib.Core.List.{List, [], _∷_, _++_}
 
 -- z fits 32 bits, signed
@@ -80,7 +80,7 @@ InstructionInTypes (DIVL o quotient remainder wide sign) = InTypes o
 
 -- what `encode` accepts at an address, and the reader does not leave out
 abbrev pub Accepted : ℕ → Instruction → Type 0
-Accepted a i = InstructionInTypes i × (refusalOf true i a ≡ fine) × (leftOut i a ≡ false)
+Accepted a i = InstructionInTypes i × (refusalOf true i a ≡ fine) × Ordinary i
 
 -- each is a word
 abbrev pub Words : List ℕ → Type 0

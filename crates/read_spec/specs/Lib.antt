@@ -1,5 +1,4 @@
 pub mod Plain
-pub mod LeftOut
 pub mod Accepted
 pub mod ReadingRefusal
 pub mod RoundTrip

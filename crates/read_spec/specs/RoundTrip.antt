@@ -4,15 +4,14 @@ use lib.ListN.{take, replicate}
 use Rattle.isa.specs.declared.Instruction.{Instruction}
 use Rattle.isa.specs.declared.Encoded.{Encoded}
 use Rattle.isa.specs.declared.Measured.{Measured}
+use Rattle.isa_spec.specs.Ordinary.{Ordinary}
 use Rattle.encode_spec.specs.Encode.{encodeOf, sizeOf}
 use Rattle.read_spec.specs.declared.Reading.{Reading}
 use Rattle.read_spec.specs.Read.{readOf}
 use Rattle.read_spec.specs.ReadingRefusal.{readingRefusal}
 use Rattle.read_spec.specs.declared.Reading.the-variants.{Read, Short, Nothing}
 use Rattle.read_spec.specs.Plain.{plain}
-use Rattle.read_spec.specs.LeftOut.{leftOut}
 use mathlib.Core.Path.{_≡_}
-use mathlib.Core.Bool.{false}
 use mathlib.Core.List.{List}
 
 -- what the two ways round give
@@ -21,7 +20,7 @@ readBackOf i a = readOf (take (encodeOf i a .count) (encodeOf i a .words)) a
 
 -- an instruction that is accepted and not left out comes back in plain form, with its size
 abbrev pub ReadsBack : Instruction → ℕ → Reading → Type 0
-ReadsBack i a r = encodeOf i a .number ≡ 0 → leftOut i a ≡ false → r ≡ Read (plain i) (sizeOf i .size)
+ReadsBack i a r = encodeOf i a .number ≡ 0 → Ordinary i → r ≡ Read (plain i) (sizeOf i .size)
 
 abbrev pub refusedBack : Measured → Encoded
 refusedBack m = record { words = replicate 11 0; count = 0; number = m .number; detail = m .detail; value = m .value }

@@ -22,7 +22,7 @@ use Rattle.sheet_spec.specs.Made.{resolvesAll, Line}
 use Rattle.sheet_size_facts.specs.Says.{entries, place-named}
 use Rattle.sheet_size_facts.specs.Fitting.{fields-numbers, Fitting}
 use Rattle.sheet_spec.specs.Told.{Mark, saying, unaimed, Told}
-use Rattle.read_spec.specs.LeftOut.{Ordinary}
+use Rattle.isa_spec.specs.Ordinary.{Ordinary}
 use Rattle.sheet_size_facts.specs.Sorts.{variant-fitting}
 use Rattle.sheet_size_facts.specs.Rows.{row}
 

@@ -1,5 +1,5 @@
 -- Each line of an accepted sheet stands: its words are there, read back as its plain form, and its target is the named line's address.
-use Prim.Native.Nat.{ℕ, _*_, _%_, _≤_}
+use Prim.Native.Nat.{ℕ, _*_, _≤_}
 use mathlib.Core.Path.{_≡_, refl, sym, ap, _∙_, subst}
 use mathlib.Core.Bool.{true}
 use mathlib.Core.List.{List, _++_}
@@ -20,31 +20,28 @@ use Rattle.sheet_spec.specs.Follow.{Next, on, to, either, stop, nextOf, target,
 use Rattle.sheet_spec.specs.Promises.{InGrammar, AcceptedSheet}
 use Rattle.sheet_size_facts.specs.Says.{line-makes}
 use Rattle.sheet_size_facts.specs.Lawful.{quiet, Goes, quietly, aimed}
-use Rattle.sheet_size_facts.specs.Bounds.{upTo, up-to, address-is, count-some, names-bounded}
+use Rattle.sheet_size_facts.specs.Bounds.{upTo, up-to, count-some, names-bounded}
 use Rattle.sheet_size_facts.specs.Counted.{at-line, i, line, makes-it, encodes, entry-is, count-of, words-counted}
 use Rattle.sheet_laws.specs.InTypes.{inside-in-types}
 use Rattle.sheet_laws.specs.Follows.{Aims, Within, LineStands}
 
--- ---- where a line goes: to the address t, and to line k of m; its target is even
+-- ---- where a line goes: to the address t, and to line k of m
 abbrev Lands : Next → ℕ → ℕ → ℕ → Type 0
-Lands x t k m = Aims x t × Within x m k × (target x % 2 ≡ 0)
+Lands x t k m = Aims x t × Within x m k
 
 quiet-lands : (x : Next) → quiet x ≡ true → (t k m : ℕ) → Lands x t k m
-quiet-lands on h t k m = (tt, tt, refl)
+quiet-lands on h t k m = (tt, tt)
 quiet-lands (to u) h t k m = let z : _≡_ {A = ℕ} 0 1 = cc in absurd (omega arith)
 quiet-lands (either u) h t k m = let z : _≡_ {A = ℕ} 0 1 = cc in absurd (omega arith)
-quiet-lands stop h t k m = (tt, tt, refl)
+quiet-lands stop h t k m = (tt, tt)
 
-aimed-lands : (x : Next) (t k m : ℕ) → target x ≡ t → t % 2 ≡ 0 → 1 ≤ k → k ≤ m → Lands x t k m
-aimed-lands on t k m e h p q = (tt, tt, refl)
-aimed-lands (to u) t k m e h p q = (e, (p, q), rw e h)
-aimed-lands (either u) t k m e h p q = (e, (p, q), rw e h)
-aimed-lands stop t k m e h p q = (tt, tt, refl)
+aimed-lands : (x : Next) (t k m : ℕ) → target x ≡ t → 1 ≤ k → k ≤ m → Lands x t k m
+aimed-lands on t k m e p q = (tt, tt)
+aimed-lands (to u) t k m e p q = (e, (p, q))
+aimed-lands (either u) t k m e p q = (e, (p, q))
+aimed-lands stop t k m e p q = (tt, tt)
 
-module _ (s : Sheet) (grammar : (n : ℕ) → InGrammar (lineAt s n)) (room : ℕ) (ok : AcceptedSheet s room) (even : s .start % 2 ≡ 0) where
-  address-even : (n : ℕ) → 1 ≤ n → n ≤ lineCount s → addressOfLine s n % 2 ≡ 0
-  address-even n h g = omega (arith, address-is s n h g, even)
-
+module _ (s : Sheet) (grammar : (n : ℕ) → InGrammar (lineAt s n)) (room : ℕ) (ok : AcceptedSheet s room) where
   module _ (n : ℕ) (h : 1 ≤ n) (g : n ≤ lineCount s) where
     abbrev j : Instruction
     j = i s grammar room ok n h g
@@ -70,7 +67,7 @@ module _ (s : Sheet) (grammar : (n : ℕ) → InGrammar (lineAt s n)) (room : �
     lands (aimed (m, p, e)) =
         let u = up-to (lineCount s) m p in
         subst (λ (k : ℕ). Lands (nextOf j) (addressOfLine s k) k (lineCount s)) (sym (target-line-is ∙ e (λ k. k)))
-        (aimed-lands (nextOf j) (addressOfLine s m) m (lineCount s) (e (addressOfLine s)) (address-even m (u .0) (u .1)) (u .0) (u .1))
+        (aimed-lands (nextOf j) (addressOfLine s m) m (lineCount s) (e (addressOfLine s)) (u .0) (u .1))
 
     landing : Lands (nextOf j) (addressOfLine s (targetLine s n)) (targetLine s n) (lineCount s)
     landing = lands (at-line s grammar room ok n h g .follows .goes)
@@ -80,7 +77,7 @@ module _ (s : Sheet) (grammar : (n : ℕ) → InGrammar (lineAt s n)) (room : �
     line-accepted = (
       inside-in-types j (line s grammar room ok n h g .inside),
       accepted-fine j a number,
-      at-line s grammar room ok n h g .follows .read (addressOfLine s) a (address-even n h g) (landing .2),
+      at-line s grammar room ok n h g .follows .ordinary (addressOfLine s),
     )
 
     words-are : encodedWords (encodeOf j a) ≡ wordsOf j a

@@ -5,3 +5,4 @@ pub mod Ranges
 pub mod InTypes
 pub mod Demand
 pub mod Demand3
+pub mod EvenTargets

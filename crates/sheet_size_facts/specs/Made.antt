@@ -61,7 +61,7 @@ zeroed-follows d i y w =
     record {
       size = λ g. w .size (zeroed d g);
       plain = λ g. w .plain (zeroed d g);
-      read = λ g. w .read (zeroed d g);
+      ordinary = λ g. w .ordinary (zeroed d g);
       goes = zeroed-goes d y (w .goes);
     }
 

@@ -1,5 +1,5 @@
 -- The instruction that a line makes, whatever its labels are made: the same but for the targets.
-use Prim.Native.Nat.{ℕ, _%_, _<_}
+use Prim.Native.Nat.{ℕ, _<_}
 use mathlib.Core.Path.{_≡_, refl, sym, ap, _∙_, subst}
 use mathlib.Core.Bool.{Bool, true, false}
 use mathlib.Core.List.{List, [], _∷_, _++_, map}
@@ -35,17 +35,16 @@ use Rattle.sheet_spec.specs.declared.Kind.the-variants as kind
 use Rattle.sheet_spec.specs.Names.{bytes, namesOf}
 use Rattle.sheet_spec.specs.Line.{Token}
 use Rattle.read_spec.specs.Plain as plain
-use Rattle.read_spec.specs.LeftOut.{leftOut}
-use Rattle.sheet_spec.specs.Follow as follow
 use Rattle.sheet_spec.specs.Follow.{Next, nextOf}
 use Rattle.sheet_size_facts.specs.Says.{entries, place-named}
 use Rattle.sheet_size_facts.specs.Turned.{Input, Turned}
 use Rattle.sheet_size_facts.specs.Sorts.{chosen}
 use Rattle.sheet_size_facts.specs.Rows.{Row, row}
-use Rattle.read_spec.specs.LeftOut.{Ordinary}
+use Rattle.isa_spec.specs.Ordinary.{Ordinary}
+use Rattle.isa_facts.specs.Ordinary.{isOrdinary, ordinary}
 use Rattle.m68k_facts.specs.Sizes as sizes
 use Rattle.m68k_facts.specs.Sizes.{untargeted-size, aim-size}
-use Rattle.sheet_size_facts.specs.Lawful.{branch-stays, quiet, Goes, quietly, aimed, Follows}
+use Rattle.sheet_size_facts.specs.Lawful.{quiet, Goes, quietly, aimed, Follows}
 
 -- what a line's first field says is an instruction's name
 named-listed : (i : Instruction) → 0 < length (getD (map bytes (namesOf kind.Instruction)) (placeOf i) []) → Ordinary i
@@ -67,9 +66,9 @@ module _ {d : ℕ → Bool} {i : Instruction} (r : Row d i) where
   abbrev Kept : Type 0
   Kept = (w : r .Z) → sizeOf (r .con (r .sort .untargeted w)) ≡ sizeOf (r .con w)
 
-  -- where their plain forms go, and that they are read
+  -- where their plain forms go, and that they are ordinary
   abbrev Read : Type 0
-  Read = Ordinary (r .con (r .z)) → (w : r .Z) → (nextOf (plain.plain (r .con w)) ≡ nextOf (r .con w)) × ((a : ℕ) → a % 2 ≡ 0 → follow.target (nextOf (r .con w)) % 2 ≡ 0 → leftOut (r .con w) a ≡ false)
+  Read = Ordinary (r .con (r .z)) → (w : r .Z) → (nextOf (plain.plain (r .con w)) ≡ nextOf (r .con w)) × (isOrdinary (r .con w) ≡ true)
 
   -- where they go
   abbrev Going : Type 0
@@ -86,7 +85,7 @@ module _ {d : ℕ → Bool} {i : Instruction} (r : Row d i) where
         λ y q a. record {
           size = λ f. sym (kept (y f)) ∙ ap (λ w. sizeOf (r .con w)) (q f) ∙ kept (r .z);
           plain = λ f. read l (y f) .0;
-          read = λ f. read l (y f) .1;
+          ordinary = λ f. ordinary (r .con (y f)) (read l (y f) .1);
           goes = goes l y a;
         },
       )) [] vs [] (subst (λ (es : List Entry). Input d (kind.Instruction ∷ []) vs (es ++ [])) (form (r .z)) h) (subst Inside (form (r .z)) g)
@@ -95,8 +94,8 @@ module _ {d : ℕ → Bool} {i : Instruction} (r : Row d i) where
   made-row read goes kept = subst Made (r .is) (made read goes kept)
 
   -- without a target
-  still : (Ordinary (r .con (r .z)) → (w : r .Z) → _≡_ {A = Next × (ℕ → Bool) × Bool} (nextOf (plain.plain (r .con w)), leftOut (r .con w), quiet (nextOf (r .con w))) (nextOf (r .con w), λ a. false, true)) → Kept → Made i
-  still law = made-row (λ l w. (ap (λ t. t .0) (law l w), λ a e t. ap (λ t. t .1 a) (law l w))) (λ l y a. quietly (λ f. ap (λ t. t .2) (law l (y f))))
+  still : (Ordinary (r .con (r .z)) → (w : r .Z) → _≡_ {A = Next × Bool × Bool} (nextOf (plain.plain (r .con w)), isOrdinary (r .con w), quiet (nextOf (r .con w))) (nextOf (r .con w), true, true)) → Kept → Made i
+  still law = made-row (λ l w. (ap (λ t. t .0) (law l w), ap (λ t. t .1) (law l w))) (λ l y a. quietly (λ f. ap (λ t. t .2) (law l (y f))))
 
 pub instruction-turned : {d : ℕ → Bool} (i : Instruction) (vs : List Token) → Input d (kind.Instruction ∷ []) vs (entries i ++ []) → Inside (entries i) → Turned d Instruction entries (Follows d i) [] vs []
 instruction-turned (IntoRegister op o r s) =
@@ -124,10 +123,10 @@ instruction-turned (UnsizedPair op o d) =
     (λ l w. elim op [ ABCD ↦ refl | SBCD ↦ refl | BTST ↦ refl | BCLR ↦ refl | BSET ↦ refl | BCHG ↦ refl ]) (λ w. untargeted-size sizes.unsized-source _ ∙ untargeted-size sizes.unsized-destination _)
 instruction-turned (EXT r s v) = still (row (EXT r s v)) (λ l w. refl) (λ w. refl)
 instruction-turned (OneOperand op o s) = still (row (OneOperand op o s)) (λ l w. elim op [ CLR ↦ refl | NEG ↦ refl | NEGX ↦ refl | NOT ↦ refl | TST ↦ refl ]) (λ w. untargeted-size sizes.one-operand _)
-instruction-turned (Bcc t c s) = made-row (row (Bcc t c s)) (λ l w. (refl, branch-stays (w .0 .0) (w .1))) (λ l y a. aimed (a .0 .0)) (λ w. aim-size sizes.bcc _)
+instruction-turned (Bcc t c s) = made-row (row (Bcc t c s)) (λ l w. (refl, refl)) (λ l y a. aimed (a .0 .0)) (λ w. aim-size sizes.bcc _)
 instruction-turned (Scc o c) = still (row (Scc o c)) (λ l w. refl) (λ w. untargeted-size sizes.scc _)
-instruction-turned (DBcc r t c) = made-row (row (DBcc r t c)) (λ l w. (refl, λ a e t. refl)) (λ l y a. aimed (a .0 .1)) (λ w. aim-size sizes.dbcc _)
-instruction-turned (Branch op t s) = made-row (row (Branch op t s)) (λ l w. (elim op [ BRA ↦ refl | BSR ↦ refl ], branch-stays (w .0) (w .1))) (λ l y a. aimed (a .0)) (λ w. aim-size sizes.branch _)
+instruction-turned (DBcc r t c) = made-row (row (DBcc r t c)) (λ l w. (refl, refl)) (λ l y a. aimed (a .0 .1)) (λ w. aim-size sizes.dbcc _)
+instruction-turned (Branch op t s) = made-row (row (Branch op t s)) (λ l w. (elim op [ BRA ↦ refl | BSR ↦ refl ], refl)) (λ l y a. aimed (a .0)) (λ w. aim-size sizes.branch _)
 instruction-turned (Link op r v) = still (row (Link op r v)) (λ l w. elim op [ LINK ↦ refl | LINKL ↦ refl ]) (λ w. refl)
 instruction-turned (UNLK r) = still (row (UNLK r)) (λ l w. refl) (λ w. refl)
 instruction-turned (Shift op o d g s) =

@@ -49,7 +49,7 @@ use Rattle.numeric_spec.specs.Form.{placeOf}
 use Rattle.sheet_spec.specs.declared.Kind.{Kind}
 use Rattle.sheet_spec.specs.declared.Kind.the-variants as kind
 use Rattle.sheet_spec.specs.Grammar.{kindsOf}
-use Rattle.read_spec.specs.LeftOut.{Ordinary}
+use Rattle.isa_spec.specs.Ordinary.{Ordinary}
 use Rattle.m68k_facts.specs.Sizes.{untargeted}
 use Rattle.sheet_size_facts.specs.Says.{entries}
 use Rattle.sheet_size_facts.specs.Sorts.{Sort, none, _⊗_, number, integer, target, place, isNamed, Enum, variant, enum, choice}

@@ -4,7 +4,6 @@ use Rattle.isa_values.proofs.field.holds.Tie as tie
 use mir.Facts.{toZ-ofZ}
 use mir.Syntax.{w64}
 use Rattle.isa_spec.specs.Field.{holds}
-use Rattle.isa_values.proofs.Laws.{zero-bits}
 
 returns : tie.Need-returns
 unfolding holds
@@ -14,9 +13,8 @@ returns c =
       toZ-ofZ {w = w64} {z = c .before .before .before .before .range .result .high} (search needs),
     )
     (simp (
-      zero-bits _ (c .before .before .before .before .before .fits .value),
       toZ-ofZ {w = w64} (c .before .before .before .before .before .fits .value),
-      c .number .ensures .0,
+      c .excludes .ensures,
       c .before .also-holds .ensures,
       c .before .before .before .before .range .ensures .0,
       c .before .before .before .before .range .ensures .1,
