@@ -1,5 +1,5 @@
 -- 01's cases a to l, and what 02's N2 and N5 say of `encode` and `size`.
-use Prim.Native.Nat.{ℕ, _+_, _%_, _^_, _<_, _≤_}
+use Prim.Native.Nat.{ℕ, _+_, _%_, _^_}
 use mathlib.Core.List.{List, [], _∷_}
 use mathlib.Core.Path.{_≡_}
 use Rattle.isa.specs.declared.Instruction.{Instruction}
@@ -18,6 +18,7 @@ use Rattle.isa.specs.declared.BranchOperation.{BranchOperation}
 use Rattle.isa.specs.declared.BranchOperation.the-variants.{BRA}
 use Rattle.isa.specs.declared.BranchSize.{BranchSize}
 use Rattle.isa.specs.declared.Condition.{Condition}
+use Rattle.isa.specs.declared.Condition.the-variants.{True, False}
 use Rattle.isa.specs.declared.Sign.the-variants.{Signed}
 use Rattle.isa.specs.declared.RegisterChoice.the-variants.{None}
 use Rattle.isa.specs.declared.BitFieldOperation.{BitFieldOperation}
@@ -26,8 +27,7 @@ use Rattle.isa.specs.declared.ImmediateOperation.the-variants.{ADDI}
 use Rattle.isa.specs.declared.UnsizedPairOperation.the-variants.{BTST}
 use Rattle.isa.specs.declared.ShiftOperation.the-variants.{LSd}
 use Rattle.isa.specs.declared.ShiftDirection.the-variants.{Left}
-use Rattle.isa_spec.specs.Code.{conditionCode}
-use Rattle.encode_spec.specs.Item.{fine, noEncoding}
+use Rattle.encode_spec.specs.Item.{fine}
 use Rattle.encode_spec.specs.Encode.{encodedAs, encodeOf, sizeOf}
 use lib.IntN.{ℤ, pos, negsuc}
 use lib.ListN.{replicate}
@@ -118,17 +118,29 @@ pub record Negatives : Type 0 where
   pub static-bit : (at : ℕ) → OutOf (staticBit 4294967295) at 12 (pos 4294967295)
   pub count : (at : ℕ) → OutOf (shiftBy 4294967295) at 10 (pos 4294967295)
 
--- N5: at every address a short branch to the address and 1 is refused by its distance of -1, as one to the next word is by 0, and keeps its size; Bcc on True or False has its reason first
+-- N5: `size` gives 2
 abbrev pub TwoBytes : Instruction → Type 0
 TwoBytes i = sizeOf i ≡ record { size = 2; number = 0; detail = 0; value = pos 0 }
 
+-- N5: any condition but these two, which are BRA and BSR
+abbrev pub Conditional : Condition → Type 0
+Conditional c = (c ≡ True → ⊥) × (c ≡ False → ⊥)
+
+-- N5: refused by number 3 with this reason, by `size` too
+pub record Reasoned (i : Instruction) (at reason : ℕ) : Type 0 where
+  pub encoded : encodeOf i at ≡ record { words = replicate 11 0; count = 0; number = 3; detail = reason; value = pos 0 }
+  pub sized : sizeOf i ≡ record { size = 0; number = 3; detail = reason; value = pos 0 }
+
+-- N5: at every address a short branch to its own address plus 1 is refused by its distance of -1, as one to the next word is by 0, and keeps its size;
+-- Bcc on True or False has its reason first; the distances beside these are held
 pub record ShortBranches : Type 0 where
   pub minus-one : (op : BranchOperation) (at : ℕ) → OutOf (Branch op ((at + 1) % 2 ^ 32) branch.Short) at 1 (negsuc 0)
   pub zero : (op : BranchOperation) (at : ℕ) → OutOf (Branch op ((at + 2) % 2 ^ 32) branch.Short) at 1 (pos 0)
   pub size : (op : BranchOperation) (t : ℕ) → TwoBytes (Branch op t branch.Short)
-  pub bcc-minus-one : (c : Condition) (at : ℕ) → 2 ≤ conditionCode c → OutOf (Bcc ((at + 1) % 2 ^ 32) c branch.Short) at 1 (negsuc 0)
-  pub bcc-zero : (c : Condition) (at : ℕ) → 2 ≤ conditionCode c → OutOf (Bcc ((at + 2) % 2 ^ 32) c branch.Short) at 1 (pos 0)
-  pub bcc-size : (c : Condition) (t : ℕ) → 2 ≤ conditionCode c → TwoBytes (Bcc t c branch.Short)
-  pub bcc-reason : (c : Condition) (t at : ℕ) (s : BranchSize) → conditionCode c < 2 → encodeOf (Bcc t c s) at ≡ encodedAs (noEncoding 36) []
+  pub bcc-minus-one : (c : Condition) (at : ℕ) → Conditional c → OutOf (Bcc ((at + 1) % 2 ^ 32) c branch.Short) at 1 (negsuc 0)
+  pub bcc-zero : (c : Condition) (at : ℕ) → Conditional c → OutOf (Bcc ((at + 2) % 2 ^ 32) c branch.Short) at 1 (pos 0)
+  pub bcc-size : (c : Condition) (t : ℕ) → Conditional c → TwoBytes (Bcc t c branch.Short)
+  pub bcc-true : (t at : ℕ) (s : BranchSize) → Reasoned (Bcc t True s) at 36
+  pub bcc-false : (t at : ℕ) (s : BranchSize) → Reasoned (Bcc t False s) at 36
   pub back : Has (braShort 0x1000) 0x1000 (0x60FE ∷ [])
   pub forward : Has (braShort 0x1003) 0x1000 (0x6001 ∷ [])

@@ -1,5 +1,4 @@
 -- A test for an instruction that is ordinary.
-use Prim.Native.Nat.{ℕ}
 use mathlib.Core.Path.{_≡_, ap}
 use mathlib.Core.Bool.{Bool, true, false}
 use Rattle.isa.specs.declared.RawOperation.{RawOperation}

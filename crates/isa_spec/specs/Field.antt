@@ -129,7 +129,7 @@ isMinusOne (negsuc n) = eqb n 0
 
 -- ShortBranch excludes 0, which marks a word branch, and -1, which marks a long one (02, N5); no other field excludes a value
 abbrev pub excludes : Field → ℤ → Bool
-excludes f z = eqb (fieldNumber f) 1 && (isZero z || isMinusOne z)
+excludes f z = eqb (fieldNumber f) (fieldNumber field.ShortBranch) && (isZero z || isMinusOne z)
 
 -- a field holds what lies in its pair or beside it and is not excluded
 unfoldable pub holds : Field → ℤ → Bool

@@ -120,7 +120,7 @@ pub fn range(field: Field) -> Range
 
 // Whether an Immediate holds the value beside its pair: -128 to -1 as a byte, -32768 to -1 as a
 // word, with 2^32 added.
-pub fn also_holds(field: Field, value: i64) -> bool
+fn also_holds(field: Field, value: i64) -> bool
     ensures { λ r. ⌜ r ≡ alsoHolds (immediateSize field) value ⌝ }
 {
     let Field::Immediate(size) = field else {
@@ -135,7 +135,7 @@ pub fn also_holds(field: Field, value: i64) -> bool
 
 // Whether the field excludes the value: in the byte of a short branch 0 marks a word branch, -1 a
 // long one.
-pub fn excludes(field: Field, value: i64) -> bool
+fn excludes(field: Field, value: i64) -> bool
     ensures { λ r. ⌜ r ≡ excludes field value ⌝ }
 {
     (number(field) == 1) & ((value == 0) | (value == -1))

@@ -1,6 +1,6 @@
 // The functions on the values of an instruction, as the Rust's encoded.rs has them, and those on
-// its fields, with encode.rs's results but for `field::also_holds` and `field::excludes` in
-// `field::holds`: a module for each type.
+// its fields, with encode.rs's results but for `field::holds`, which has N2's ranges and N5's -1:
+// a module for each type.
 pub mod bit_field_operation;
 pub mod code;
 pub mod condition;

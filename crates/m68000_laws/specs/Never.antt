@@ -20,24 +20,13 @@ use Rattle.isa.specs.declared.Instruction.the-variants.{IntoRegister, MOVEM, Tr
 use Rattle.isa_spec.specs.Code.{unsizedSize, unsizedRegisterSize}
 use Rattle.isa_spec.specs.Condition.{conditionOf}
 use Rattle.isa_spec.specs.ExtensionWord.{isFull}
-use Rattle.base_spec.specs.Signed.{signed32}
 use Rattle.base_facts.specs.Tests.{cond-false, and-true, and-false}
-use Rattle.encode_spec.specs.Item.{wordAddress}
 use Rattle.encode_spec.specs.Encode.{wordsOf}
-use Rattle.read_spec.specs.declared.Specifier.the-variants as specifier
-use Rattle.read_spec.specs.declared.Group.{Group}
-use Rattle.read_spec.specs.declared.Group.the-variants as group
 use Rattle.read_spec.specs.declared.Reading.the-variants.{Read, Short}
 use Rattle.read_spec.specs.Plain.{plain, plainOperand, plainIndex}
-use Rattle.read_spec.specs.Tree.{ret, bind, run}
-use Rattle.read_spec.specs.Number.{reach}
-use Rattle.read_spec.specs.Layout.{tailTree, alone}
-use Rattle.read_spec.specs.Layouts.{branchLayout}
-use Rattle.read_spec.specs.Map.{groupAt, map}
-use Rattle.read_spec.specs.Decoded.{branchTo, branchDecoded}
-use Rattle.read_spec.specs.Read.{groupTree, wordTree, reader, readingOf, readOf}
+use Rattle.read_spec.specs.Decoded.{branchTo}
 use Rattle.read_spec.specs.Accepted.{Accepted}
-use Rattle.read_laws.specs.MapLaws.{at-line}
+use Rattle.read_laws.specs.LongMark.{byte-ff-reads}
 use Rattle.m68000_spec.specs.declared.Reading68000.the-variants.{First, NotOf68000}
 use Rattle.m68000_spec.specs.Of68000.{operandOf68000, operandsOf, allOf68000, instructionOf68000, of68000}
 use Rattle.m68000_spec.specs.Read68000.{read68000Of}
@@ -140,15 +129,6 @@ no-long-branch ws a i n e =
     let h = shown-exactly ws a i n .0 e .1 in
     ((λ t c g. false≢true (sym (ap of68000 g) ∙ h)), (λ op t g. false≢true (sym (ap of68000 g) ∙ h)))
 
--- an operation word of line 6 with the byte $FF, by its fields
-ff-tree : (a x opmode ea : ℕ) (ws : List ℕ) → x < 8 → opmode < 8 → opmode % 4 * 64 + ea ≡ 255
-    → run (wordTree a 6 x opmode ea) a 1 ws
-    ≡ run (bind (tailTree (alone specifier.Long)) (λ f. ret (branchDecoded a (x * 2 + opmode / 4) 255 (f .value)))) a 1 ws
-unfolding groupAt map
-ff-tree a x opmode ea ws hx ho e =
-    ap (λ (g : Group). run (groupTree a g 6 x opmode ea) a 1 ws) (at-line group.Branch 6 (λ o. true) refl x opmode hx ho refl .3)
-    ∙ ap (λ (b : ℕ). run (bind (tailTree (branchLayout b)) (λ f. ret (branchDecoded a (x * 2 + opmode / 4) b (f .value)))) a 1 ws) e
-
 branch-refused : (k t : ℕ) → of68000 (branchTo k t branch.Long) ≡ false
 unfolding of68000
 branch-refused k t = go (eqb k 0) (eqb k 1)
@@ -158,32 +138,13 @@ branch-refused k t = go (eqb k 0) (eqb k 1)
     go false true = refl
     go false false = refl
 
-module _ (a w : ℕ) (hl : w / 4096 ≡ 6) (hb : w % 256 ≡ 255) where
-  -- its condition
-  abbrev code : ℕ
-  code = w / 512 % 8 * 2 + w / 64 % 8 / 4
-
-  ff-run : (ws : List ℕ)
-      → run (reader a) a 0 (w ∷ ws) ≡ run (bind (tailTree (alone specifier.Long)) (λ f. ret (branchDecoded a code 255 (f .value)))) a 1 ws
-  ff-run ws =
-      let e : w / 64 % 8 % 4 * 64 + w % 64 ≡ 255 = omega (arith, hb) in
-      ap (λ (line : ℕ). run (wordTree a line (w / 512 % 8) (w / 64 % 8) (w % 64)) a 1 ws) hl
-      ∙ ff-tree a (w / 512 % 8) (w / 64 % 8) (w % 64) ws (omega arith) (omega arith) e
-
-  abbrev target : ℕ → ℕ → ℕ
-  target v u = reach (wordAddress a 1) (signed32 (v * 65536 + u))
-
-  ff-reads : (v u : ℕ) (rest : List ℕ) → readOf (w ∷ v ∷ u ∷ rest) a ≡ Read (branchTo code (target v u) branch.Long) 6
-  unfolding readOf
-  ff-reads v u rest = ap readingOf (ff-run (v ∷ u ∷ rest))
-
 -- a byte $FF in line 6: with two words more 15, with fewer 5
 pub byte-ff : (a w : ℕ) → w / 4096 ≡ 6 → w % 256 ≡ 255
     → (read68000Of (w ∷ []) a ≡ First Short) × ((v : ℕ) → read68000Of (w ∷ v ∷ []) a ≡ First Short)
     × ((v u : ℕ) (rest : List ℕ) → read68000Of (w ∷ v ∷ u ∷ rest) a ≡ NotOf68000)
-unfolding readOf
-byte-ff a w hl hb = (
-  short-alike (w ∷ []) a .1 (ap readingOf (ff-run a w hl hb [])),
-  (λ v. short-alike (w ∷ v ∷ []) a .1 (ap readingOf (ff-run a w hl hb (v ∷ [])))),
-  (λ v u rest. refused-exactly (w ∷ v ∷ u ∷ rest) a .1 (_, 6, ff-reads a w hl hb v u rest, branch-refused (code a w hl hb) (target a w hl hb v u))),
-)
+byte-ff a w hl hb =
+    let (one, two, more) = byte-ff-reads a w hl hb in (
+      short-alike (w ∷ []) a .1 one,
+      (λ v. short-alike (w ∷ v ∷ []) a .1 (two v)),
+      (λ v u rest. refused-exactly (w ∷ v ∷ u ∷ rest) a .1 (_, 6, more v u rest, branch-refused (w / 256 % 16) _)),
+    )

@@ -1,26 +1,28 @@
 -- A short branch by 0 or -1 is refused at every address (02, N5).
-use Prim.Native.Nat.{ℕ, _+_, _-_, _%_, _^_, _<_, _≤_}
-use mathlib.Core.Path.{_≡_, refl, ap, _∙_}
-use mathlib.Core.List.{[]}
+use Prim.Native.Nat.{ℕ, _+_, _-_, _%_, _^_, _≤_}
+use mathlib.Core.Path.{_≡_, refl, ap, sym, _∙_}
 use native.Mathlib.Omega.{arith}
-use borrow.Author.Tests.{le-leb, lt-leb}
-use lib.Dec.{leb}
-use lib.IntN.{ℤ, pos, negsuc}
+use borrow.Author.Tests.{le-leb}
+use lib.IntN.{pos, negsuc}
 use Rattle.isa.specs.declared.BranchOperation.{BranchOperation}
 use Rattle.isa.specs.declared.BranchOperation.the-variants.{BRA, BSR}
 use Rattle.isa.specs.declared.BranchSize.{BranchSize}
-use Rattle.isa.specs.declared.BranchSize.the-variants.{Short, Word, Long}
+use Rattle.isa.specs.declared.BranchSize.the-variants.{Short}
 use Rattle.isa.specs.declared.Condition.{Condition}
+use Rattle.isa.specs.declared.Condition.the-variants.{True, False}
 use Rattle.isa.specs.declared.Instruction.the-variants.{Bcc, Branch}
 use Rattle.base_spec.specs.Signed.{signed32, difference}
 use Rattle.isa_spec.specs.Code.{conditionCode}
+use Rattle.isa_spec.specs.Condition.{conditionOf}
 use Rattle.isa_spec.specs.Field.{holds, ranges}
-use Rattle.encode_spec.specs.Item.{wordAddress, noEncoding}
+use Rattle.isa_facts.specs.Condition.{of-code}
+use Rattle.encode_spec.specs.Item.{wordAddress}
 use Rattle.encode_spec.specs.Ea.{distance}
 use Rattle.encode_spec.specs.Control.{branchParts, bccParts}
 use Rattle.encode_spec.specs.Instruction.{branchesParts}
-use Rattle.encode_spec.specs.Encode.{encodedAs, encodeOf, sizeOf}
-use Rattle.encode_spec.specs.Cases.{OutOf, TwoBytes, ShortBranches}
+use Rattle.encode_spec.specs.Encode.{encodeOf, sizeOf}
+use Rattle.encode_spec.specs.Cases.{OutOf, TwoBytes, Conditional, Reasoned, ShortBranches}
+use Rattle.encode_facts.specs.Items.{address-address}
 
 by-minus-one : (at : ℕ) → distance ((at + 1) % 2 ^ 32) (wordAddress at 1) ≡ negsuc 0
 by-minus-one at =
@@ -47,25 +49,33 @@ unfolding sizeOf branchParts branchesParts
 size BRA t = refl
 size BSR t = refl
 
--- the part before a Bcc's branch lays down no words
-same-place : (at : ℕ) → wordAddress (wordAddress at 0) 1 ≡ wordAddress at 1
-same-place at = omega arith
+-- the code of a condition that is neither True nor False
+code-least : (c : Condition) → Conditional c → 2 ≤ conditionCode c
+code-least c (t, f) =
+    let p : conditionCode c ≡ 0 → ⊥ = λ e. t (sym (of-code c) ∙ ap conditionOf e) in
+    let q : conditionCode c ≡ 1 → ⊥ = λ e. f (sym (of-code c) ∙ ap conditionOf e) in
+    omega (arith, p, q)
 
-bcc-minus-one : (c : Condition) (at : ℕ) → 2 ≤ conditionCode c → OutOf (Bcc ((at + 1) % 2 ^ 32) c Short) at 1 (negsuc 0)
+-- the check before a Bcc's branch passes and lays down no words
+bcc-minus-one : (c : Condition) (at : ℕ) → Conditional c → OutOf (Bcc ((at + 1) % 2 ^ 32) c Short) at 1 (negsuc 0)
 unfolding encodeOf holds ranges branchParts bccParts
-bcc-minus-one c at h = rw (le-leb 2 (conditionCode c) h, same-place at, by-minus-one at)
+bcc-minus-one c at h = rw (le-leb 2 (conditionCode c) (code-least c h), address-address at 0 1, by-minus-one at)
 
-bcc-zero : (c : Condition) (at : ℕ) → 2 ≤ conditionCode c → OutOf (Bcc ((at + 2) % 2 ^ 32) c Short) at 1 (pos 0)
+bcc-zero : (c : Condition) (at : ℕ) → Conditional c → OutOf (Bcc ((at + 2) % 2 ^ 32) c Short) at 1 (pos 0)
 unfolding encodeOf holds ranges branchParts bccParts
-bcc-zero c at h = rw (le-leb 2 (conditionCode c) h, same-place at, by-zero at)
+bcc-zero c at h = rw (le-leb 2 (conditionCode c) (code-least c h), address-address at 0 1, by-zero at)
 
-bcc-size : (c : Condition) (t : ℕ) → 2 ≤ conditionCode c → TwoBytes (Bcc t c Short)
+bcc-size : (c : Condition) (t : ℕ) → Conditional c → TwoBytes (Bcc t c Short)
 unfolding sizeOf branchParts bccParts
-bcc-size c t h = rw (le-leb 2 (conditionCode c) h)
+bcc-size c t h = rw (le-leb 2 (conditionCode c) (code-least c h))
 
-bcc-reason : (c : Condition) (t at : ℕ) (s : BranchSize) → conditionCode c < 2 → encodeOf (Bcc t c s) at ≡ encodedAs (noEncoding 36) []
-unfolding encodeOf bccParts
-bcc-reason c t at s h = rw (lt-leb 2 (conditionCode c) h)
+bcc-true : (t at : ℕ) (s : BranchSize) → Reasoned (Bcc t True s) at 36
+unfolding encodeOf sizeOf bccParts
+bcc-true t at s = record { encoded = refl; sized = refl }
+
+bcc-false : (t at : ℕ) (s : BranchSize) → Reasoned (Bcc t False s) at 36
+unfolding encodeOf sizeOf bccParts
+bcc-false t at s = record { encoded = refl; sized = refl }
 
 pub short-branches : ShortBranches
 unfolding encodeOf holds ranges branchParts branchesParts
@@ -77,7 +87,8 @@ short-branches =
       bcc-minus-one = bcc-minus-one;
       bcc-zero = bcc-zero;
       bcc-size = bcc-size;
-      bcc-reason = bcc-reason;
+      bcc-true = bcc-true;
+      bcc-false = bcc-false;
       back = refl;
       forward = refl;
     }

@@ -1,7 +1,7 @@
 -- Into a register: ADDA SUBA CMPA; DIVS DIVU MULS MULU of a word; <ea>,Dn of OR, SUB, CMP, AND and ADD.
 use Prim.Native.Nat.{ℕ, _+_, _*_, _<_, _/_}
 use mathlib.Core.Path.{_≡_, refl, ap, _∙_}
-use mathlib.Core.Bool.{true, not, false≢true, _||_, false, cond}
+use mathlib.Core.Bool.{true, not, false≢true, _||_, cond}
 use mathlib.Core.List.{List, _∷_, []}
 use native.Mathlib.Omega.{arith}
 use lib.Dec.{eqb}

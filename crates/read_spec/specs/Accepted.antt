@@ -78,7 +78,7 @@ InstructionInTypes (CAS2 compare1 compare2 update1 update2 pointer1 pointer2 s) 
 InstructionInTypes (BF op o f r) = InTypes o
 InstructionInTypes (DIVL o quotient remainder wide sign) = InTypes o
 
--- what `encode` accepts at an address, and the reader does not leave out
+-- what `encode` accepts at an address, IllegalWord and SIMHALT apart
 abbrev pub Accepted : ℕ → Instruction → Type 0
 Accepted a i = InstructionInTypes i × (refusalOf true i a ≡ fine) × Ordinary i
 

@@ -18,7 +18,7 @@ use mathlib.Core.List.{List}
 unfoldable pub readBackOf : Instruction → ℕ → Reading
 readBackOf i a = readOf (take (encodeOf i a .count) (encodeOf i a .words)) a
 
--- an instruction that is accepted and not left out comes back in plain form, with its size
+-- an ordinary instruction that is accepted comes back in plain form, with its size
 abbrev pub ReadsBack : Instruction → ℕ → Reading → Type 0
 ReadsBack i a r = encodeOf i a .number ≡ 0 → Ordinary i → r ≡ Read (plain i) (sizeOf i .size)
 

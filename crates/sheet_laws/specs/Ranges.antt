@@ -9,17 +9,14 @@ use Rattle.sheet_spec.specs.Made.{Made, made}
 use Rattle.sheet_spec.specs.Sheet.{Sheet, sheetAt, lineCount, lineAt, addressOfLine, resolved, encodedLine}
 use Rattle.sheet_spec.specs.Promises.{InGrammar, MeasuredSheet}
 use Rattle.sheet_facts.specs.Lines.{line-grammar}
-use Rattle.sheet_size_facts.specs.Says.{line-makes}
-use Rattle.sheet_size_facts.specs.Bounds.{line-at, addresses-bounded}
+use Rattle.sheet_size_facts.specs.Bounds.{line-at, instruction-at, makes-there}
 
 pub only-ranges : (s : Sheet) → ((n : ℕ) → InGrammar (lineAt s n)) → MeasuredSheet s → (n : ℕ) → 1 ≤ n → n ≤ lineCount s
     → OnlyOutOfRange (encodedLine (addressOfLine s n) (made (resolved s) (lineAt s n)))
 only-ranges s grammar ok n h g =
     let l = line-at s grammar ok n h g in
-    let i = l .instruction (addressOfLine s) in
-    let e = ap (made (resolved s)) (l .parsed) ∙ line-makes (resolved s) (l .tokens) i (l .line (addressOfLine s) (addresses-bounded s grammar ok)) in
-    subst (λ (m : Made). OnlyOutOfRange (encodedLine (addressOfLine s n) m)) (sym e)
-    (range-law i (addressOfLine s n) (ap (λ (m : Measured). m .number) (l .follows .size (addressOfLine s)) ∙ l .number))
+    subst (λ (m : Made). OnlyOutOfRange (encodedLine (addressOfLine s n) m)) (sym (makes-there s grammar ok n h g))
+    (range-law (instruction-at s grammar ok n h g) (addressOfLine s n) (ap (λ (m : Measured). m .number) (l .follows .size (addressOfLine s)) ∙ l .number))
 
 -- of a text at a start
 pub only-ranges-text : (text : List ℕ) (start : ℕ) → MeasuredSheet (sheetAt start text) → (n : ℕ) → 1 ≤ n → n ≤ lineCount (sheetAt start text)

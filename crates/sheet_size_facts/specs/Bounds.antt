@@ -6,10 +6,13 @@ use native.Mathlib.Omega.{arith}
 use lib.Dec.{leb}
 use lib.ListN.{take}
 use borrow.Author.Tests.{leb-true}
+use Rattle.isa.specs.declared.Instruction.{Instruction}
 use Rattle.encode_spec.specs.Encode.{sizeOf}
 use Rattle.base_facts.specs.Tests.{and-true}
-use Rattle.sheet_spec.specs.Sheet.{total, sizedOf, halfOf, Sheet, lineCount, counts, lineAt, countOfLine, addressOfLine}
+use Rattle.sheet_spec.specs.Sheet.{total, sizedOf, halfOf, Sheet, lineCount, counts, lineAt, countOfLine, addressOfLine, resolved}
+use Rattle.sheet_spec.specs.Made.{Line, makes, made}
 use Rattle.sheet_spec.specs.Promises.{InGrammar, MeasuredSheet}
+use Rattle.sheet_size_facts.specs.Says.{line-makes}
 use Rattle.sheet_size_facts.specs.Image.{addresses-are, total-part, total-some}
 use Rattle.sheet_size_facts.specs.Outcomes.{counts-length, count-half}
 use Rattle.sheet_size_facts.specs.Turned.{Bounded}
@@ -54,3 +57,14 @@ module _ (s : Sheet) where
 
     pub addresses-bounded : Bounded (upTo (lineCount s)) (addressOfLine s)
     addresses-bounded k e = let u = up-to (lineCount s) k e in address-low k (u .0) (u .1)
+
+    module _ (n : ℕ) (h : 1 ≤ n) (g : n ≤ lineCount s) where
+      -- the line's instruction, its labels made addresses
+      abbrev pub instruction-at : Instruction
+      instruction-at = line-at n h g .instruction (addressOfLine s)
+
+      pub line-there : Line (resolved s) (line-at n h g .tokens) instruction-at
+      line-there = line-at n h g .line (addressOfLine s) addresses-bounded
+
+      pub makes-there : made (resolved s) (lineAt s n) ≡ makes instruction-at
+      makes-there = ap (made (resolved s)) (line-at n h g .parsed) ∙ line-makes (resolved s) (line-at n h g .tokens) instruction-at line-there

@@ -13,11 +13,10 @@ use Rattle.sheet_spec.specs.Sheet.{Sheet, sheetAt, lineCount, counts, wordCount
 use Rattle.sheet_spec.specs.Translate.{inOrder, outcomeAt}
 use Rattle.sheet_spec.specs.Promises.{InGrammar, AcceptedSheet}
 use Rattle.sheet_facts.specs.Lines.{line-grammar}
-use Rattle.sheet_size_facts.specs.Says.{line-makes}
 use Rattle.sheet_size_facts.specs.Made.{LineMade}
 use Rattle.sheet_size_facts.specs.Image.{noWords, encoded-is, Counts, words-length}
 use Rattle.sheet_size_facts.specs.Outcomes.{counts-length, places-length, lines-length, accepted}
-use Rattle.sheet_size_facts.specs.Bounds.{upTo, line-at, count-size, addresses-bounded}
+use Rattle.sheet_size_facts.specs.Bounds.{upTo, line-at, count-size, instruction-at, line-there, makes-there}
 use Rattle.m68k_facts.specs.Laws.{size-law, places-law, encode-most}
 
 -- the words that count are as many as they say
@@ -29,15 +28,14 @@ module _ (s : Sheet) (grammar : (n : ℕ) → InGrammar (lineAt s n)) (room : �
     abbrev pub at-line : LineMade (upTo (lineCount s)) (lineAt s n)
     at-line = line-at s grammar (ok .measured) n h g
 
-    -- the line's instruction, its labels made addresses
     abbrev pub i : Instruction
-    i = at-line .instruction (addressOfLine s)
+    i = instruction-at s grammar (ok .measured) n h g
 
     pub line : Line (resolved s) (at-line .tokens) i
-    line = at-line .line (addressOfLine s) (addresses-bounded s grammar (ok .measured))
+    line = line-there s grammar (ok .measured) n h g
 
     pub makes-it : made (resolved s) (lineAt s n) ≡ makes i
-    makes-it = ap (made (resolved s)) (at-line .parsed) ∙ line-makes (resolved s) (at-line .tokens) i line
+    makes-it = makes-there s grammar (ok .measured) n h g
 
     pub encodes : encodeOf i (addressOfLine s n) .number ≡ 0
     encodes = sym (ap (λ (m : Made). encodedLine (addressOfLine s n) m .number) makes-it) ∙ ok .encoded n h g

@@ -14,7 +14,7 @@ use Rattle.sheet_spec.specs.Line.{Parsed, no}
 use Rattle.sheet_spec.specs.Made.{isSome}
 use Rattle.sheet_spec.specs.Sheet.{isSheet, startLine, startOf, sizedOf, sizesOf, halfOf, Sheet, sheetAt, lineCount, counts, wordCount, endOf, addresses, lineAt, countOfLine, resolved, encoded}
 use Rattle.sheet_spec.specs.Translate.{Outcome, inOrder, require, inTurn, sizeOutcome, encodeOutcome, opening, sizing, closing, encoding, sheetOutcome, outcomeAt}
-use Rattle.sheet_spec.specs.Promises.{AcceptedSheet, AcceptedText}
+use Rattle.sheet_spec.specs.Promises.{MeasuredSheet, AcceptedSheet, AcceptedText}
 use Rattle.sheet_facts.specs.Listing.{both-in-order, require-true, in-order-zero}
 use Rattle.sheet_size_facts.specs.Image.{addresses-length, noWords, encoded-length, encoded-is}
 
@@ -64,18 +64,30 @@ sizing-each ps e n h g =
     let z = in-order-zero _ (getD (sizesOf ps) (pred n) (sizedOf (length ps) no) .number) _ _ m in
     sym (ap (λ (x : Measured). x .number) (map-at (sizedOf (length ps)) ps (pred n) no (sizedOf (length ps) no) (omega arith))) ∙ z
 
+pub measured-sheet : (s : Sheet) (room : ℕ) → sizing (s .lines) ≡ inOrder → closing (s .start) (wordCount s) room ≡ inOrder → MeasuredSheet s
+measured-sheet s room e f =
+    let c = both-in-order (require (leb (endOf (s .start) (wordCount s)) (2 ^ 32)) 9) _ f in
+    record { sized = sizing-each (s .lines) e; ends = leb-true (endOf (s .start) (wordCount s)) (2 ^ 32) (require-true _ 9 (c .0)) }
+
 pub accepted-sheet : (s : Sheet) (room : ℕ) → sheetOutcome s room ≡ inOrder → AcceptedSheet s room
 accepted-sheet s room e =
     let a = both-in-order (sizing (s .lines)) _ e in
     let b = both-in-order (closing (s .start) (wordCount s) room) _ (a .1) in
     let c = both-in-order (require (leb (endOf (s .start) (wordCount s)) (2 ^ 32)) 9) _ (b .0) in
     record {
-      measured = record { sized = sizing-each (s .lines) (a .0); ends = leb-true (endOf (s .start) (wordCount s)) (2 ^ 32) (require-true _ 9 (c .0)) };
+      measured = measured-sheet s room (a .0) (b .0);
       image = leb-true (wordCount s) room (require-true _ 11 (c .1));
       encoded = λ n h g. sym (ap (λ (x : Encoded). x .number) (encoded-is (resolved s) (addresses s) (s .lines) (places-length s) (pred n) (omega arith))) ∙ encoding-each s (b .1) n h g;
     }
 
 -- ---- a text
+pub even-start : (text : List ℕ) (start places : ℕ) → opening text start places ≡ inOrder → start % 2 ≡ 0
+even-start text start places e =
+    let a = both-in-order (require (isSheet text) 10) _ e in
+    let b = both-in-order (require (isSome (startOf (startLine text))) 7) _ (a .1) in
+    let c = both-in-order (require (eqb (start % 2) 0) 9) _ (b .1) in
+    eqb-true (start % 2) 0 (require-true _ 9 (c .0))
+
 pub accepted : (text : List ℕ) (start places room : ℕ) → outcomeAt text start places room ≡ inOrder → AcceptedText text start places room
 unfolding outcomeAt
 accepted text start places room e =
@@ -86,7 +98,7 @@ accepted text start places room e =
     record {
       sheet = require-true (isSheet text) 10 (a .0);
       form = start-form (startOf (startLine text)) (require-true _ 7 (b .0));
-      even = eqb-true (start % 2) 0 (require-true _ 9 (c .0));
+      even = even-start text start places (o .0);
       scratch = leb-true (lineCount (sheetAt start text)) places (require-true _ 11 (c .1));
       lines = accepted-sheet (sheetAt start text) room (o .1);
     }

@@ -1,7 +1,7 @@
 -- The instruction that a line makes, whatever its labels are made: the same but for the targets.
 use Prim.Native.Nat.{ℕ, _<_}
 use mathlib.Core.Path.{_≡_, refl, sym, ap, _∙_, subst}
-use mathlib.Core.Bool.{Bool, true, false}
+use mathlib.Core.Bool.{Bool, true}
 use mathlib.Core.List.{List, [], _∷_, _++_, map}
 use mathlib.Core.Option.{some}
 use native.Mathlib.Omega.{arith}
@@ -67,15 +67,15 @@ module _ {d : ℕ → Bool} {i : Instruction} (r : Row d i) where
   Kept = (w : r .Z) → sizeOf (r .con (r .sort .untargeted w)) ≡ sizeOf (r .con w)
 
   -- where their plain forms go, and that they are ordinary
-  abbrev Read : Type 0
-  Read = Ordinary (r .con (r .z)) → (w : r .Z) → (nextOf (plain.plain (r .con w)) ≡ nextOf (r .con w)) × (isOrdinary (r .con w) ≡ true)
+  abbrev Alike : Type 0
+  Alike = Ordinary (r .con (r .z)) → (w : r .Z) → (nextOf (plain.plain (r .con w)) ≡ nextOf (r .con w)) × (isOrdinary (r .con w) ≡ true)
 
   -- where they go
   abbrev Going : Type 0
   Going = Ordinary (r .con (r .z)) → (y : (ℕ → ℕ) → r .Z) → r .sort .Aims y → Goes d (λ f. r .con (y f))
 
-  made : Read → Going → Kept → Made (r .con (r .z))
-  made read goes kept vs h g =
+  made : Alike → Going → Kept → Made (r .con (r .z))
+  made alike goes kept vs h g =
       let l = listed (r .con (r .z)) vs h in
       let law = r .law l in
       let form : (w : r .Z) → entries (r .con w) ≡ unsigned 98 (placeOf (r .con (r .z))) ∷ r .sort .form w = λ w. ap (λ t. t .2) (law w) in
@@ -84,14 +84,14 @@ module _ {d : ℕ → Bool} {i : Instruction} (r : Row d i) where
         form,
         λ y q a. record {
           size = λ f. sym (kept (y f)) ∙ ap (λ w. sizeOf (r .con w)) (q f) ∙ kept (r .z);
-          plain = λ f. read l (y f) .0;
-          ordinary = λ f. ordinary (r .con (y f)) (read l (y f) .1);
+          plain = λ f. alike l (y f) .0;
+          ordinary = λ f. ordinary (r .con (y f)) (alike l (y f) .1);
           goes = goes l y a;
         },
       )) [] vs [] (subst (λ (es : List Entry). Input d (kind.Instruction ∷ []) vs (es ++ [])) (form (r .z)) h) (subst Inside (form (r .z)) g)
 
-  made-row : Read → Going → Kept → Made i
-  made-row read goes kept = subst Made (r .is) (made read goes kept)
+  made-row : Alike → Going → Kept → Made i
+  made-row alike goes kept = subst Made (r .is) (made alike goes kept)
 
   -- without a target
   still : (Ordinary (r .con (r .z)) → (w : r .Z) → _≡_ {A = Next × Bool × Bool} (nextOf (plain.plain (r .con w)), isOrdinary (r .con w), quiet (nextOf (r .con w))) (nextOf (r .con w), true, true)) → Kept → Made i

@@ -1,10 +1,14 @@
 -- What contracts and theorems promise of a sheet.
-use Prim.Native.Nat.{ℕ, pred, _-_, _/_, _%_, _^_, _≤_}
+use Prim.Native.Nat.{ℕ, pred, _+_, _-_, _/_, _%_, _^_, _≤_}
 use mathlib.Core.Path.{_≡_}
 use mathlib.Core.Bool.{Bool, true}
 use mathlib.Core.List.{List, [], _∷_, _++_}
 use mathlib.Core.Option.{some}
 use lib.ListN.{length, take, drop, getD}
+use Rattle.isa.specs.declared.BranchOperation.{BranchOperation}
+use Rattle.isa.specs.declared.BranchSize.the-variants.{Short}
+use Rattle.isa.specs.declared.Condition.{Condition}
+use Rattle.isa.specs.declared.Instruction.the-variants.{Bcc, Branch}
 use Rattle.encode_spec.specs.Encode.{encodeOf}
 use Rattle.base_spec.specs.Written.{decimalOf}
 use Rattle.sheet_spec.specs.declared.Listed.{Listed}
@@ -12,7 +16,7 @@ use Rattle.sheet_spec.specs.Names.{bytes}
 use Rattle.sheet_spec.specs.declared.Kind.the-variants as kind
 use Rattle.sheet_spec.specs.Line.{Parsed, says, no}
 use Rattle.sheet_spec.specs.Spell.{SuitAll, spell}
-use Rattle.sheet_spec.specs.Made.{made}
+use Rattle.sheet_spec.specs.Made.{makes, made}
 use Rattle.sheet_spec.specs.Sheet.{isSheet, startLine, instructionLines, startOf, sizedOf, Sheet, sheetAt, startIn, sheetIn, lineCount, wordCount, endOf, lineAt, countOfLine, addressOfLine, resolved, encodedLine, encodedWords, image}
 use Rattle.sheet_spec.specs.Translate.{inOrder, outcomeAt, listedOf, imageOf, scratchOf}
 use Rattle.sheet_spec.specs.Follow.{Reads, Together, byLines, byWords}
@@ -43,6 +47,12 @@ pub record AcceptedText (text : List ℕ) (start places room : ℕ) : Type 0 whe
   pub even : start % 2 ≡ 0
   pub scratch : lineCount (sheetAt start text) ≤ places
   pub lines : AcceptedSheet (sheetAt start text) room
+
+-- line n is no short branch by -1, to its own address plus 1 (02, N5)
+abbrev pub NoMinusOne : Sheet → ℕ → Type 0
+NoMinusOne s n =
+    ((op : BranchOperation) → made (resolved s) (lineAt s n) ≡ makes (Branch op ((addressOfLine s n + 1) % 2 ^ 32) Short) → ⊥)
+    × ((c : Condition) → made (resolved s) (lineAt s n) ≡ makes (Bcc ((addressOfLine s n + 1) % 2 ^ 32) c Short) → ⊥)
 
 -- from a text, an image v and a scratch s: the answer r, the image v′ and the scratch s′
 pub record Translated (text v s v′ s′ : List ℕ) (r : Listed) : Type 0 where

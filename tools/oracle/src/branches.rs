@@ -19,8 +19,8 @@ const TRIED: [(BranchSize, i32); 10] = [
     (BranchSize::Long, 0),
 ];
 
-/// Addresses of a branch that is not a short one of -1, and the places between
-/// them.
+/// Addresses of a branch that is not a short one of -1 or 0, and the places
+/// between them.
 const FEW: usize = 3;
 const APART: usize = 5;
 
@@ -64,9 +64,9 @@ impl Branch {
         }
     }
 
-    /// Whether it is short and of -1.
-    fn is_minus_one(&self) -> bool {
-        self.size == BranchSize::Short && self.displacement == -1
+    /// Whether it is short and of -1 or 0.
+    pub fn is_excluded(&self) -> bool {
+        self.size == BranchSize::Short && (-1..=0).contains(&self.displacement)
     }
 }
 
@@ -86,11 +86,11 @@ pub fn all() -> Vec<Branch> {
     found
 }
 
-/// The short ones of -1 at every address, the others at a few in turn.
+/// The short ones of -1 and 0 at every address, the others at a few in turn.
 pub fn lines() -> Vec<String> {
     let branches = all().into_iter().enumerate();
     let lines = branches.flat_map(|(turn, branch)| {
-        let places = match branch.is_minus_one() {
+        let places = match branch.is_excluded() {
             true => (0..ADDRESSES.len()).collect(),
             false => (0..FEW).map(|k| turn + APART * k).collect::<Vec<usize>>(),
         };

@@ -42,3 +42,22 @@ impl fmt::Display for Requests {
         )
     }
 }
+
+#[cfg(test)]
+mod tests {
+    use super::*;
+    use crate::answer::{answer_line, rust_answer_line};
+    use crate::{branches, generate};
+
+    const LINES: usize = 30_000;
+
+    #[test]
+    fn the_answers_differ_on_these_lines_alone() {
+        let lines = branches::lines().into_iter();
+        for line in lines.chain(generate::lines(1).take(LINES)) {
+            let line = line.as_bytes();
+            let of_none = Requests::of_line(line) == Requests::default();
+            assert_eq!(answer_line(line) == rust_answer_line(line), of_none);
+        }
+    }
+}

@@ -45,7 +45,11 @@ fn displacement(instruction: &Instruction, address: u32) -> Option<i32> {
 mod tests {
     use super::*;
     use crate::instructions::{BranchSize, Condition};
+    use crate::numeric::{placed, Placed};
+    use crate::{branches, generate};
     use Instruction::{Bcc, DBcc, BRA, BSR};
+
+    const LINES: usize = 30_000;
 
     #[test]
     fn short_branches_of_minus_one_are_turned_back() {
@@ -58,6 +62,24 @@ mod tests {
             ] {
                 assert!(turns_back(&branch, address));
                 assert_eq!(encode(&branch, address), Err(REFUSED));
+            }
+        }
+    }
+
+    /// The class is where the Rust writes a branch as one word with byte $FF.
+    #[test]
+    fn the_rust_writes_the_byte_ff() {
+        let lines = branches::lines().into_iter();
+        for line in lines.chain(generate::lines(1).take(LINES)) {
+            let Placed {
+                instruction,
+                address,
+                ..
+            } = placed(line.as_bytes()).expect("in the form");
+            if let BRA(..) | BSR(..) | Bcc(..) = instruction {
+                let written = rust::encode(&instruction, address);
+                let marks = written.is_ok_and(|words| words.len() == 1 && words[0] & 0xFF == 0xFF);
+                assert_eq!(turns_back(&instruction, address), marks, "{line}");
             }
         }
     }

@@ -10,6 +10,7 @@ use crate::answer::{encoded_bytes, Refusal, NOT_IN_FORM};
 use crate::immediates::{immediates, ENDS};
 use crate::numeric::placed;
 use crate::random::Random;
+use crate::values::ADDRESSES;
 use crate::{branches, generate, malformed};
 
 /// How many generated lines are looked through.
@@ -110,15 +111,20 @@ fn ends(seed: u64) -> Vec<String> {
     lines
 }
 
-/// Every branch around -1 with bytes one short, just enough and one more.
+/// Every branch around -1 at one address with no bytes, one short, just enough and
+/// one more; the short ones of -1 and 0 with the most at every address.
 fn around_minus_one() -> Vec<String> {
-    let branches = branches::all().into_iter().enumerate();
-    let lines = branches.flat_map(|(turn, branch)| {
+    let mut lines = Vec::new();
+    for (turn, branch) in branches::all().into_iter().enumerate() {
         let line = branch.line(branches::address(turn));
-        let lengths = branch.bytes() - 1..=branch.bytes() + 1;
-        lengths.map(move |length| format!("{length}\t{line}"))
-    });
-    lines.collect()
+        let enough = branch.bytes();
+        let lengths = [0, enough - 1, enough, enough + 1];
+        lines.extend(lengths.map(|length| format!("{length}\t{line}")));
+        if branch.is_excluded() {
+            lines.extend(ADDRESSES.map(|address| format!("{MOST}\t{}", branch.line(address))));
+        }
+    }
+    lines
 }
 
 /// `EACH` of the lines, far apart: of one instruction few, unless no others

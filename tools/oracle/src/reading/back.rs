@@ -5,7 +5,7 @@ use std::io;
 
 use super::answer::Text;
 use super::judge::Reading;
-use super::plain::plain;
+use super::plain::{left_out, plain};
 use super::run::Run;
 use super::tails::mixed;
 use crate::answer::answer;
@@ -57,13 +57,6 @@ pub fn due(line: &str, random: &mut Random) -> Option<Due> {
         bytes: bytes as usize,
         requests: Requests::of(&placed),
     })
-}
-
-fn left_out(instruction: &Instruction) -> bool {
-    matches!(
-        instruction,
-        Instruction::IllegalWord(_) | Instruction::SIMHALT
-    )
 }
 
 /// Compares the accepted ones of the branches around -1 and of `count` generated

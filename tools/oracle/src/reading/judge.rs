@@ -4,7 +4,7 @@
 //! writes a candidate's plain form as exactly a beginning of it. N2 plays no part
 //! here: a plain form has none of its numbers.
 
-use super::plain::{is_canonical, plain};
+use super::plain::{is_canonical, left_out, plain};
 use super::tails::COMPLETIONS;
 use crate::instructions::Instruction;
 use crate::machine::decode::decode_words;
@@ -87,11 +87,4 @@ pub fn with_written_register(instruction: Instruction, run: &[u16]) -> Instructi
         },
         other => other,
     }
-}
-
-fn left_out(instruction: &Instruction) -> bool {
-    matches!(
-        instruction,
-        Instruction::IllegalWord(_) | Instruction::SIMHALT
-    )
 }

@@ -1,4 +1,4 @@
-//! Plain form, and which instructions refusal 1 turns back.
+//! Plain form, what the reader leaves out, and what refusal 1 turns back.
 
 use crate::instructions::*;
 use crate::operands::{with_immediates, with_operands};
@@ -76,6 +76,14 @@ fn unscaled(base: IndexBase, index: IndexRegister, displacement: i32) -> Operand
             index,
         },
     }
+}
+
+/// Whether no run of words reads as `instruction`.
+pub fn left_out(instruction: &Instruction) -> bool {
+    matches!(
+        instruction,
+        Instruction::IllegalWord(_) | Instruction::SIMHALT
+    )
 }
 
 /// Whether every full extension word is canonical.

@@ -238,15 +238,20 @@ pub fn placed_words() -> Vec<Run> {
     words.iter().copied().flat_map(at_every_address).collect()
 }
 
-/// First words with byte $FF alone, with one word and with two and more, and with
-/// the bytes beside $FF and $00, for BRA, BSR and every condition.
+/// First words with byte $FF alone, with one word and with two and more, with byte
+/// $00 alone and with a word, and with the bytes beside these, for BRA, BSR and
+/// every condition.
 pub fn branches() -> Vec<Run> {
-    let bytes: [(u16, &[u16]); 7] = [
+    let bytes: [(u16, &[u16]); 11] = [
         (0xFF, &[]),
         (0xFF, &[0xFFFF]),
         (0xFF, &[0x0000, 0x0000]),
         (0xFF, &[0xFFFF, 0xFFFF]),
         (0xFF, &[0x7FFF, 0xFFFF, 0x4E71]),
+        (0xFF, &[0x0000]),
+        (0x00, &[]),
+        (0x00, &[0x0000]),
+        (0x00, &[0xFFFF]),
         (0xFE, &[]),
         (0x01, &[]),
     ];
