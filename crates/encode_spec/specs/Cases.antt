@@ -122,9 +122,9 @@ pub record Negatives : Type 0 where
 abbrev pub TwoBytes : Instruction → Type 0
 TwoBytes i = sizeOf i ≡ record { size = 2; number = 0; detail = 0; value = pos 0 }
 
--- N5: any condition but these two, which are BRA and BSR
-abbrev pub Conditional : Condition → Type 0
-Conditional c = (c ≡ True → ⊥) × (c ≡ False → ⊥)
+-- N5: the conditions of Bcc: all but True and False, which are BRA and BSR
+abbrev pub OfBcc : Condition → Type 0
+OfBcc c = (c ≡ True → ⊥) × (c ≡ False → ⊥)
 
 -- N5: refused by number 3 with this reason, by `size` too
 pub record Reasoned (i : Instruction) (at reason : ℕ) : Type 0 where
@@ -137,9 +137,9 @@ pub record ShortBranches : Type 0 where
   pub minus-one : (op : BranchOperation) (at : ℕ) → OutOf (Branch op ((at + 1) % 2 ^ 32) branch.Short) at 1 (negsuc 0)
   pub zero : (op : BranchOperation) (at : ℕ) → OutOf (Branch op ((at + 2) % 2 ^ 32) branch.Short) at 1 (pos 0)
   pub size : (op : BranchOperation) (t : ℕ) → TwoBytes (Branch op t branch.Short)
-  pub bcc-minus-one : (c : Condition) (at : ℕ) → Conditional c → OutOf (Bcc ((at + 1) % 2 ^ 32) c branch.Short) at 1 (negsuc 0)
-  pub bcc-zero : (c : Condition) (at : ℕ) → Conditional c → OutOf (Bcc ((at + 2) % 2 ^ 32) c branch.Short) at 1 (pos 0)
-  pub bcc-size : (c : Condition) (t : ℕ) → Conditional c → TwoBytes (Bcc t c branch.Short)
+  pub bcc-minus-one : (c : Condition) (at : ℕ) → OfBcc c → OutOf (Bcc ((at + 1) % 2 ^ 32) c branch.Short) at 1 (negsuc 0)
+  pub bcc-zero : (c : Condition) (at : ℕ) → OfBcc c → OutOf (Bcc ((at + 2) % 2 ^ 32) c branch.Short) at 1 (pos 0)
+  pub bcc-size : (c : Condition) (t : ℕ) → OfBcc c → TwoBytes (Bcc t c branch.Short)
   pub bcc-true : (t at : ℕ) (s : BranchSize) → Reasoned (Bcc t True s) at 36
   pub bcc-false : (t at : ℕ) (s : BranchSize) → Reasoned (Bcc t False s) at 36
   pub back : Has (braShort 0x1000) 0x1000 (0x60FE ∷ [])

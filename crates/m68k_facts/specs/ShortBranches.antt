@@ -21,7 +21,7 @@ use Rattle.encode_spec.specs.Ea.{distance}
 use Rattle.encode_spec.specs.Control.{branchParts, bccParts}
 use Rattle.encode_spec.specs.Instruction.{branchesParts}
 use Rattle.encode_spec.specs.Encode.{encodeOf, sizeOf}
-use Rattle.encode_spec.specs.Cases.{OutOf, TwoBytes, Conditional, Reasoned, ShortBranches}
+use Rattle.encode_spec.specs.Cases.{OutOf, TwoBytes, OfBcc, Reasoned, ShortBranches}
 use Rattle.encode_facts.specs.Items.{address-address}
 
 by-minus-one : (at : ℕ) → distance ((at + 1) % 2 ^ 32) (wordAddress at 1) ≡ negsuc 0
@@ -50,22 +50,22 @@ size BRA t = refl
 size BSR t = refl
 
 -- the code of a condition that is neither True nor False
-code-least : (c : Condition) → Conditional c → 2 ≤ conditionCode c
+code-least : (c : Condition) → OfBcc c → 2 ≤ conditionCode c
 code-least c (t, f) =
     let p : conditionCode c ≡ 0 → ⊥ = λ e. t (sym (of-code c) ∙ ap conditionOf e) in
     let q : conditionCode c ≡ 1 → ⊥ = λ e. f (sym (of-code c) ∙ ap conditionOf e) in
     omega (arith, p, q)
 
 -- the check before a Bcc's branch passes and lays down no words
-bcc-minus-one : (c : Condition) (at : ℕ) → Conditional c → OutOf (Bcc ((at + 1) % 2 ^ 32) c Short) at 1 (negsuc 0)
+bcc-minus-one : (c : Condition) (at : ℕ) → OfBcc c → OutOf (Bcc ((at + 1) % 2 ^ 32) c Short) at 1 (negsuc 0)
 unfolding encodeOf holds ranges branchParts bccParts
 bcc-minus-one c at h = rw (le-leb 2 (conditionCode c) (code-least c h), address-address at 0 1, by-minus-one at)
 
-bcc-zero : (c : Condition) (at : ℕ) → Conditional c → OutOf (Bcc ((at + 2) % 2 ^ 32) c Short) at 1 (pos 0)
+bcc-zero : (c : Condition) (at : ℕ) → OfBcc c → OutOf (Bcc ((at + 2) % 2 ^ 32) c Short) at 1 (pos 0)
 unfolding encodeOf holds ranges branchParts bccParts
 bcc-zero c at h = rw (le-leb 2 (conditionCode c) (code-least c h), address-address at 0 1, by-zero at)
 
-bcc-size : (c : Condition) (t : ℕ) → Conditional c → TwoBytes (Bcc t c Short)
+bcc-size : (c : Condition) (t : ℕ) → OfBcc c → TwoBytes (Bcc t c Short)
 unfolding sizeOf branchParts bccParts
 bcc-size c t h = rw (le-leb 2 (conditionCode c) (code-least c h))
 

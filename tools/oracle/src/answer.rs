@@ -122,9 +122,9 @@ fn line_by(answer: fn(&Placed) -> Answer, line: &[u8]) -> String {
     }
 }
 
-/// Whether `line` is in the form and `encode` accepts it. Lines are made by this;
-/// N5 is left out, so that a seed still gives the lines that it gave before.
-pub fn accepts(line: &str) -> bool {
+/// Whether `line` is in the form and `encode` accepts it but for N5. Lines are made
+/// by this, so that a seed gives the lines that it gave before N5.
+pub fn accepts_without_n5(line: &str) -> bool {
     placed(line.as_bytes()).is_some_and(|placed| answer_without_n5(&placed).words.is_ok())
 }
 

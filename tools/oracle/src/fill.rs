@@ -1,6 +1,6 @@
 //! Drafts filled with plain numbers.
 
-use crate::answer::accepts;
+use crate::answer::accepts_without_n5;
 use crate::draft::{Draft, Kind, Leaf, Leaves};
 use crate::random::Random;
 use crate::schema::{instructions, is_operand, Type};
@@ -82,7 +82,7 @@ pub fn variant_leaves(
 pub fn accepted(tries: u32, mut make: impl FnMut() -> Draft) -> Draft {
     let mut draft = make();
     for _ in 1..tries {
-        if accepts(&draft.line()) {
+        if accepts_without_n5(&draft.line()) {
             break;
         }
         draft = make();

@@ -1,7 +1,7 @@
 //! Accepted drafts with an Immediate operand or an immediate instruction's
 //! number, one for each place that takes one and each size.
 
-use crate::answer::accepts;
+use crate::answer::accepts_without_n5;
 use crate::draft::Draft;
 use crate::fill::{accepted, draft};
 use crate::kinds::{DATA, IMMEDIATE, KINDS};
@@ -89,5 +89,5 @@ fn immediate(
         made.leaf(at).value = 1;
         made
     });
-    accepts(&made.line()).then_some(Immediate { draft: made, at })
+    accepts_without_n5(&made.line()).then_some(Immediate { draft: made, at })
 }

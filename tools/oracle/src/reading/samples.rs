@@ -29,7 +29,7 @@ const CUT: usize = 5;
 /// Words after the first in which a bit is changed.
 const CHANGED_WORDS: usize = 2;
 
-/// Near 0 and near 2^32, even and odd.
+/// Near 0, in the middle and near 2^32, even and odd.
 const BRANCH_ADDRESSES: [u32; 5] = [0, 1, 0x1000, 0xFFFF_FFFE, 0xFFFF_FFFF];
 
 /// The words of the worked encodings.

@@ -4,7 +4,7 @@ use super::line::{Line, WITHOUT_A_LINE};
 use super::made::{words, Sheet};
 use super::record::{Record, MOST_ROOM, PLACES, ROOM};
 use super::spoil::{spoiled_sheet, spoiled_text};
-use crate::answer::accepts;
+use crate::answer::accepts_without_n5;
 use crate::draft::Draft;
 use crate::fill::{accepted, draft};
 use crate::random::Random;
@@ -80,7 +80,7 @@ fn common(random: &mut Random) -> Sheet {
     while sheet.lines.len() < count && sheet.left() > 0 {
         let place = random.pick(&places);
         let draft = accepted(TRIES, || draft(place, sheet.next(), random));
-        match accepts(&draft.line()) && words(&draft) <= sheet.left() {
+        match accepts_without_n5(&draft.line()) && words(&draft) <= sheet.left() {
             true => sheet.push(draft),
             false => sheet.push(draft_of("NOP")),
         }

@@ -3,7 +3,7 @@
 use std::collections::BTreeMap;
 
 use super::line::{naming, Naming};
-use crate::answer::{accepts, answer};
+use crate::answer::{accepts_without_n5, answer};
 use crate::draft::{Draft, Kind, Leaf};
 use crate::numeric::placed;
 use crate::random::Random;
@@ -100,7 +100,7 @@ impl Sheet {
     /// those that are not accepted as they are.
     pub fn name_targets(&mut self, random: &mut Random) {
         for line in 0..self.lines.len() {
-            let accepted = accepts(&self.lines[line].draft.line());
+            let accepted = accepts_without_n5(&self.lines[line].draft.line());
             for (at, naming) in self.lines[line].targets() {
                 if naming == Naming::Only || random.chance(60) || !accepted {
                     let target = self.reachable(line, at, random);
@@ -129,7 +129,7 @@ impl Sheet {
             let target = target.clamp(0, last) as usize;
             let mut draft = self.lines[line].draft.clone();
             draft.leaf(at).value = self.lines[target].draft.address as i128;
-            if accepts(&draft.line()) {
+            if accepts_without_n5(&draft.line()) {
                 return target;
             }
         }

@@ -3,7 +3,7 @@
 
 use super::super::made::Sheet;
 use super::super::record::Record;
-use crate::answer::accepts;
+use crate::answer::accepts_without_n5;
 use crate::draft::Draft;
 use crate::immediates::{immediates, ENDS};
 use crate::random::Random;
@@ -16,7 +16,7 @@ pub fn all(random: &mut Random) -> Vec<Record> {
         .flat_map(|immediate| {
             let drafts = ENDS.map(|number| immediate.with(number)).into_iter();
             let (mut held, refused): (Vec<Draft>, Vec<Draft>) =
-                drafts.partition(|draft| accepts(&draft.line()));
+                drafts.partition(|draft| accepts_without_n5(&draft.line()));
             held.push(immediate.with(1));
             let refused = refused.into_iter();
             let between = refused.map(|draft| [immediate.with(1), draft, immediate.with(1)]);

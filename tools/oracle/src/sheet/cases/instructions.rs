@@ -4,7 +4,7 @@
 use super::super::generate::places;
 use super::super::made::Sheet;
 use super::super::record::Record;
-use crate::answer::accepts;
+use crate::answer::accepts_without_n5;
 use crate::draft::{Draft, Leaves};
 use crate::fill::{accepted, draft, variant_leaves};
 use crate::kinds::KINDS;
@@ -29,7 +29,7 @@ fn accepted_sheet(place: usize, random: &mut Random) -> Record {
     sheet.push(made);
     for wish in wishes(place) {
         let made = accepted(TRIES, || wished(place, wish, sheet.next(), random));
-        if accepts(&made.line()) {
+        if accepts_without_n5(&made.line()) {
             sheet.push(made);
         }
     }
