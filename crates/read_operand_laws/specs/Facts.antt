@@ -17,7 +17,7 @@ use Rattle.read_spec.specs.Accepted.{Fits32}
 use Rattle.read_spec.specs.Plain.{plainNumber}
 use Rattle.isa_facts.specs.Field.{pair-alone, upwards}
 use Rattle.encode_facts.specs.Immediates.{immediate-holds, immediate-held, own-remainder}
-use Rattle.base_facts.specs.Tests.{Lt, lt?, less, past, and-true, and-yes, or-no, leb-is, ltb-is, ltb-not, ltb-true}
+use Rattle.base_facts.specs.Tests.{Lt, lt?, less, past, and-yes, or-no, ltb-is, ltb-not, ltb-true}
 
 -- ---- signed numbers: z lies from -h to h - 1
 abbrev pub fits : ℕ → ℤ → Bool

@@ -1,16 +1,15 @@
 -- Sheets have even targets, so no line is a short branch by -1 and N5 changes no listing (02, N5). Said before the last place of 01's table, whatever
 -- `encode` then says of a line.
 use Prim.Native.Nat.{ℕ, _+_, _%_, _^_, _≤_}
-use mathlib.Core.Path.{_≡_, refl, sym, ap, _∙_, subst}
+use mathlib.Core.Path.{_≡_, refl, sym, ap, _∙_}
 use mathlib.Core.Bool.{true}
 use mathlib.Core.List.{List}
 use native.Mathlib.Omega.{arith}
 use Rattle.isa.specs.declared.BranchOperation.{BranchOperation}
 use Rattle.isa.specs.declared.BranchOperation.the-variants.{BRA, BSR}
 use Rattle.isa.specs.declared.BranchSize.the-variants.{Short}
-use Rattle.isa.specs.declared.Condition.{Condition}
 use Rattle.isa.specs.declared.Instruction.{Instruction}
-use Rattle.isa.specs.declared.Instruction.the-variants.{Bcc, Branch}
+use Rattle.isa.specs.declared.Instruction.the-variants.{Branch}
 use Rattle.base_facts.specs.Tests.{true-not-false}
 use Rattle.sheet_spec.specs.Made.{Made, makes, made}
 use Rattle.sheet_spec.specs.Sheet.{Sheet, sheetAt, lineCount, wordCount, lineAt, addressOfLine, resolved}
@@ -20,7 +19,7 @@ use Rattle.sheet_spec.specs.Promises.{InGrammar, MeasuredSheet, NoMinusOne}
 use Rattle.sheet_facts.specs.Lines.{line-grammar}
 use Rattle.sheet_size_facts.specs.Lawful.{quiet, Goes, quietly, aimed}
 use Rattle.sheet_size_facts.specs.Outcomes.{measured-sheet, even-start}
-use Rattle.sheet_size_facts.specs.Bounds.{upTo, up-to, address-is, address-low, line-at, instruction-at, makes-there}
+use Rattle.sheet_size_facts.specs.Bounds.{upTo, up-to, address-is, line-at, instruction-at, makes-there}
 
 quiet-target : (x : Next) → quiet x ≡ true → target x ≡ 0
 quiet-target on h = refl
