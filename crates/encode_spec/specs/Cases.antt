@@ -35,12 +35,15 @@ use Rattle.isa.specs.declared.AddressWidth.the-variants as width
 use Rattle.isa.specs.declared.BranchSize.the-variants as branch
 use Rattle.isa.specs.declared.FieldValue.the-variants as value
 
--- an instruction at an address has these words, or is refused by number 2 with this field and value
+-- an instruction at an address has these words, or is refused by this number, detail and value, or by number 2 with this field and value
 abbrev pub Has : Instruction → ℕ → List ℕ → Type 0
 Has i a ws = encodeOf i a ≡ encodedAs fine ws
 
+abbrev pub Refused : Instruction → ℕ → ℕ → ℕ → ℤ → Type 0
+Refused i a number detail z = encodeOf i a ≡ record { words = replicate 11 0; count = 0; number = number; detail = detail; value = z }
+
 abbrev pub OutOf : Instruction → ℕ → ℕ → ℤ → Type 0
-OutOf i a number z = encodeOf i a ≡ record { words = replicate 11 0; count = 0; number = 2; detail = number; value = z }
+OutOf i a field z = Refused i a 2 field z
 
 abbrev pub lea : Operand → ℕ → Instruction
 lea o n = UnsizedIntoRegister LEA o (Address n)
@@ -118,29 +121,24 @@ pub record Negatives : Type 0 where
   pub static-bit : (at : ℕ) → OutOf (staticBit 4294967295) at 12 (pos 4294967295)
   pub count : (at : ℕ) → OutOf (shiftBy 4294967295) at 10 (pos 4294967295)
 
--- N5: `size` gives 2
-abbrev pub TwoBytes : Instruction → Type 0
-TwoBytes i = sizeOf i ≡ record { size = 2; number = 0; detail = 0; value = pos 0 }
+-- N5: what `size` gives: a size, or 0 and a refusal
+abbrev pub Sized : Instruction → ℕ → ℕ → ℕ → Type 0
+Sized i n number detail = sizeOf i ≡ record { size = n; number = number; detail = detail; value = pos 0 }
 
 -- N5: the conditions of Bcc: all but True and False, which are BRA and BSR
 abbrev pub OfBcc : Condition → Type 0
 OfBcc c = (c ≡ True → ⊥) × (c ≡ False → ⊥)
 
--- N5: refused by number 3 with this reason, by `size` too
-pub record Reasoned (i : Instruction) (at reason : ℕ) : Type 0 where
-  pub encoded : encodeOf i at ≡ record { words = replicate 11 0; count = 0; number = 3; detail = reason; value = pos 0 }
-  pub sized : sizeOf i ≡ record { size = 0; number = 3; detail = reason; value = pos 0 }
-
 -- N5: at every address a short branch to its own address plus 1 is refused by its distance of -1, as one to the next word is by 0, and keeps its size;
--- Bcc on True or False has its reason first; the distances beside these are held
+-- Bcc on True or False has its reason first; BRA of -2 and of 1 is written
 pub record ShortBranches : Type 0 where
   pub minus-one : (op : BranchOperation) (at : ℕ) → OutOf (Branch op ((at + 1) % 2 ^ 32) branch.Short) at 1 (negsuc 0)
   pub zero : (op : BranchOperation) (at : ℕ) → OutOf (Branch op ((at + 2) % 2 ^ 32) branch.Short) at 1 (pos 0)
-  pub size : (op : BranchOperation) (t : ℕ) → TwoBytes (Branch op t branch.Short)
+  pub size : (op : BranchOperation) (t : ℕ) → Sized (Branch op t branch.Short) 2 0 0
   pub bcc-minus-one : (c : Condition) (at : ℕ) → OfBcc c → OutOf (Bcc ((at + 1) % 2 ^ 32) c branch.Short) at 1 (negsuc 0)
   pub bcc-zero : (c : Condition) (at : ℕ) → OfBcc c → OutOf (Bcc ((at + 2) % 2 ^ 32) c branch.Short) at 1 (pos 0)
-  pub bcc-size : (c : Condition) (t : ℕ) → OfBcc c → TwoBytes (Bcc t c branch.Short)
-  pub bcc-true : (t at : ℕ) (s : BranchSize) → Reasoned (Bcc t True s) at 36
-  pub bcc-false : (t at : ℕ) (s : BranchSize) → Reasoned (Bcc t False s) at 36
-  pub back : Has (braShort 0x1000) 0x1000 (0x60FE ∷ [])
-  pub forward : Has (braShort 0x1003) 0x1000 (0x6001 ∷ [])
+  pub bcc-size : (c : Condition) (t : ℕ) → OfBcc c → Sized (Bcc t c branch.Short) 2 0 0
+  pub bcc-true : (t at : ℕ) (s : BranchSize) → Refused (Bcc t True s) at 3 36 (pos 0) × Sized (Bcc t True s) 0 3 36
+  pub bcc-false : (t at : ℕ) (s : BranchSize) → Refused (Bcc t False s) at 3 36 (pos 0) × Sized (Bcc t False s) 0 3 36
+  pub minus-two : (at : ℕ) → Has (braShort (at % 2 ^ 32)) at (0x60FE ∷ [])
+  pub one : (at : ℕ) → Has (braShort ((at + 3) % 2 ^ 32)) at (0x6001 ∷ [])

@@ -127,7 +127,7 @@ abbrev pub isMinusOne : ℤ → Bool
 isMinusOne (pos n) = false
 isMinusOne (negsuc n) = eqb n 0
 
--- ShortBranch excludes 0, which marks a word branch, and -1, which marks a long one (02, N5); no other field excludes a value
+-- ShortBranch excludes 0, whose byte calls for a word branch, and -1, whose byte calls for a long one (02, N5); no other field excludes a value
 abbrev pub excludes : Field → ℤ → Bool
 excludes f z = eqb (fieldNumber f) (fieldNumber field.ShortBranch) && (isZero z || isMinusOne z)
 

@@ -133,8 +133,8 @@ fn also_holds(field: Field, value: i64) -> bool
     }
 }
 
-// Whether the field excludes the value: in the byte of a short branch 0 marks a word branch, -1 a
-// long one.
+// Whether the field excludes the value: in the byte of a short branch 0 calls for a word branch,
+// -1 for a long one.
 fn excludes(field: Field, value: i64) -> bool
     ensures { λ r. ⌜ r ≡ excludes field value ⌝ }
 {

@@ -25,7 +25,7 @@ use Rattle.read_spec.specs.declared.Reading.the-variants.{Read, Short}
 use Rattle.read_spec.specs.Plain.{plain, plainOperand, plainIndex}
 use Rattle.read_spec.specs.Decoded.{branchTo}
 use Rattle.read_spec.specs.Accepted.{Accepted}
-use Rattle.read_laws.specs.LongMark.{byte-ff-reads}
+use Rattle.read_laws.specs.ByteFF.{byte-ff-reads}
 use Rattle.m68000_spec.specs.declared.Reading68000.the-variants.{First, NotOf68000}
 use Rattle.m68000_spec.specs.Of68000.{operandOf68000, operandsOf, allOf68000, instructionOf68000, of68000}
 use Rattle.m68000_spec.specs.Read68000.{read68000Of}

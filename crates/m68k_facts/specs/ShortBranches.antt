@@ -1,6 +1,7 @@
--- A short branch by 0 or -1 is refused at every address (02, N5).
+-- A short branch of 0 or -1 is refused at every address (02, N5).
 use Prim.Native.Nat.{ℕ, _+_, _-_, _%_, _^_, _≤_}
 use mathlib.Core.Path.{_≡_, refl, ap, sym, _∙_}
+use mathlib.Core.List.{[], _∷_}
 use native.Mathlib.Omega.{arith}
 use borrow.Author.Tests.{le-leb}
 use lib.IntN.{pos, negsuc}
@@ -21,7 +22,7 @@ use Rattle.encode_spec.specs.Ea.{distance}
 use Rattle.encode_spec.specs.Control.{branchParts, bccParts}
 use Rattle.encode_spec.specs.Instruction.{branchesParts}
 use Rattle.encode_spec.specs.Encode.{encodeOf, sizeOf}
-use Rattle.encode_spec.specs.Cases.{OutOf, TwoBytes, OfBcc, Reasoned, ShortBranches}
+use Rattle.encode_spec.specs.Cases.{Has, Refused, OutOf, braShort, Sized, OfBcc, ShortBranches}
 use Rattle.encode_facts.specs.Items.{address-address}
 
 by-minus-one : (at : ℕ) → distance ((at + 1) % 2 ^ 32) (wordAddress at 1) ≡ negsuc 0
@@ -44,7 +45,7 @@ unfolding encodeOf holds ranges branchParts branchesParts
 zero BRA at = rw (by-zero at)
 zero BSR at = rw (by-zero at)
 
-size : (op : BranchOperation) (t : ℕ) → TwoBytes (Branch op t Short)
+size : (op : BranchOperation) (t : ℕ) → Sized (Branch op t Short) 2 0 0
 unfolding sizeOf branchParts branchesParts
 size BRA t = refl
 size BSR t = refl
@@ -65,20 +66,32 @@ bcc-zero : (c : Condition) (at : ℕ) → OfBcc c → OutOf (Bcc ((at + 2) % 2 ^
 unfolding encodeOf holds ranges branchParts bccParts
 bcc-zero c at h = rw (le-leb 2 (conditionCode c) (code-least c h), address-address at 0 1, by-zero at)
 
-bcc-size : (c : Condition) (t : ℕ) → OfBcc c → TwoBytes (Bcc t c Short)
+bcc-size : (c : Condition) (t : ℕ) → OfBcc c → Sized (Bcc t c Short) 2 0 0
 unfolding sizeOf branchParts bccParts
 bcc-size c t h = rw (le-leb 2 (conditionCode c) (code-least c h))
 
-bcc-true : (t at : ℕ) (s : BranchSize) → Reasoned (Bcc t True s) at 36
+bcc-true : (t at : ℕ) (s : BranchSize) → Refused (Bcc t True s) at 3 36 (pos 0) × Sized (Bcc t True s) 0 3 36
 unfolding encodeOf sizeOf bccParts
-bcc-true t at s = record { encoded = refl; sized = refl }
+bcc-true t at s = (refl, refl)
 
-bcc-false : (t at : ℕ) (s : BranchSize) → Reasoned (Bcc t False s) at 36
+bcc-false : (t at : ℕ) (s : BranchSize) → Refused (Bcc t False s) at 3 36 (pos 0) × Sized (Bcc t False s) 0 3 36
 unfolding encodeOf sizeOf bccParts
-bcc-false t at s = record { encoded = refl; sized = refl }
+bcc-false t at s = (refl, refl)
+
+-- the distances beside them
+minus-two : (at : ℕ) → Has (braShort (at % 2 ^ 32)) at (0x60FE ∷ [])
+unfolding encodeOf holds ranges branchParts branchesParts
+minus-two at =
+    let e : difference (at % 2 ^ 32) (wordAddress at 1) ≡ 2 ^ 32 - 2 = omega arith in
+    rw e
+
+one : (at : ℕ) → Has (braShort ((at + 3) % 2 ^ 32)) at (0x6001 ∷ [])
+unfolding encodeOf holds ranges branchParts branchesParts
+one at =
+    let e : difference ((at + 3) % 2 ^ 32) (wordAddress at 1) ≡ 1 = omega arith in
+    rw e
 
 pub short-branches : ShortBranches
-unfolding encodeOf holds ranges branchParts branchesParts
 short-branches =
     record {
       minus-one = minus-one;
@@ -89,6 +102,6 @@ short-branches =
       bcc-size = bcc-size;
       bcc-true = bcc-true;
       bcc-false = bcc-false;
-      back = refl;
-      forward = refl;
+      minus-two = minus-two;
+      one = one;
     }

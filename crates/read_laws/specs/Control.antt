@@ -1,7 +1,7 @@
 -- Lines 0101 to 0111: ADDQ SUBQ; Scc DBcc TRAPcc; Bcc BRA BSR; MOVEQ.
 use Prim.Native.Nat.{ℕ, _%_, _^_, _<_, _≤_, _+_, _*_, _/_, _-_}
 use mathlib.Core.Path.{_≡_, ap, sym, _∙_, refl, subst}
-use mathlib.Core.Bool.{true, not, _&&_, _||_, false, cond}
+use mathlib.Core.Bool.{true, not, _&&_, false, cond}
 use native.Mathlib.Omega.{arith}
 use lib.IntN.{ℤ, pos, negsuc}
 use Rattle.base_spec.specs.Signed.{signed32, bitsOf, difference}
@@ -48,7 +48,7 @@ use Rattle.isa.specs.declared.BranchSize.{BranchSize}
 use Rattle.isa.specs.declared.BranchSize.the-variants as branch
 use Rattle.isa.specs.declared.BranchOperation.{BranchOperation}
 use Rattle.isa.specs.declared.BranchOperation.the-variants.{BRA, BSR}
-use Rattle.isa_spec.specs.Field.{holds, isZero, isMinusOne}
+use Rattle.isa_spec.specs.Field.{holds, excludes}
 use Rattle.encode_spec.specs.Instruction.{branchesParts}
 use Rattle.isa_facts.specs.Ordinary.{ordinary}
 use Rattle.encode_spec.specs.Movement.{moveqParts}
@@ -288,15 +288,15 @@ words-as a c t branch.Short = ap (λ (w : ℕ). w ∷ []) (omega arith)
 words-as a c t branch.Word = refl
 words-as a c t branch.Long = refl
 
--- a short distance is not 0 or -1: its byte marks no word or long branch
+-- the byte of a short distance calls for no word or long branch
 short-byte : (z : ℤ) → holds field.ShortBranch z ≡ true
     → (fits (2 ^ 7) z ≡ true) × (eqb (bitsOf z % 256) 0 ≡ false) × (eqb (bitsOf z % 256) 255 ≡ false)
 short-byte z e =
     let p = and-true (fits (2 ^ 7) z) _ (sym (short-branch-holds z) ∙ e) in
-    let q = go z (ltb-is (mag z) (2 ^ 7) (p .0)) (not-true (isZero z || isMinusOne z) (p .1)) in
+    let q = go z (ltb-is (mag z) (2 ^ 7) (p .0)) (not-true (excludes field.ShortBranch z) (p .1)) in
     rw (low8 z (p .0)) (p .0, q .0, q .1)
   where
-    go : (z : ℤ) → mag z < 2 ^ 7 → (isZero z || isMinusOne z) ≡ false → (eqb (low (2 ^ 7) z) 0 ≡ false) × (eqb (low (2 ^ 7) z) 255 ≡ false)
+    go : (z : ℤ) → mag z < 2 ^ 7 → excludes field.ShortBranch z ≡ false → (eqb (low (2 ^ 7) z) 0 ≡ false) × (eqb (low (2 ^ 7) z) 255 ≡ false)
     go (pos n) l k = (sym (or-no (eqb n 0)) ∙ k, eqb-not n 255 (omega arith))
     go (negsuc n) l k = (eqb-not (255 - n) 0 (omega arith), eqb-not (255 - n) 255 (λ e. true-not-false (eqb-is n 0 (omega (arith, e, l))) k))
 
@@ -417,9 +417,9 @@ jump-long a v h =
 
 short-holds : (byte : ℕ) → byte < 256 → (byte ≡ 0 → ⊥) → (byte ≡ 255 → ⊥) → holds field.ShortBranch (signed8 byte) ≡ true
 short-holds byte h n m =
-    short-branch-holds (signed8 byte) ∙ true-and (fits (2 ^ 7) (signed8 byte)) (not (isZero (signed8 byte) || isMinusOne (signed8 byte))) (signed8-fits byte h) (go (lt? byte (2 ^ 7)))
+    short-branch-holds (signed8 byte) ∙ true-and (fits (2 ^ 7) (signed8 byte)) (not (excludes field.ShortBranch (signed8 byte))) (signed8-fits byte h) (go (lt? byte (2 ^ 7)))
   where
-    go : Lt byte (2 ^ 7) → not (isZero (signed8 byte) || isMinusOne (signed8 byte)) ≡ true
+    go : Lt byte (2 ^ 7) → not (excludes field.ShortBranch (signed8 byte)) ≡ true
     go (Lt.less l e) = rw (e, eqb-not byte 0 n)
     go (Lt.past l e) = rw (e, eqb-not (255 - byte) 0 (λ q. m (omega (arith, q, h))))
 

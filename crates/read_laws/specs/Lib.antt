@@ -18,4 +18,4 @@ pub mod Shift
 pub mod Every
 pub mod ReaderLaws
 pub mod Kept
-pub mod LongMark
+pub mod ByteFF

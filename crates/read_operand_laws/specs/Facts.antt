@@ -9,7 +9,7 @@ use lib.Signed.{mag, leZ}
 use mathlib.Core.Option.{some}
 use Rattle.isa.specs.declared.Size.{Size}
 use Rattle.isa.specs.declared.Field.the-variants as field
-use Rattle.isa_spec.specs.Field.{holds, ranges, isZero, isMinusOne, topOf, alsoHolds, remainderOf}
+use Rattle.isa_spec.specs.Field.{holds, ranges, excludes, topOf, alsoHolds, remainderOf}
 use Rattle.encode_spec.specs.Ea.{distance}
 use Rattle.base_spec.specs.Signed.{signed32, signed64, bitsOf, difference}
 use Rattle.read_spec.specs.Number.{signed, signed8, signed16, reach}
@@ -126,9 +126,9 @@ short-word z = pair-alone (leZ (negsuc 32767) z && leZ z (pos 32767)) ∙ within
 short-byte : (z : ℤ) → (leZ (negsuc 127) z && leZ z (pos 127) || false) && true ≡ fits (2 ^ 7) z
 short-byte z = pair-alone (leZ (negsuc 127) z && leZ z (pos 127)) ∙ within-fits 127 z
 
-pub short-branch-holds : (z : ℤ) → holds field.ShortBranch z ≡ fits (2 ^ 7) z && not (isZero z || isMinusOne z)
+pub short-branch-holds : (z : ℤ) → holds field.ShortBranch z ≡ fits (2 ^ 7) z && not (excludes field.ShortBranch z)
 unfolding holds ranges
-short-branch-holds z = ap (λ (b : Bool). b && not (isZero z || isMinusOne z)) (or-no (leZ (negsuc 127) z && leZ z (pos 127)) ∙ within-fits 127 z)
+short-branch-holds z = ap (λ (b : Bool). b && not (excludes field.ShortBranch z)) (or-no (leZ (negsuc 127) z && leZ z (pos 127)) ∙ within-fits 127 z)
 
 pub word-branch-holds : (z : ℤ) → holds field.WordBranch z ≡ fits (2 ^ 15) z
 unfolding holds ranges

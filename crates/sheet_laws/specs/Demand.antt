@@ -15,13 +15,13 @@ use Rattle.read_laws.specs.ReaderLaws.{complete}
 use Rattle.m68k_facts.specs.Laws.{accepted-fine, accepted-words}
 use Rattle.numeric_spec.specs.Form.{formOf}
 use Rattle.sheet_spec.specs.Made.{made, ofLines}
-use Rattle.sheet_spec.specs.Sheet.{Sheet, lineCount, lineAt, countOfLine, addressOfLine, resolved, encodedWords}
-use Rattle.sheet_spec.specs.Follow.{Next, on, to, either, stop, nextOf, target, lineNext, nextWith, targetLine}
+use Rattle.sheet_spec.specs.Sheet.{Sheet, lineCount, lineAt, countOfLine, addressOfLine, encodedWords}
+use Rattle.sheet_spec.specs.Follow.{Next, on, to, either, stop, nextOf, target, lineNext, targetLine}
 use Rattle.sheet_spec.specs.Promises.{InGrammar, AcceptedSheet}
 use Rattle.sheet_size_facts.specs.Says.{line-makes}
 use Rattle.sheet_size_facts.specs.Lawful.{quiet, Goes, quietly, aimed}
-use Rattle.sheet_size_facts.specs.Bounds.{upTo, up-to, count-some, names-bounded}
-use Rattle.sheet_size_facts.specs.Counted.{at-line, i, line, makes-it, encodes, entry-is, count-of, words-counted}
+use Rattle.sheet_size_facts.specs.Bounds.{upTo, up-to, count-some, names-bounded, line-at, instruction-at, line-there, next-there}
+use Rattle.sheet_size_facts.specs.Counted.{encodes, entry-is, count-of, words-counted}
 use Rattle.sheet_laws.specs.InTypes.{inside-in-types}
 use Rattle.sheet_laws.specs.Follows.{Aims, Within, LineStands}
 
@@ -44,7 +44,7 @@ aimed-lands stop t k m e p q = (tt, tt)
 module _ (s : Sheet) (grammar : (n : ℕ) → InGrammar (lineAt s n)) (room : ℕ) (ok : AcceptedSheet s room) where
   module _ (n : ℕ) (h : 1 ≤ n) (g : n ≤ lineCount s) where
     abbrev j : Instruction
-    j = i s grammar room ok n h g
+    j = instruction-at s grammar (ok .measured) n h g
 
     abbrev a : ℕ
     a = addressOfLine s n
@@ -52,17 +52,14 @@ module _ (s : Sheet) (grammar : (n : ℕ) → InGrammar (lineAt s n)) (room : �
     number : encodeOf j a .number ≡ 0
     number = encodes s grammar room ok n h g
 
-    next-is : nextWith (resolved s) s n ≡ nextOf j
-    next-is = ap lineNext (makes-it s grammar room ok n h g) ∙ at-line s grammar room ok n h g .follows .plain (addressOfLine s)
-
-    target-line-is : targetLine s n ≡ target (nextOf (at-line s grammar room ok n h g .instruction (λ k. k)))
+    target-line-is : targetLine s n ≡ target (nextOf (line-at s grammar (ok .measured) n h g .instruction (λ k. k)))
     target-line-is =
-        let l = at-line s grammar room ok n h g in
+        let l = line-at s grammar (ok .measured) n h g in
         let f = ofLines (lineCount s) (λ k. k) in
         ap (λ x. target (lineNext x)) (ap (made f) (l .parsed) ∙ line-makes f (l .tokens) (l .instruction (λ k. k)) (l .line (λ k. k) (names-bounded s grammar (ok .measured))))
         ∙ ap target (l .follows .plain (λ k. k))
 
-    lands : Goes (upTo (lineCount s)) (at-line s grammar room ok n h g .instruction) → Lands (nextOf j) (addressOfLine s (targetLine s n)) (targetLine s n) (lineCount s)
+    lands : Goes (upTo (lineCount s)) (line-at s grammar (ok .measured) n h g .instruction) → Lands (nextOf j) (addressOfLine s (targetLine s n)) (targetLine s n) (lineCount s)
     lands (quietly q) = quiet-lands (nextOf j) (q (addressOfLine s)) (addressOfLine s (targetLine s n)) (targetLine s n) (lineCount s)
     lands (aimed (m, p, e)) =
         let u = up-to (lineCount s) m p in
@@ -70,14 +67,14 @@ module _ (s : Sheet) (grammar : (n : ℕ) → InGrammar (lineAt s n)) (room : �
         (aimed-lands (nextOf j) (addressOfLine s m) m (lineCount s) (e (addressOfLine s)) (u .0) (u .1))
 
     landing : Lands (nextOf j) (addressOfLine s (targetLine s n)) (targetLine s n) (lineCount s)
-    landing = lands (at-line s grammar room ok n h g .follows .goes)
+    landing = lands (line-at s grammar (ok .measured) n h g .follows .goes)
 
     line-accepted : reads.Accepted a j
     unfolding formOf
     line-accepted = (
-      inside-in-types j (line s grammar room ok n h g .inside),
+      inside-in-types j (line-there s grammar (ok .measured) n h g .inside),
       accepted-fine j a number,
-      at-line s grammar room ok n h g .follows .ordinary (addressOfLine s),
+      line-at s grammar (ok .measured) n h g .follows .ordinary (addressOfLine s),
     )
 
     words-are : encodedWords (encodeOf j a) ≡ wordsOf j a
@@ -88,15 +85,15 @@ module _ (s : Sheet) (grammar : (n : ℕ) → InGrammar (lineAt s n)) (room : �
 
     pub line-stands : LineStands s n
     line-stands =
-        let l = at-line s grammar room ok n h g in
+        let l = line-at s grammar (ok .measured) n h g in
         record {
           some = count-some s grammar (ok .measured) n h g;
           tokens = l .tokens;
           instruction = j;
           parsed = l .parsed;
-          line = line s grammar room ok n h g;
+          line = line-there s grammar (ok .measured) n h g;
           entry = entry-is s grammar room ok n h g;
           reads-back = λ rest. ap (λ (ws : List ℕ). readOf (ws ++ rest) a) words-are ∙ complete a j rest line-accepted ∙ ap (λ (k : ℕ). Read (plain j) (2 * k)) counts-are;
-          aims = subst (λ (x : Next). Aims x (addressOfLine s (targetLine s n))) (sym next-is) (landing .0);
-          within = subst (λ (x : Next). Within x (lineCount s) (targetLine s n)) (sym next-is) (landing .1);
+          aims = subst (λ (x : Next). Aims x (addressOfLine s (targetLine s n))) (sym (next-there s grammar (ok .measured) n h g)) (landing .0);
+          within = subst (λ (x : Next). Within x (lineCount s) (targetLine s n)) (sym (next-there s grammar (ok .measured) n h g)) (landing .1);
         }

@@ -1,4 +1,4 @@
--- Sheets have even targets, so no line is a short branch by -1 and N5 changes no listing (02, N5). Said before the last place of 01's table, whatever
+-- Sheets have even targets, so no line is a short branch of -1 and N5 changes no listing (02, N5). Said before the last place of 01's table, whatever
 -- `encode` then says of a line.
 use Prim.Native.Nat.{ℕ, _+_, _%_, _^_, _≤_}
 use mathlib.Core.Path.{_≡_, refl, sym, ap, _∙_}
@@ -19,7 +19,7 @@ use Rattle.sheet_spec.specs.Promises.{InGrammar, MeasuredSheet, NoMinusOne}
 use Rattle.sheet_facts.specs.Lines.{line-grammar}
 use Rattle.sheet_size_facts.specs.Lawful.{quiet, Goes, quietly, aimed}
 use Rattle.sheet_size_facts.specs.Outcomes.{measured-sheet, even-start}
-use Rattle.sheet_size_facts.specs.Bounds.{upTo, up-to, address-is, line-at, instruction-at, makes-there}
+use Rattle.sheet_size_facts.specs.Bounds.{upTo, up-to, address-is, line-at, instruction-at, next-there}
 
 quiet-target : (x : Next) → quiet x ≡ true → target x ≡ 0
 quiet-target on h = refl
@@ -30,13 +30,10 @@ quiet-target stop h = refl
 -- a line's address is even, and so is its target, 0 where it has none
 pub even-targets : (s : Sheet) → ((n : ℕ) → InGrammar (lineAt s n)) → s .start % 2 ≡ 0 → MeasuredSheet s → (n : ℕ) → 1 ≤ n → n ≤ lineCount s
     → (addressOfLine s n % 2 ≡ 0) × (target (nextWith (resolved s) s n) % 2 ≡ 0)
-even-targets s grammar even ok n h g = (address-even n h g, ap (λ (x : Next). target x % 2) next-is ∙ go (line-at s grammar ok n h g .follows .goes))
+even-targets s grammar even ok n h g = (address-even n h g, ap (λ (x : Next). target x % 2) (next-there s grammar ok n h g) ∙ go (line-at s grammar ok n h g .follows .goes))
   where
     address-even : (m : ℕ) → 1 ≤ m → m ≤ lineCount s → addressOfLine s m % 2 ≡ 0
     address-even m p q = omega (arith, address-is s m p q, even)
-
-    next-is : nextWith (resolved s) s n ≡ nextOf (instruction-at s grammar ok n h g)
-    next-is = ap lineNext (makes-there s grammar ok n h g) ∙ line-at s grammar ok n h g .follows .plain (addressOfLine s)
 
     go : Goes (upTo (lineCount s)) (line-at s grammar ok n h g .instruction) → target (nextOf (instruction-at s grammar ok n h g)) % 2 ≡ 0
     go (quietly q) = ap (λ (t : ℕ). t % 2) (quiet-target (nextOf (instruction-at s grammar ok n h g)) (q (addressOfLine s)))

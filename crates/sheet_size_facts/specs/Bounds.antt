@@ -11,6 +11,7 @@ use Rattle.encode_spec.specs.Encode.{sizeOf}
 use Rattle.base_facts.specs.Tests.{and-true}
 use Rattle.sheet_spec.specs.Sheet.{total, sizedOf, halfOf, Sheet, lineCount, counts, lineAt, countOfLine, addressOfLine, resolved}
 use Rattle.sheet_spec.specs.Made.{Line, makes, made}
+use Rattle.sheet_spec.specs.Follow.{nextOf, lineNext, nextWith}
 use Rattle.sheet_spec.specs.Promises.{InGrammar, MeasuredSheet}
 use Rattle.sheet_size_facts.specs.Says.{line-makes}
 use Rattle.sheet_size_facts.specs.Image.{addresses-are, total-part, total-some}
@@ -68,3 +69,6 @@ module _ (s : Sheet) where
 
       pub makes-there : made (resolved s) (lineAt s n) ≡ makes instruction-at
       makes-there = ap (made (resolved s)) (line-at n h g .parsed) ∙ line-makes (resolved s) (line-at n h g .tokens) instruction-at line-there
+
+      pub next-there : nextWith (resolved s) s n ≡ nextOf instruction-at
+      next-there = ap lineNext makes-there ∙ line-at n h g .follows .plain (addressOfLine s)

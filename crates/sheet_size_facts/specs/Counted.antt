@@ -8,15 +8,14 @@ use Rattle.isa.specs.declared.Measured.{Measured}
 use Rattle.isa.specs.declared.Encoded.{Encoded}
 use Rattle.isa.specs.declared.Instruction.{Instruction}
 use Rattle.encode_spec.specs.Encode.{encodeOf, sizeOf}
-use Rattle.sheet_spec.specs.Made.{Line, Made, makes, made}
+use Rattle.sheet_spec.specs.Made.{Made, makes, made}
 use Rattle.sheet_spec.specs.Sheet.{Sheet, sheetAt, lineCount, counts, wordCount, lineAt, countOfLine, addresses, addressOfLine, resolved, encodedLine, encoded, encodedWords, image}
 use Rattle.sheet_spec.specs.Translate.{inOrder, outcomeAt}
 use Rattle.sheet_spec.specs.Promises.{InGrammar, AcceptedSheet}
 use Rattle.sheet_facts.specs.Lines.{line-grammar}
-use Rattle.sheet_size_facts.specs.Made.{LineMade}
 use Rattle.sheet_size_facts.specs.Image.{noWords, encoded-is, Counts, words-length}
 use Rattle.sheet_size_facts.specs.Outcomes.{counts-length, places-length, lines-length, accepted}
-use Rattle.sheet_size_facts.specs.Bounds.{upTo, line-at, count-size, instruction-at, line-there, makes-there}
+use Rattle.sheet_size_facts.specs.Bounds.{line-at, count-size, instruction-at, makes-there}
 use Rattle.m68k_facts.specs.Laws.{size-law, places-law, encode-most}
 
 -- the words that count are as many as they say
@@ -25,16 +24,11 @@ words-counted i a = omega (arith, places-law i a, encode-most i a, length-take (
 
 module _ (s : Sheet) (grammar : (n : ℕ) → InGrammar (lineAt s n)) (room : ℕ) (ok : AcceptedSheet s room) where
   module _ (n : ℕ) (h : 1 ≤ n) (g : n ≤ lineCount s) where
-    abbrev pub at-line : LineMade (upTo (lineCount s)) (lineAt s n)
-    at-line = line-at s grammar (ok .measured) n h g
-
-    abbrev pub i : Instruction
+    -- the line's instruction
+    abbrev i : Instruction
     i = instruction-at s grammar (ok .measured) n h g
 
-    pub line : Line (resolved s) (at-line .tokens) i
-    line = line-there s grammar (ok .measured) n h g
-
-    pub makes-it : made (resolved s) (lineAt s n) ≡ makes i
+    makes-it : made (resolved s) (lineAt s n) ≡ makes i
     makes-it = makes-there s grammar (ok .measured) n h g
 
     pub encodes : encodeOf i (addressOfLine s n) .number ≡ 0
@@ -45,8 +39,8 @@ module _ (s : Sheet) (grammar : (n : ℕ) → InGrammar (lineAt s n)) (room : �
         encoded-is (resolved s) (addresses s) (s .lines) (places-length s) (pred n) (omega arith)
         ∙ ap (encodedLine (addressOfLine s n)) makes-it
 
-    pub size-is : sizeOf i ≡ sizeOf (at-line .first)
-    size-is = at-line .follows .size (addressOfLine s)
+    pub size-is : sizeOf i ≡ sizeOf (line-at s grammar (ok .measured) n h g .first)
+    size-is = line-at s grammar (ok .measured) n h g .follows .size (addressOfLine s)
 
     pub count-of : encodeOf i (addressOfLine s n) .count ≡ countOfLine s n
     count-of =

@@ -48,7 +48,7 @@ pub record AcceptedText (text : List ℕ) (start places room : ℕ) : Type 0 whe
   pub scratch : lineCount (sheetAt start text) ≤ places
   pub lines : AcceptedSheet (sheetAt start text) room
 
--- line n is no short branch by -1, to its own address plus 1 (02, N5)
+-- line n is no short branch of -1, to its own address plus 1 (02, N5)
 abbrev pub NoMinusOne : Sheet → ℕ → Type 0
 NoMinusOne s n =
     ((op : BranchOperation) → made (resolved s) (lineAt s n) ≡ makes (Branch op ((addressOfLine s n + 1) % 2 ^ 32) Short) → ⊥)

@@ -53,9 +53,9 @@ pub fn of_n2(placed: &Placed) -> bool {
     !placed.outside && negative_immediates::lets_in(&placed.instruction, placed.address)
 }
 
-/// Whether the original accepts a short branch that N5 turns back.
+/// Whether the original accepts a short branch that N5 refuses.
 pub fn of_n5(placed: &Placed) -> bool {
-    !placed.outside && short_branch::turns_back(&placed.instruction, placed.address)
+    !placed.outside && short_branch::refuses(&placed.instruction, placed.address)
 }
 
 fn encode(instruction: &Instruction, address: u32) -> Result<Vec<u16>, EncodeError> {

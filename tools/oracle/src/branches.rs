@@ -19,9 +19,9 @@ const TRIED: [(BranchSize, i32); 10] = [
     (BranchSize::Long, 0),
 ];
 
-/// Addresses of a branch that is not a short one of -1 or 0, and the places
-/// between them.
+/// How many addresses a branch has that is not a short one of -1 or 0.
 const FEW: usize = 3;
+/// From one of these to the next, in the list of addresses.
 const APART: usize = 5;
 
 type Operation = fn(u32, Condition, BranchSize) -> Instruction;
@@ -90,14 +90,18 @@ pub fn all() -> Vec<Branch> {
 pub fn lines() -> Vec<String> {
     let branches = all().into_iter().enumerate();
     let lines = branches.flat_map(|(turn, branch)| {
-        let places = match branch.is_excluded() {
-            true => (0..ADDRESSES.len()).collect(),
-            false => (0..FEW).map(|k| turn + APART * k).collect::<Vec<usize>>(),
+        let addresses = match branch.is_excluded() {
+            true => ADDRESSES.to_vec(),
+            false => few_addresses(turn),
         };
-        let addresses = places.into_iter().map(address);
-        addresses.map(move |address| branch.line(address))
+        let lines = addresses.into_iter().map(move |at| branch.line(at));
+        lines.collect::<Vec<String>>()
     });
     lines.collect()
+}
+
+fn few_addresses(turn: usize) -> Vec<u32> {
+    (0..FEW).map(|k| address(turn + APART * k)).collect()
 }
 
 /// The addresses in turn.
@@ -110,28 +114,55 @@ mod tests {
     use std::collections::HashSet;
 
     use super::*;
-    use crate::answer::answer_line;
+    use crate::answer::answer;
+    use crate::generate;
+    use crate::machine::encode as rust;
+    use crate::numeric::{placed, Placed};
     use crate::requests::Requests;
+    use crate::short_branch::refuses;
 
     /// BRA, BSR and the conditions but True and False.
     const BRANCHES: usize = 16;
+    const GENERATED: usize = 30_000;
 
     #[test]
-    fn every_branch_of_minus_one_is_turned_back() {
+    fn every_branch_of_minus_one_is_refused() {
         let lines = lines();
         let mut requests = Requests::default();
-        lines
-            .iter()
-            .for_each(|line| requests += Requests::of_line(line.as_bytes()));
+        for line in &lines {
+            requests += Requests::of_line(line.as_bytes());
+        }
         assert_eq!(requests.n5, BRANCHES * ADDRESSES.len());
         assert_eq!(lines.iter().collect::<HashSet<_>>().len(), lines.len());
     }
 
     #[test]
     fn the_numbers_around_it_are_held() {
-        let held = |branch: &Branch| !answer_line(branch.line(0).as_bytes()).starts_with("ref");
+        let held = |branch: &Branch| {
+            let placed = placed(branch.line(0).as_bytes()).expect("in the form");
+            answer(&placed).words.is_ok()
+        };
         let branches = all();
         let count = branches.iter().filter(|branch| held(branch)).count();
         assert_eq!(count, BRANCHES * (TRIED.len() - 2));
+    }
+
+    /// The class is where the Rust writes a branch as one word with byte $FF.
+    #[test]
+    fn the_rust_writes_the_byte_ff() {
+        let lines = lines().into_iter();
+        for line in lines.chain(generate::lines(1).take(GENERATED)) {
+            let Placed {
+                instruction,
+                address,
+                ..
+            } = placed(line.as_bytes()).expect("in the form");
+            if let Instruction::BRA(..) | Instruction::BSR(..) | Instruction::Bcc(..) = instruction
+            {
+                let written = rust::encode(&instruction, address);
+                let marks = written.is_ok_and(|words| words.len() == 1 && words[0] & 0xFF == 0xFF);
+                assert_eq!(refuses(&instruction, address), marks, "{line}");
+            }
+        }
     }
 }

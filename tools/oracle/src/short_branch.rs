@@ -25,12 +25,12 @@ pub fn due<T>(
     }
 }
 
-/// Whether the Rust accepts a branch that N5 turns back.
-pub fn turns_back(instruction: &Instruction, address: u32) -> bool {
+/// Whether the Rust accepts a branch that N5 refuses.
+pub fn refuses(instruction: &Instruction, address: u32) -> bool {
     displacement(instruction, address) == Some(-1) && rust::encode(instruction, address).is_ok()
 }
 
-/// That of a short branch.
+/// The displacement of a short branch.
 fn displacement(instruction: &Instruction, address: u32) -> Option<i32> {
     use Instruction::{Bcc, BRA, BSR};
     match *instruction {
@@ -45,14 +45,10 @@ fn displacement(instruction: &Instruction, address: u32) -> Option<i32> {
 mod tests {
     use super::*;
     use crate::instructions::{BranchSize, Condition};
-    use crate::numeric::{placed, Placed};
-    use crate::{branches, generate};
     use Instruction::{Bcc, DBcc, BRA, BSR};
 
-    const LINES: usize = 30_000;
-
     #[test]
-    fn short_branches_of_minus_one_are_turned_back() {
+    fn short_branches_of_minus_one_are_refused() {
         for address in [0, 1, 2, 0x1000, 0x7FFF_FFFF, 0xFFFF_FFFE, u32::MAX] {
             let target = address.wrapping_add(1);
             for branch in [
@@ -60,26 +56,8 @@ mod tests {
                 BSR(target, Short),
                 Bcc(target, Condition::Equal, Short),
             ] {
-                assert!(turns_back(&branch, address));
+                assert!(refuses(&branch, address));
                 assert_eq!(encode(&branch, address), Err(REFUSED));
-            }
-        }
-    }
-
-    /// The class is where the Rust writes a branch as one word with byte $FF.
-    #[test]
-    fn the_rust_writes_the_byte_ff() {
-        let lines = branches::lines().into_iter();
-        for line in lines.chain(generate::lines(1).take(LINES)) {
-            let Placed {
-                instruction,
-                address,
-                ..
-            } = placed(line.as_bytes()).expect("in the form");
-            if let BRA(..) | BSR(..) | Bcc(..) = instruction {
-                let written = rust::encode(&instruction, address);
-                let marks = written.is_ok_and(|words| words.len() == 1 && words[0] & 0xFF == 0xFF);
-                assert_eq!(turns_back(&instruction, address), marks, "{line}");
             }
         }
     }
@@ -98,7 +76,7 @@ mod tests {
             Bcc(target, Condition::False, Short),
             DBcc(data, target, Condition::Equal),
         ] {
-            assert!(!turns_back(&instruction, 0x1000));
+            assert!(!refuses(&instruction, 0x1000));
             assert_eq!(
                 encode(&instruction, 0x1000),
                 rust::encode(&instruction, 0x1000)

@@ -1,4 +1,4 @@
--- The byte $FF of a branch marks a long one (02, N5).
+-- The byte $FF of a branch calls for a long one (02, N5).
 use Prim.Native.Nat.{ℕ, _+_, _*_, _/_, _%_, _<_}
 use mathlib.Core.Path.{_≡_, refl, ap, _∙_}
 use mathlib.Core.Bool.{true}
