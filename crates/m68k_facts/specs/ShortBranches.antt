@@ -12,38 +12,31 @@ use Rattle.isa.specs.declared.BranchSize.the-variants.{Short}
 use Rattle.isa.specs.declared.Condition.{Condition}
 use Rattle.isa.specs.declared.Condition.the-variants.{True, False}
 use Rattle.isa.specs.declared.Instruction.the-variants.{Bcc, Branch}
-use Rattle.base_spec.specs.Signed.{signed32, difference}
+use Rattle.base_spec.specs.Signed.{difference}
 use Rattle.isa_spec.specs.Code.{conditionCode}
 use Rattle.isa_spec.specs.Condition.{conditionOf}
 use Rattle.isa_spec.specs.Field.{holds, ranges}
 use Rattle.isa_facts.specs.Condition.{of-code}
 use Rattle.encode_spec.specs.Item.{wordAddress}
-use Rattle.encode_spec.specs.Ea.{distance}
 use Rattle.encode_spec.specs.Control.{branchParts, bccParts}
 use Rattle.encode_spec.specs.Instruction.{branchesParts}
 use Rattle.encode_spec.specs.Encode.{encodeOf, sizeOf}
 use Rattle.encode_spec.specs.Cases.{Has, Refused, OutOf, braShort, Sized, OfBcc, ShortBranches}
 use Rattle.encode_facts.specs.Items.{address-address}
 
-by-minus-one : (at : ℕ) → distance ((at + 1) % 2 ^ 32) (wordAddress at 1) ≡ negsuc 0
-by-minus-one at =
-    let e : difference ((at + 1) % 2 ^ 32) (wordAddress at 1) ≡ 2 ^ 32 - 1 = omega arith in
-    ap signed32 e
-
-by-zero : (at : ℕ) → distance ((at + 2) % 2 ^ 32) (wordAddress at 1) ≡ pos 0
-by-zero at =
-    let e : difference ((at + 2) % 2 ^ 32) (wordAddress at 1) ≡ 0 = omega arith in
-    ap signed32 e
+-- from the word after a branch to a target by its own address
+steps : (at k : ℕ) → difference ((at + k) % 2 ^ 32) (wordAddress at 1) ≡ (k + (2 ^ 32 - 2)) % 2 ^ 32
+steps at k = omega arith
 
 minus-one : (op : BranchOperation) (at : ℕ) → OutOf (Branch op ((at + 1) % 2 ^ 32) Short) at 1 (negsuc 0)
 unfolding encodeOf holds ranges branchParts branchesParts
-minus-one BRA at = rw (by-minus-one at)
-minus-one BSR at = rw (by-minus-one at)
+minus-one BRA at = rw (steps at 1)
+minus-one BSR at = rw (steps at 1)
 
 zero : (op : BranchOperation) (at : ℕ) → OutOf (Branch op ((at + 2) % 2 ^ 32) Short) at 1 (pos 0)
 unfolding encodeOf holds ranges branchParts branchesParts
-zero BRA at = rw (by-zero at)
-zero BSR at = rw (by-zero at)
+zero BRA at = rw (steps at 2)
+zero BSR at = rw (steps at 2)
 
 size : (op : BranchOperation) (t : ℕ) → Sized (Branch op t Short) 2 0 0
 unfolding sizeOf branchParts branchesParts
@@ -60,11 +53,11 @@ code-least c (t, f) =
 -- the check before a Bcc's branch passes and lays down no words
 bcc-minus-one : (c : Condition) (at : ℕ) → OfBcc c → OutOf (Bcc ((at + 1) % 2 ^ 32) c Short) at 1 (negsuc 0)
 unfolding encodeOf holds ranges branchParts bccParts
-bcc-minus-one c at h = rw (le-leb 2 (conditionCode c) (code-least c h), address-address at 0 1, by-minus-one at)
+bcc-minus-one c at h = rw (le-leb 2 (conditionCode c) (code-least c h), address-address at 0 1, steps at 1)
 
 bcc-zero : (c : Condition) (at : ℕ) → OfBcc c → OutOf (Bcc ((at + 2) % 2 ^ 32) c Short) at 1 (pos 0)
 unfolding encodeOf holds ranges branchParts bccParts
-bcc-zero c at h = rw (le-leb 2 (conditionCode c) (code-least c h), address-address at 0 1, by-zero at)
+bcc-zero c at h = rw (le-leb 2 (conditionCode c) (code-least c h), address-address at 0 1, steps at 2)
 
 bcc-size : (c : Condition) (t : ℕ) → OfBcc c → Sized (Bcc t c Short) 2 0 0
 unfolding sizeOf branchParts bccParts
@@ -81,15 +74,11 @@ bcc-false t at s = (refl, refl)
 -- the distances beside them
 minus-two : (at : ℕ) → Has (braShort (at % 2 ^ 32)) at (0x60FE ∷ [])
 unfolding encodeOf holds ranges branchParts branchesParts
-minus-two at =
-    let e : difference (at % 2 ^ 32) (wordAddress at 1) ≡ 2 ^ 32 - 2 = omega arith in
-    rw e
+minus-two at = let e : (at + 0) % 2 ^ 32 ≡ at % 2 ^ 32 = omega arith in rw (← e, steps at 0)
 
 one : (at : ℕ) → Has (braShort ((at + 3) % 2 ^ 32)) at (0x6001 ∷ [])
 unfolding encodeOf holds ranges branchParts branchesParts
-one at =
-    let e : difference ((at + 3) % 2 ^ 32) (wordAddress at 1) ≡ 1 = omega arith in
-    rw e
+one at = rw (steps at 3)
 
 pub short-branches : ShortBranches
 short-branches =

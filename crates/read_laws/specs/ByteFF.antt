@@ -29,13 +29,13 @@ ff-tree a x opmode ea ws hx ho e =
     ap (λ (g : Group). run (groupTree a g 6 x opmode ea) a 1 ws) (at-line group.Branch 6 (λ o. true) refl x opmode hx ho refl .3)
     ∙ ap (λ (b : ℕ). run (bind (tailTree (branchLayout b)) (λ f. ret (branchDecoded a (x * 2 + opmode / 4) b (f .value)))) a 1 ws) e
 
--- the condition of an operation word, in bits 11 to 8
 halves : (v : ℕ) → v / 2 % 8 * 2 + v % 2 ≡ v % 16
 halves v = omega arith
 
 low-bit : (u : ℕ) → u % 8 / 4 ≡ u / 4 % 2
 low-bit u = omega arith
 
+-- the condition of an operation word, in bits 11 to 8
 condition-is : (w : ℕ) → w / 512 % 8 * 2 + w / 64 % 8 / 4 ≡ w / 256 % 16
 condition-is w =
     let p : w / 256 / 2 ≡ w / 512 = omega arith in
