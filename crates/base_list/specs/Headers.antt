@@ -1,4 +1,4 @@
--- The header of a case in a list: the bytes that follow it, and two numbers more.
+-- The header of a case in a list: the bytes that follow it, and one or two numbers more.
 use mathlib.Core.Path.{_≡_, refl, sym, ap, _∙_}
 use native.Mathlib.Omega.{arith}
 use mathlib.Core.Bool.{Bool, true, false, cond, not, _&&_, false≢true}
@@ -20,34 +20,41 @@ unfoldable pub headerOf : ℕ → ℕ → ℕ → ℕ → ℕ → Header
 headerOf feed left bytes second third =
     cond (ltb bytes left) (record { ok = true; begin = feed + 1; end = feed + 1 + bytes; second = second; third = third }) noHeader
 
--- three numbers, none below 0
-abbrev pub isHeader : LineNumbers → Bool
-isHeader n = n .ok && eqb (n .count) 3 && not (getD (n .negative) 0 false) && not (getD (n .negative) 1 false) && not (getD (n .negative) 2 false)
+-- so many numbers, none below 0
+abbrev pub isHeader : ℕ → LineNumbers → Bool
+isHeader numbers n = n .ok && eqb (n .count) numbers && not (getD (n .negative) 0 false) && not (getD (n .negative) 1 false) && not (getD (n .negative) 2 false)
 
-abbrev pub headerAs : List ℕ → ℕ → LineNumbers → Header
-headerAs list feed n =
-    cond (isHeader n) (headerOf feed (length list - feed) (getD (n .magnitude) 0 0) (getD (n .magnitude) 1 0) (getD (n .magnitude) 2 0)) noHeader
+-- the third is 0 where there are two
+abbrev pub headerAs : List ℕ → ℕ → ℕ → LineNumbers → Header
+headerAs list feed numbers n =
+    cond (isHeader numbers n) (headerOf feed (length list - feed) (getD (n .magnitude) 0 0) (getD (n .magnitude) 1 0) (getD (n .magnitude) 2 0)) noHeader
 
-unfoldable pub headerAt : List ℕ → ℕ → Header
-headerAt list from = let feed = partEnd 10 list from in headerAs list feed (lineNumbers (take (feed - from) (drop from list)))
+unfoldable pub headerAt : List ℕ → ℕ → ℕ → Header
+headerAt list from numbers = let feed = partEnd 10 list from in headerAs list feed numbers (lineNumbers (take (feed - from) (drop from list)))
 
--- the other two numbers at most so large
+-- the other numbers at most so large
 unfoldable pub limited : ℕ → ℕ → Header → Header
 limited second third h = cond (leb (h .second) second && leb (h .third) third) h noHeader
 
+abbrev pub headerOfNumbers : List ℕ → ℕ → ℕ → ℕ → ℕ → Header
+headerOfNumbers list from numbers second third = limited second third (headerAt list from numbers)
+
 abbrev pub headerIn : List ℕ → ℕ → ℕ → ℕ → Header
-headerIn list from second third = limited second third (headerAt list from)
+headerIn list from second third = headerOfNumbers list from 3 second third
 
-module _ (list : List ℕ) (from feed : ℕ) (n : LineNumbers) (e : feed ≡ partEnd 10 list from) (f : n ≡ lineNumbers (take (feed - from) (drop from list))) where
-  header-is : headerAs list feed n ≡ headerAt list from
+abbrev pub shortHeaderIn : List ℕ → ℕ → ℕ → Header
+shortHeaderIn list from second = headerOfNumbers list from 2 second 0
+
+module _ (list : List ℕ) (from feed numbers : ℕ) (n : LineNumbers) (e : feed ≡ partEnd 10 list from) (f : n ≡ lineNumbers (take (feed - from) (drop from list))) where
+  header-is : headerAs list feed numbers n ≡ headerAt list from numbers
   unfolding headerAt
-  header-is = ap (headerAs list feed) f ∙ ap (λ (k : ℕ). headerAs list k (lineNumbers (take (k - from) (drop from list)))) e
+  header-is = ap (headerAs list feed numbers) f ∙ ap (λ (k : ℕ). headerAs list k numbers (lineNumbers (take (k - from) (drop from list)))) e
 
-  pub header-yes : isHeader n ≡ true
-      → headerOf feed (length list - feed) (getD (n .magnitude) 0 0) (getD (n .magnitude) 1 0) (getD (n .magnitude) 2 0) ≡ headerAt list from
+  pub header-yes : isHeader numbers n ≡ true
+      → headerOf feed (length list - feed) (getD (n .magnitude) 0 0) (getD (n .magnitude) 1 0) (getD (n .magnitude) 2 0) ≡ headerAt list from numbers
   header-yes h = sym (ap (λ (t : Bool). cond t (headerOf feed (length list - feed) (getD (n .magnitude) 0 0) (getD (n .magnitude) 1 0) (getD (n .magnitude) 2 0)) noHeader) h) ∙ header-is
 
-  pub header-no : isHeader n ≡ false → noHeader ≡ headerAt list from
+  pub header-no : isHeader numbers n ≡ false → noHeader ≡ headerAt list from numbers
   header-no h = sym (ap (λ (t : Bool). cond t (headerOf feed (length list - feed) (getD (n .magnitude) 0 0) (getD (n .magnitude) 1 0) (getD (n .magnitude) 2 0)) noHeader) h) ∙ header-is
 
 -- the case lies before `most`, its end past `from`
@@ -56,7 +63,7 @@ pub record Inside (from most : ℕ) (h : Header) : Type 0 where
   pub inside : h .end ≤ most
   pub onward : h .ok ≡ true → from < h .end
 
--- and its other two numbers are at most so large
+-- and its other numbers are at most so large
 pub record Within (from most second third : ℕ) (h : Header) : Type 0 where
   pub place : Inside from most h
   pub second-most : h .second ≤ second

@@ -31,15 +31,11 @@ use Rattle.read_spec.specs.Operand.{modeAt}
 use Rattle.read_spec.specs.Operation.{sizeAt}
 use Rattle.read_operand_laws.specs.Stands.{Stands}
 use Rattle.read_operand_laws.specs.OperandLaws.{mode-field}
+use Rattle.read_facts.specs.Flat.{Flat, Live, Decoding, always, unused, dynamic, compare, decoding}
 use Rattle.read_laws.specs.Tests.{equal, known, facts-below}
 use Rattle.read_laws.specs.Operands.{simple-is}
 
--- ---- what is formed is an instruction or nothing: no word more is looked at
-abbrev pub Flat : Tree Instruction → Type 0
-Flat (ret i) = Unit {0}
-Flat fail = Unit {0}
-Flat (more k) = ⊥
-
+-- ---- what is formed is an instruction or nothing
 pub flat-got : (t : Tree Instruction) → Flat t → (a m : ℕ) (ws : List ℕ) (i : Instruction) (n : ℕ) (r : List ℕ) → run t a m ws ≡ got i n r
     → (t ≡ ret i) × (m ≡ n) × (ws ≡ r)
 flat-got (ret j) h a m ws i n r e = got-subst (λ k p q. (_≡_ {A = Tree Instruction} (ret j) (ret k)) × (m ≡ p) × (ws ≡ q)) e (refl, refl, refl)
@@ -51,20 +47,10 @@ flat-short (ret j) h a m ws e = got-short e
 flat-short fail h a m ws e = none-short e
 flat-short (more k) h a m ws e = h
 
-abbrev pub Live : Tree Instruction → Type 0
-Live (ret i) = Unit {0}
-Live fail = ⊥
-Live (more k) = ⊥
-
 pub live-is : (t : Tree Instruction) → Live t → (i : Instruction) × (t ≡ ret i)
 live-is (ret i) l = (i, refl)
 live-is fail l = absurd l
 live-is (more k) l = absurd l
-
-live-flat : (t : Tree Instruction) → Live t → Flat t
-live-flat (ret i) l = tt
-live-flat fail l = tt
-live-flat (more k) l = l
 
 -- ---- MOVEP takes d16(An), and CMPM (An)+
 pub data Kind (o : Operand) : Type 0 where
@@ -98,21 +84,6 @@ kind? (Extended base w z outer) = other (go (isPc base)) (not-five (isPc base), 
 kind? (Absolute a width.Word) = other (λ e. omega (arith, e)) (refl, λ x p. refl, λ s d. refl, λ s y. refl)
 kind? (Absolute a width.Long) = other (λ e. omega (arith, e)) (refl, λ x p. refl, λ s d. refl, λ s y. refl)
 
-movep-flat : (x opmode : ℕ) (o : Operand) → Kind o → Flat (movepDecoded x opmode o)
-movep-flat x opmode o (displaced z base e) = rw e tt
-movep-flat x opmode o (post n e) = rw e tt
-movep-flat x opmode o (other m q) = rw (q .1 x opmode) tt
-
-cmpm-to-flat : (s : Size) (y : ℕ) (d : Operand) → Kind d → Flat (cmpmTo s y d)
-cmpm-to-flat s y d (displaced z base e) = rw e tt
-cmpm-to-flat s y d (post n e) = rw e tt
-cmpm-to-flat s y d (other m q) = rw (q .3 s y) tt
-
-cmpm-flat : (s : Size) (o d : Operand) → Kind o → Flat (cmpmDecoded s o d)
-cmpm-flat s o d (displaced z base e) = rw e tt
-cmpm-flat s o d (post n e) = rw e (cmpm-to-flat s n d (kind? d))
-cmpm-flat s o d (other m q) = rw (q .2 s d) tt
-
 -- an operand in six bits is in their mode
 pub mode-is : (s : Size) (at ea : ℕ) (o : Operand) → Stands s at ea o → modeOf o ≡ modeAt ea
 mode-is s at ea o h = sym (mode-field o (h .1)) ∙ ap modeAt (h .3)
@@ -127,63 +98,6 @@ cmpm-live s o d p q =
     let y = simple-is 3 (omega arith) o (eqb-is (modeOf o) 3 p) in
     let x = simple-is 3 (omega arith) d (eqb-is (modeOf d) 3 q) in
     rw (y, x) tt
-
--- ---- what every group forms: an instruction, but where the layout of MOVEP or CMPM is not followed, or there is none
-data Decoding (s : Group) : Type 0 where
-  always : ((a line x opmode ea v : ℕ) (o d : Operand) → Live (decoded a s line x opmode ea v o d)) → Decoding s
-  unused : s ≡ group.Unused → Decoding s
-  dynamic : s ≡ group.DynamicBitMovep → Decoding s
-  compare : s ≡ group.LogicCompare → Decoding s
-
-decoding : (s : Group) → Decoding s
-decoding group.Unused = unused refl
-decoding group.ImmediateInto = always (λ a line x opmode ea v o d. tt)
-decoding group.StaticBit = always (λ a line x opmode ea v o d. tt)
-decoding group.DynamicBitMovep = dynamic refl
-decoding group.MOVES = always (λ a line x opmode ea v o d. tt)
-decoding group.Bounds = always (λ a line x opmode ea v o d. tt)
-decoding group.CAS = always (λ a line x opmode ea v o d. tt)
-decoding group.MOVE = always (λ a line x opmode ea v o d. tt)
-decoding group.OneOperand = always (λ a line x opmode ea v o d. tt)
-decoding group.UnsizedOneIllegal = always (λ a line x opmode ea v o d. tt)
-decoding group.NbcdLink = always (λ a line x opmode ea v o d. tt)
-decoding group.PeaSwapBkpt = always (λ a line x opmode ea v o d. tt)
-decoding group.MovemExt = always (λ a line x opmode ea v o d. tt)
-decoding group.MULL = always (λ a line x opmode ea v o d. tt)
-decoding group.DIVL = always (λ a line x opmode ea v o d. tt)
-decoding group.System = always (λ a line x opmode ea v o d. tt)
-decoding group.LeaExtb = always (λ a line x opmode ea v o d. tt)
-decoding group.CHK = always (λ a line x opmode ea v o d. tt)
-decoding group.Quick = always (λ a line x opmode ea v o d. tt)
-decoding group.Conditional = always (λ a line x opmode ea v o d. tt)
-decoding group.Branch = always (λ a line x opmode ea v o d. tt)
-decoding group.MOVEQ = always (λ a line x opmode ea v o d. tt)
-decoding group.IntoData = always (λ a line x opmode ea v o d. tt)
-decoding group.ArithmeticExtended = always (λ a line x opmode ea v o d. tt)
-decoding group.LogicDecimal = always (λ a line x opmode ea v o d. tt)
-decoding group.LogicPack = always (λ a line x opmode ea v o d. tt)
-decoding group.LogicExchange = always (λ a line x opmode ea v o d. tt)
-decoding group.LogicCompare = compare refl
-decoding group.WordIntoData = always (λ a line x opmode ea v o d. tt)
-decoding group.IntoAddress = always (λ a line x opmode ea v o d. tt)
-decoding group.ShiftRegister = always (λ a line x opmode ea v o d. tt)
-decoding group.ShiftMemory = always (λ a line x opmode ea v o d. tt)
-decoding group.BitField = always (λ a line x opmode ea v o d. tt)
-decoding group.LineA = always (λ a line x opmode ea v o d. tt)
-decoding group.LineF = always (λ a line x opmode ea v o d. tt)
-
-flat-cond : (b : Bool) (t u : Tree Instruction) → Flat t → Flat u → Flat (cond b t u)
-flat-cond true t u p q = p
-flat-cond false t u p q = q
-
-pub decoded-flat : (a : ℕ) (s : Group) (line x opmode ea v : ℕ) (o d : Operand) → Flat (decoded a s line x opmode ea v o d)
-decoded-flat a s line x opmode ea v o d = go (decoding s)
-  where
-    go : Decoding s → Flat (decoded a s line x opmode ea v o d)
-    go (always l) = live-flat (decoded a s line x opmode ea v o d) (l a line x opmode ea v o d)
-    go (unused e) = rw e tt
-    go (dynamic e) = rw e (flat-cond (eqb (ea / 8) 1) (movepDecoded x opmode o) _ (movep-flat x opmode o (kind? o)) tt)
-    go (compare e) = rw e (flat-cond (eqb (ea / 8) 1) (cmpmDecoded (sizeAt (opmode - 4)) o d) _ (cmpm-flat (sizeAt (opmode - 4)) o d (kind? o)) tt)
 
 live-cond : (b : Bool) (t u : Tree Instruction) → (b ≡ true → Live t) → (b ≡ false → Live u) → Live (cond b t u)
 live-cond true t u p q = p refl

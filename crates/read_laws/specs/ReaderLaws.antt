@@ -23,7 +23,8 @@ use Rattle.read_laws.specs.Statements.{Reads, reads}
 use Rattle.read_spec.specs.Accepted.{Accepted, Words, Longer}
 use Rattle.read_operand_laws.specs.TailLaws.{tail-complete, tail-sound, tail-clean}
 use Rattle.read_laws.specs.Every.{instruction-reads, group-sound}
-use Rattle.read_laws.specs.DecodedLaws.{Flat, decoded-flat, flat-got, flat-short, live-is, decoded-live}
+use Rattle.read_facts.specs.Flat.{Flat, decoded-flat}
+use Rattle.read_laws.specs.DecodedLaws.{flat-got, flat-short, live-is, decoded-live}
 use Rattle.read_laws.specs.WordLaws.{following-words, word-lt}
 use Rattle.isa.specs.declared.NoOperandOperation.the-variants.{NOP}
 use Rattle.isa.specs.declared.Instruction.the-variants.{NoOperand}
@@ -100,7 +101,7 @@ unfolding readOf
 complete a i rest h = ap readingOf (reader-complete a i h rest)
 
 -- ---- sound: what reads is accepted there, in plain form, and lays down the words read
-from-read : (o : Out Instruction) (i : Instruction) (n : ℕ) → readingOf o ≡ Read i n → (k : ℕ) × (r : List ℕ) × (o ≡ got i k r) × (n ≡ 2 * k)
+pub from-read : (o : Out Instruction) (i : Instruction) (n : ℕ) → readingOf o ≡ Read i n → (k : ℕ) × (r : List ℕ) × (o ≡ got i k r) × (n ≡ 2 * k)
 from-read (got j k r) i n e = let p : j ≡ i = cc in let q : 2 * k ≡ n = cc in (k, r, ap (λ (x : Instruction). got x k r) p, sym q)
 from-read short i n e = let z : _≡_ {A = ℕ} 0 1 = cc in absurd (omega arith)
 from-read none i n e = let z : _≡_ {A = ℕ} 0 1 = cc in absurd (omega arith)

@@ -14,6 +14,7 @@ use Rattle.isa.specs.declared.Instruction.the-variants.{Raw, NoOperand}
 use Rattle.numeric_spec.specs.Entry.{entryNumber, Inside}
 use Rattle.numeric_spec.specs.Form.{placeOf, formOf, numbersOf}
 use Rattle.numeric_spec.specs.Form as numeric
+use Rattle.sheet_spec.specs.declared.Kind.{Kind}
 use Rattle.sheet_spec.specs.declared.Kind.the-variants as kind
 use Rattle.sheet_spec.specs.Names.{bytes, namesOf}
 use Rattle.sheet_spec.specs.Line.{Token, literal, label, invalid}
@@ -26,13 +27,13 @@ use Rattle.isa_spec.specs.Ordinary.{Ordinary}
 use Rattle.sheet_size_facts.specs.Sorts.{variant-fitting}
 use Rattle.sheet_size_facts.specs.Rows.{row}
 
-fitted : (i : Instruction) → Ordinary i → (m : ℕ → Mark) → Fitting entries (kind.Instruction ∷ []) i m []
-fitted i l m =
+pub fitted : (i : Instruction) → Ordinary i → (m : ℕ → Mark) (ks : List Kind) → Fitting entries (kind.Instruction ∷ []) i m ks
+fitted i l m ks =
     let r = row {d = λ k. true} i in
     let law = r .law (subst Ordinary (sym (r .is)) l) in
-    subst (λ (j : Instruction). Fitting entries (kind.Instruction ∷ []) j m []) (r .is)
+    subst (λ (j : Instruction). Fitting entries (kind.Instruction ∷ []) j m ks) (r .is)
     (variant-fitting (record { form = entries; kind = kind.Instruction; suits = λ v h. h; names = λ n. (λ h. h, λ k top. refl); top = 98; untargeted = λ x. x })
-    (placeOf (r .con (r .z))) (λ h. ap (λ t. t .0) (law (r .z))) (r .sort) (r .con) (λ w. ap (λ t. (t .1, t .2)) (law w)) (r .z) m [])
+    (placeOf (r .con (r .z))) (λ h. ap (λ t. t .0) (law (r .z))) (r .sort) (r .con) (λ w. ap (λ t. (t .1, t .2)) (law w)) (r .z) m ks)
 
 names-some : (vs : List Token) → resolvesAll (λ k. some 0) vs ≡ true
 names-some [] = refl
@@ -43,7 +44,7 @@ names-some (invalid ∷ vs) = names-some vs
 pub every-line : (m : ℕ → Mark) (i : Instruction) → Ordinary i → Inside (formOf i) → Told m i
 unfolding formOf numbersOf
 every-line m i l h =
-    let f = fitted i l m in
+    let f = fitted i l m [] in
     let n = append-nil (numeric.payloadOf i) in
     let e : entries (f .untargeted) ≡ unaimed m (kind.Instruction ∷ []) (entries i) = sym (append-nil (entries (f .untargeted))) ∙ sym (rw n at (f .leaves [])) in
     let b = fields-numbers m (kind.Instruction ∷ []) (entries i) h in

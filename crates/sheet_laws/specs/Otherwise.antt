@@ -18,11 +18,11 @@ use Rattle.sheet_facts.specs.Listing.{as-in-order}
 use Rattle.sheet_size_facts.specs.Image.{noWords, encoded-is}
 use Rattle.sheet_size_facts.specs.Outcomes.{map-at, places-length, lines-length}
 
-require-is : (b : Bool) (k : ℕ) → b ≡ true → require b k ≡ inOrder
+pub require-is : (b : Bool) (k : ℕ) → b ≡ true → require b k ≡ inOrder
 require-is true k e = refl
 require-is false k e = absurd (false≢true e)
 
-and-fine : (u v : Outcome) → u ≡ inOrder → v ≡ inOrder → andThen u v ≡ inOrder
+pub and-fine : (u v : Outcome) → u ≡ inOrder → v ≡ inOrder → andThen u v ≡ inOrder
 and-fine u v p q = ap (λ w. andThen w v) p ∙ q
 
 all-in-order : {A : Type 0} (says : ℕ → A → Outcome) (d : A) (k : ℕ) (xs : List A) → ((j : ℕ) → j < length xs → (n : ℕ) → says n (getD xs j d) ≡ inOrder) → inTurn says k xs ≡ inOrder

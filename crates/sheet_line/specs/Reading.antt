@@ -23,10 +23,12 @@ use Rattle.sheet_spec.specs.Made.{resolvesAll, builtAs, ofLines}
 use Rattle.sheet_spec.specs.Spell.{Suits}
 use Rattle.sheet_facts.specs.Fields.{Sorted, of-number, of-target, of-place, of-variant, sorted, token-suits, suits-some}
 use Rattle.sheet_tokens.specs.Values.{valueOf}
+use Rattle.sheet_kinds.specs.Ahead as ahead
+use Rattle.sheet_kinds.specs.Ahead.{split}
 use Rattle.sheet_kinds.specs.Packed.{packed, kindAt}
-use Rattle.sheet_kinds.specs.Weight.{room, most, total, room-next, most-next, length-room}
+use Rattle.sheet_kinds.specs.Weight.{room, most, total, room-next, most-next}
 use Rattle.sheet_kinds.specs.Next.{kindsAfter}
-use Rattle.sheet_kinds.specs.NextLaws.{packed-first, packed-none, next-packed, packed-small}
+use Rattle.sheet_kinds.specs.NextLaws.{packed-none, next-packed}
 use Rattle.sheet_labels.specs.Labels.{numberIn, belowZero, saysLabel, namesLine, listed, labelledAll}
 use Rattle.sheet_labels.specs.LabelLaws.{names-token, resolves-more, length-pad, inPlaces, in-places-more, negativeAs, magnitudeAs, heldBy, built-held, labelled-more}
 use Rattle.sheet_line.specs.Value.{isSaid, variantPlace}
@@ -152,25 +154,8 @@ module _ (n : ℕ) (addresses line : List ℕ) {negative : List Bool} {magnitude
       go (k ∷ ks) p = refl
 
   module _ (some : kinds ≡ 0 → ⊥) where
-    -- the next kind apart
-    split : {P : Type 0} → ((ks : List Kind) → r .ahead ≡ kindAt (kinds % 32) ∷ ks → P) → P
-    split {P} f = go (r .ahead) refl
-      where
-        go : (ls : List Kind) → r .ahead ≡ ls → P
-        go [] a = absurd (some (r .packs ∙ ap packed a))
-        go (k ∷ ks) a =
-            let q : kindAt (kinds % 32) ≡ k = ap (λ (n : ℕ). kindAt (n % 32)) (r .packs ∙ ap packed a) ∙ packed-first k ks in
-            f ks (a ∙ ap (λ (x : Kind). x ∷ ks) (sym q))
-
     pub next-fits : (m : ℕ) → kindsAfter kinds m < 2 ^ 64
-    next-fits m =
-        split (λ ks a.
-        let k : Kind = kindAt (kinds % 32) in
-        let fits : total room (k ∷ ks) ≤ 10 = rw a at (r .fits) in
-        let next : List Kind = kindsOf k m ++ ks in
-        let p : packed next < 32 ^ 10 = packed-small 10 next (omega (arith, length-room next, room-next k ks m)) in
-        let z : kindsAfter kinds m ≡ packed next = ap (λ (x : ℕ). kindsAfter x m) (r .packs ∙ ap packed a) ∙ next-packed k ks m in
-        omega arith)
+    next-fits m = ahead.next-fits (r .ahead) (r .packs) some (r .fits) m
 
     -- the next field, which ends at `end`: its kind and what it says
     module _ (end : ℕ) (h : from ≤ length line) (g : end ≡ partEnd 9 line from) (k : Kind) (q : k ≡ kindAt (kinds % 32)) (w : Value)
@@ -185,13 +170,13 @@ module _ (n : ℕ) (addresses line : List ℕ) {negative : List Bool} {magnitude
       parts-on = rw (parts-at 9 line from h, part-is 9 line from end g, g)
 
       pub reading-none : isSaid w ≡ false → notMade ≡ lineMade n addresses (lineOf line)
-      reading-none t = split (λ ks a. refused (rw (a, ← q, parts-on) (from-none k ks f rest (rw i at t))))
+      reading-none t = split (r .ahead) (r .packs) some (λ ks a. refused (rw (a, ← q, parts-on) (from-none k ks f rest (rw i at t))))
 
       pub reading-on : n ≤ 4096 → isSaid w ≡ true
           → Reading n addresses line (set negative count (belowZero w)) (set magnitude count (numberIn addresses w)) (count + 1) (labelled || saysLabel w) (resolved && namesLine n w)
           (kindsAfter kinds (variantPlace w)) (end + 1)
       reading-on few-lines t =
-          split (λ ks a.
+          split (r .ahead) (r .packs) some (λ ks a.
           let v : Token = token k f in
           let m : ℕ = variantPlace (valueOf v) in
           let some-said : isSaid (valueOf v) ≡ true = rw i at t in

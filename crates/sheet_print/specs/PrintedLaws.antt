@@ -20,7 +20,7 @@ use Rattle.sheet_facts.specs.SheetLaws.{count-most}
 use Rattle.sheet_facts.specs.Lines.{line-grammar}
 use Rattle.sheet_passes.specs.PassLaws.{counted-most}
 use Rattle.sheet_spec.specs.Promises.{Translated}
-use Rattle.sheet_translate.specs.OutcomeLaws.{Sound, outcome-sound}
+use Rattle.sheet_size_facts.specs.OutcomeLaws.{Sound, outcome-sound}
 use Rattle.sheet_translate.specs.PlaceLaws.{sheet-places}
 use Rattle.print_spec.specs.Printed.{listingOf, printedOf, Put, Printed, tooLongInput}
 use Rattle.sheet_print.specs.Listing.{linesText, Laid, wideBy, notWide}

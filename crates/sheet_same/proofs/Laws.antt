@@ -15,7 +15,7 @@ use Rattle.sheet_size_facts.specs.Outcomes.{accepted}
 use Rattle.sheet_facts.specs.SheetLaws.{count-some}
 use Rattle.sheet_size_facts.specs.Bounds.{address-is}
 use Rattle.sheet_spec.specs.Promises.{Translated}
-use Rattle.sheet_translate.specs.OutcomeLaws.{Sound, outcome-sound}
+use Rattle.sheet_size_facts.specs.OutcomeLaws.{Sound, outcome-sound}
 use Rattle.sheet_translate.specs.PlaceLaws.{scratch-length, image-length, words-fit}
 use Rattle.sheet_translate.specs.Left.{left}
 

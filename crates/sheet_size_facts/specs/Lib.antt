@@ -8,5 +8,6 @@ pub mod Renamed
 pub mod Made
 pub mod Image
 pub mod Outcomes
+pub mod OutcomeLaws
 pub mod Bounds
 pub mod Counted

@@ -14,7 +14,7 @@ use Rattle.sheet_spec.specs.Made.{numberAs, isSome, resolves, resolvesAll, Line
 use Rattle.sheet_spec.specs.Sheet.{sizedAs}
 use Rattle.sheet_spec.specs.Promises.{InGrammar}
 use Rattle.sheet_facts.specs.Made.{made-back}
-use Rattle.sheet_size_facts.specs.Says.{entries, line-says}
+use Rattle.sheet_size_facts.specs.Says.{entries, line-says, line-makes}
 use Rattle.sheet_size_facts.specs.Turned.{every, given, Spelt, Bounded, Turned}
 use Rattle.sheet_size_facts.specs.Lawful.{Follows, Goes, quietly, aimed}
 use Rattle.sheet_size_facts.specs.Renamed.{instruction-turned}
@@ -123,3 +123,19 @@ line-made d p g h = go (made (given d (λ k. 0)) p) refl h
           line = λ f b. line-again d i (s .0) (s .2) f b;
         }
     go (turnedBack k) e n = absurd (omega (arith, made-back (given d (λ k. 0)) p k e))
+
+-- a line of u where every label is made 0, and of i where labels are made numbers of 32 bits, is measured as i
+pub line-size : (d : ℕ → Bool) (g : ℕ → ℕ) → Bounded d g → (vs : List Token) (u i : Instruction) → Line (every (λ k. 0)) vs u → Line (given d g) vs i
+    → sizedAs (made (given d (λ k. 0)) (says vs)) ≡ sizeOf i
+line-size d g b vs u i l m =
+    let none : (t : Bool) → _≡_ {A = ℕ} (Option·getD (cond t (some 0) none) 0) 0 = λ t. elim t [ true ↦ refl | false ↦ refl ] in
+    let z : Line (given d (λ k. 0)) vs u = record {
+      grammar = l .grammar;
+      labels = names-all d (λ k. 0) g vs ∙ m .labels;
+      numbers = numbers-given d (λ k. 0) vs ∙ ap (λ (f : ℕ → ℕ). map (numberAs (every f)) vs) (λ j k. none (d k) j) ∙ l .numbers;
+      inside = l .inside;
+    } in
+    let t = line-turned d u vs z in
+    let e : makes (t .made (zeroed d g)) ≡ makes i = sym (line-makes (given d g) vs (t .made (zeroed d g)) (line-again d u vs z g b)) ∙ line-makes (given d g) vs i m in
+    let q : t .made (zeroed d g) ≡ i = cc in
+    ap sizedAs (line-makes (given d (λ k. 0)) vs u z) ∙ sym (t .good .size (zeroed d g)) ∙ ap sizeOf q

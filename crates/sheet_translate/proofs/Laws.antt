@@ -34,7 +34,7 @@ use Rattle.sheet_passes.specs.Settle.{sizedSheet, Settled}
 use Rattle.sheet_passes.specs.PassLaws.{total-most, filled-addresses}
 use Rattle.sheet_passes.specs.SettleLaws.{sized-passed, sized-settled, settled-fine}
 use Rattle.sheet_translate.specs.Translated.{outcomeNumber, SizedSheet}
-use Rattle.sheet_translate.specs.OutcomeLaws.{Sound, sizes-sound, encoded-sound}
+use Rattle.sheet_size_facts.specs.OutcomeLaws.{Sound, sizes-sound, encoded-sound}
 use Rattle.sheet_translate.specs.StageLaws.{opening-outside, closing-outside, Opened, opened, Closed, closed, by-outcome, turned-away}
 use Rattle.sheet_translate.specs.PlaceLaws.{over-take, over-same, sheet-places, filled-length, from-over}
 

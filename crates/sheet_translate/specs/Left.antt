@@ -9,7 +9,7 @@ use Rattle.sheet_spec.specs.Sheet.{startIn, sheetIn, lineCount, wordCount, addr
 use Rattle.sheet_spec.specs.Translate.{Outcome, inOrder, refused, over, outcomeOf, listedAs, listedOf, imageAs, imageOf, scratchAs, scratchOf}
 use Rattle.sheet_size_facts.specs.Counted.{image-counts}
 use Rattle.sheet_spec.specs.Promises.{Translated}
-use Rattle.sheet_translate.specs.OutcomeLaws.{Sound, outcome-sound}
+use Rattle.sheet_size_facts.specs.OutcomeLaws.{Sound, outcome-sound}
 use Rattle.sheet_translate.specs.PlaceLaws.{over-take, sheet-places}
 
 -- ---- an answer with no number is an accepted sheet's

@@ -14,7 +14,7 @@ use Rattle.sheet_spec.specs.Promises.{Translated}
 use Rattle.sheet_size_facts.specs.Outcomes.{accepted}
 use Rattle.sheet_size_facts.specs.Counted.{image-counts}
 use Rattle.sheet_start.specs.StartLine.{startAt}
-use Rattle.sheet_translate.specs.OutcomeLaws.{Sound, outcome-sound}
+use Rattle.sheet_size_facts.specs.OutcomeLaws.{Sound, outcome-sound}
 use Rattle.srecord_spec.specs.declared.Written.{Written}
 use Rattle.srecord_spec.specs.Write.{imageText, writeOutcome, writtenOf, textLeft}
 use Rattle.srecord_spec.specs.Printed.{sheetRecords}

@@ -1,3 +1,4 @@
 pub mod LineForm
 pub mod Line
 pub mod LineLaws
+pub mod LineRead

@@ -8,7 +8,7 @@ use lib.ListN.{length, drop}
 use borrow.Author.Tests.{le-leb, lt-leb}
 use Rattle.base_text.specs.Wrote.{Wrote}
 use Rattle.srecord_spec.specs.Write.{imageText, writeOutcome, writtenOf, textLeft}
-use Rattle.srecord_spec.specs.Promises.{RecordsWritten, PrintedInto}
+use Rattle.srecord_spec.specs.Promises.{RecordsWritten}
 use Rattle.srecord_write.specs.Text.{textLength}
 use Rattle.srecord_write.specs.LengthLaws.{text-length}
 
@@ -34,7 +34,3 @@ module _ (start : ℕ) (image lent : List ℕ) where
       let n : count ≡ length (imageText start image) = omega (arith, w .next) in
       let i : left ≡ imageText start image ++ drop (0 + length (imageText start image)) lent = w .image in
       record { answer = rw (e, f, n); text = rw (e, f) (simp zero-add at i) }
-
--- a text written from the first place on is printed
-pub printed-into : {buf t out : List ℕ} {n : ℕ} → Wrote buf 0 t out n → PrintedInto t buf out n
-printed-into w = record { count = omega (arith, w .next); buffer = w .image }

@@ -6,10 +6,12 @@ ghost use mathlib.Core.Path.{_≡_};
 ghost use Prim.Native.Nat.{_≤_};
 ghost use lib.ListN.{length, replicate};
 ghost use lib.Dec.{leb};
-ghost use Rattle.srecords.specs.Answer.{Answered, noAnswer, isAnswered, answerText, loadedInto, imageAfter};
+ghost use Rattle.base_list.specs.Answers.{Answered};
+ghost use Rattle.srecords.specs.Answer.{isAnswered, answerText, loadedInto, imageAfter};
 ghost use Rattle.srecord_line.specs.Line.{isRead, wordsLeft};
 ghost use Rattle.srecord_line.specs.LineForm.{imageLineStart, imageLineWords};
 ghost use Rattle.srecord_spec.specs.Printed.{writtenText, loadedText};
+use base_list::Answer;
 
 // 1 MiB, and a place to see that there is more.
 fn list_places() -> [u8; 1048577]
@@ -32,21 +34,6 @@ fn output_places() -> [u8; 262144]
     [0; 262144]
 }
 
-// How many bytes of the output are an answer, or that the list is not in the form.
-struct Answer {
-    pub ok: bool,
-    pub count: usize,
-}
-
-fn no_answer() -> Answer
-    ensures { λ r. ⌜ r ≡ noAnswer ⌝ }
-{
-    Answer {
-        ok: false,
-        count: 0,
-    }
-}
-
 // An image line, written into the first `room` bytes.
 fn written(line: &[u8], room: usize, image: &mut [u16], out: &mut [u8]) -> Answer
     requires { ⌜ (92 ≤ length (now out)) × (room ≤ length (now out)) ⌝ }
@@ -55,7 +42,7 @@ fn written(line: &[u8], room: usize, image: &mut [u16], out: &mut [u8]) -> Answe
 {
     let l = srecord_line::read_image_line(line, image);
     if !l.ok {
-        return no_answer();
+        return base_list::no_answer();
     }
     let count = l.count;
     Answer {
@@ -71,7 +58,7 @@ fn loaded(text: &[u8], room: usize, image: &mut [u16], out: &mut [u8]) -> Answer
     ensures { λ r. ⌜ now (image .exit) ≡ loadedInto (now (text .entry)) room (now (image .entry)) ⌝ }
 {
     if 45056 < room {
-        return no_answer();
+        return base_list::no_answer();
     }
     Answer {
         ok: true,
@@ -91,7 +78,7 @@ fn answer_by(way: usize, bytes: &[u8], room: usize, image: &mut [u16], out: &mut
     if way == 1 {
         return loaded(bytes, room, image, out);
     }
-    no_answer()
+    base_list::no_answer()
 }
 
 // The answer and an empty line.

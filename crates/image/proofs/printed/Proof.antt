@@ -4,7 +4,7 @@ use Rattle.image.proofs.printed.Tie as tie
 use native.Mathlib.Omega.{arith}
 use lib.ListN.{length}
 use Rattle.base_facts.specs.Tests.{leb-true, leb-not}
-use Rattle.srecord_write.specs.WrittenLaws.{printed-into}
+use Rattle.srecord_facts.specs.Printing.{printed-into}
 use Rattle.srecord_spec.specs.Printed.{imagePrinted}
 
 returns : tie.Need-returns

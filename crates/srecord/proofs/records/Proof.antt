@@ -9,7 +9,7 @@ use lib.ListN.{length-take}
 use Rattle.sheet_start.specs.declared.StartAt.{StartAt}
 use Rattle.print_parts.specs.RefusalLaws.{refusal-is}
 use Rattle.srecord_spec.specs.Printed.{sheetRecords}
-use Rattle.srecord_write.specs.WrittenLaws.{printed-into}
+use Rattle.srecord_facts.specs.Printing.{printed-into}
 use Rattle.srecord.specs.RecordsLaws.{recordable, recorded}
 
 array-share-prefix-image : tie.Need-array-share-prefix-image

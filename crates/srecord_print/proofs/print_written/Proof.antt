@@ -4,7 +4,7 @@ use Rattle.srecord_print.proofs.print_written.Tie as tie
 use native.Mathlib.Omega.{arith}
 use mathlib.Core.Path.{sym}
 use lib.ListN.{length-take}
-use Rattle.srecord_write.specs.WrittenLaws.{printed-into}
+use Rattle.srecord_facts.specs.Printing.{printed-into}
 use Rattle.srecord_print.specs.PrintLaws.{written-yes, written-no}
 
 slice-aggregate-write-records : tie.Need-slice-aggregate-write-records

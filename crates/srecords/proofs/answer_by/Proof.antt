@@ -2,7 +2,7 @@ use borrow.Author.Needs.{needs}
 use Rattle.srecords.proofs.answer_by.Statement.{statement}
 use Rattle.srecords.proofs.answer_by.Tie as tie
 use Rattle.base_facts.specs.Tests.{eqb-is, eqb-not}
-use Rattle.srecords.specs.AnswerLaws.{unanswered}
+use Rattle.base_list.specs.Answers.{unanswered}
 
 returns : tie.Need-returns
 returns c =

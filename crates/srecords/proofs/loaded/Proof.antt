@@ -5,7 +5,7 @@ use native.Mathlib.Omega.{arith}
 use lib.ListN.{length-take}
 use lib.Seq.{length-take-le}
 use Rattle.base_facts.specs.Tests.{leb-true, leb-not}
-use Rattle.srecords.specs.AnswerLaws.{answered, unanswered}
+use Rattle.base_list.specs.Answers.{answered, unanswered}
 
 returns : tie.Need-returns
 returns c =
@@ -23,8 +23,9 @@ returns-2 c =
     let a = c .before .before .before .before .before .before .before .before .before .before .before .args in
     let p = c .before .before .before .before .print-loaded in
     let n = length-take-le (a .room) (a .image .now) (omega arith) in
+    let w = rw n at (p .ensures .0 .0) in
     let e = leb-true (a .room) 45056 (c .before .before .before .before .before .before .before .if1 .left) in
-    (answered _ (p .result) e (rw n at (p .ensures .0 .0)) (p .ensures .0 .1), rw (e, p .ensures .1))
+    (answered _ (p .result) e (w .count) (w .buffer) (p .ensures .0 .1), rw (e, p .ensures .1))
 
 pub loaded-spec : {M : Type 1} → statement M
 loaded-spec =

@@ -4,7 +4,8 @@ use Rattle.srecords.proofs.written.Tie as tie
 use native.Mathlib.Omega.{arith}
 use borrow.Author.Tests.{not-true, not-false}
 use lib.ListN.{length-take}
-use Rattle.srecords.specs.AnswerLaws.{answered, unanswered, lined, unlined}
+use Rattle.srecord_line.specs.LineRead.{lined, unlined}
+use Rattle.base_list.specs.Answers.{answered, unanswered}
 
 returns : tie.Need-returns
 returns c =
@@ -31,7 +32,8 @@ returns-2 c =
     let a = c .before .before .before .before .before .before .before .before .before .before .before .before .before .before .args in
     let l = lined (a .line .now) (a .image .now) _ (r .result) (r .ensures .0) (r .ensures .1) (not-false _ (c .before .before .before .before .before .if1 .left)) in
     let p = c .before .before .print-written in
-    (answered _ (p .result) (l .yes) (rw (l .start, l .image) at (p .ensures .0)) (p .ensures .1), r .ensures .1)
+    let w = rw (l .start, l .image) at (p .ensures .0) in
+    (answered _ (p .result) (l .yes) (w .count) (w .buffer) (p .ensures .1), r .ensures .1)
 
 pub written-spec : {M : Type 1} → statement M
 written-spec =

@@ -1,4 +1,4 @@
--- Laws of answers. Assumes nothing.
+-- What is known where an image line was read, and where it was none. Assumes nothing.
 use mathlib.Core.Path.{_≡_, refl, sym, ap, _∙_}
 use mathlib.Core.Bool.{Bool, true, false, false≢true}
 use mathlib.Core.List.{List}
@@ -7,21 +7,11 @@ use native.Mathlib.Omega.{arith}
 use lib.ListN.{length, take, drop, length-append}
 use lib.Seq.{take-at}
 use Rattle.base_facts.specs.Tests.{cond-true, cond-false}
-use Rattle.srecord_spec.specs.Promises.{PrintedInto}
 use Rattle.sheet_spec.specs.Translate.{over}
 use Rattle.srecord_line.specs.declared.ImageLine.{ImageLine}
 use Rattle.srecord_line.specs.Line.{isRead, noLine, lineOf, wordsLeft}
 use Rattle.srecord_line.specs.LineForm.{imageLineStart, imageLineWords}
-use Rattle.srecords.specs.declared.Answer.{Answer}
-use Rattle.srecords.specs.Answer.{noAnswer, Answered}
 
-pub answered : {b : Bool} (t : List ℕ) {out out′ : List ℕ} (n : ℕ) → b ≡ true → PrintedInto t out out′ n → n ≤ length out → Answered b t out out′ (record { ok = true; count = n })
-answered t n e w h = record { answer = rw (e, w .count); buffer = rw e (w .buffer); few = h }
-
-pub unanswered : {b : Bool} (t : List ℕ) {out : List ℕ} {r : Answer} → b ≡ false → r ≡ noAnswer → Answered b t out out r
-unanswered t e f = record { answer = rw e f; buffer = rw e; few = rw f (omega arith) }
-
--- ---- an image line
 module _ (line words left : List ℕ) (l : ImageLine) (a : l ≡ lineOf line (length words)) (b : left ≡ wordsLeft line words) where
   -- it is one
   pub record Lined : Type 0 where
