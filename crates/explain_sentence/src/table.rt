@@ -6,8 +6,8 @@ ghost use Rattle.base_spec.specs.Parts.{fields};
 ghost use Rattle.explain_spec.specs.Sentence.{lineTexts, sheetTexts, fieldTexts, reasonTexts};
 
 // What is wrong with a line of a sheet or a record of a text, or with what is printed without a line.
-pub fn line_texts() -> [u8; 937]
-    ensures { λ r. ⌜ (fields r ≡ [] ∷ lineTexts) × (937 ≡ length r) ⌝ }
+pub fn line_texts() -> [u8; 939]
+    ensures { λ r. ⌜ (fields r ≡ [] ∷ lineTexts) × (939 ≡ length r) ⌝ }
 {
     *b"\
           \tno such instruction: an `Extended` base above 8, a full word there that is reserved or has another spelling, or a word outside 40960 to 45055 for LINEA, 61440 to 65535 for LINEF\
@@ -24,29 +24,33 @@ pub fn line_texts() -> [u8; 937]
           \tnot S1, S2, S3, or S7, S8, S9 without data; not capitals and a line feed; a wrong length; data bytes odd in number; or the record is missing, or stands after the closing one\
           \tthe checksum of this S-record is wrong\
           \tthis S-record does not begin where the last ended, passes 2^32, or closes with another start\
-          \tnot of the MC68000: the instruction, its size or an operand is of later processors"
+          \tnot of the MC68000: the instruction, its size or an operand is of later processors\
+          \t\
+          \t"
 }
 
 // What is wrong outside lines.
-pub fn sheet_texts() -> [u8; 476]
-    ensures { λ r. ⌜ (fields r ≡ [] ∷ sheetTexts) × (476 ≡ length r) ⌝ }
+pub fn sheet_texts() -> [u8; 851]
+    ensures { λ r. ⌜ (fields r ≡ [] ∷ sheetTexts) × (851 ≡ length r) ⌝ }
 {
     *b"\
           \t\
           \t\
           \t\
           \t\
-          \t\
-          \t\
+          \tthe image is empty, or ends before the instruction at word # does (the first is 0)\
+          \tthe words of the image from word # on (the first is 0) begin with no instruction, and no instruction begins with them\
           \tthe START line is not in the form: `START`, a tab and an address from 0 to 4294967295\
           \t\
-          \tthe start of a sheet is odd, or the end is above 2^32\
-          \tthe sheet is empty, is longer than 65,536 bytes, does not end in a line feed, or does not have 1 to 4,096 instruction lines; or S-records are longer than 1 MiB\
-          \tmore lines than places are lent (4,096), more words than there is room for (`sheet` and `srecord` have 16,384, `image` 45,056), or a text longer than the bytes lent\
+          \tthe start is odd, or the end is above 2^32\
+          \tthe sheet is empty, is over 65,536 bytes, does not end in a line feed, or does not have 1 to 4,096 instruction lines; S-records are over 1 MiB; or an image has over 4,096 lines\
+          \tmore lines than places are lent (4,096), more words than there is room for (`sheet` and `srecord` have 16,384, `image` and `unsheet` 45,056), or a text longer than the bytes lent\
           \t\
           \t\
           \t\
-          \t"
+          \t\
+          \tthe branch at word # of the image (the first is 0) lands on no line's first word\
+          \tthe sheet of the image is longer than 65,536 bytes, or than the bytes lent"
 }
 
 // The fields of 2.
