@@ -1,0 +1,4 @@
+pub mod Table
+pub mod Field
+pub mod Targets
+pub mod FieldLaws
