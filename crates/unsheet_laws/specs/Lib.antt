@@ -1,0 +1,11 @@
+pub mod LinesLaws
+pub mod Lands
+pub mod Found
+pub mod Cases
+pub mod OperandInside
+pub mod ReadInside
+pub mod Tokens
+pub mod FoundLines
+pub mod FoundText
+pub mod SheetImage
+pub mod ContractLaws

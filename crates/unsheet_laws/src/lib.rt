@@ -1,0 +1,1 @@
+// Laws alone: the sheet of an image, and translating it back (N6).
