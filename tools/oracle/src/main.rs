@@ -1,5 +1,6 @@
-//! Compares an encoder, a reader, the functions on values, a sheet translator
-//! and a writer and reader of S-records with the Rust original and with judges.
+//! Compares an encoder, a reader, the functions on values, a sheet translator, a
+//! writer and reader of S-records and what writes the sheet of an image with the
+//! Rust original and with judges.
 //! README.md says how.
 
 mod answer;
@@ -12,6 +13,7 @@ mod draft;
 mod fill;
 mod generate;
 mod given;
+mod image;
 mod immediate_ends;
 mod immediates;
 mod instructions;
@@ -31,7 +33,9 @@ mod schema;
 mod sheet;
 mod short_branch;
 mod srecord;
+mod stored;
 mod systematic;
+mod unsheet;
 mod values;
 mod written;
 
@@ -56,7 +60,8 @@ const USAGE: &str =
        | values-answer | values-list | values-replay PROGRAM
        | sheet-answer | sheet-one | sheet-list SEED | sheet-replay PROGRAM SEED COUNT
        | sheet-whole | sheet-whole-source | sheet-whole-image | sheet-whole-time ROUNDS
-       | srecord-answer | srecord-list SEED | srecord-replay PROGRAM SEED COUNT";
+       | srecord-answer | srecord-list SEED | srecord-replay PROGRAM SEED COUNT
+       | unsheet-answer | unsheet-list SEED | unsheet-replay PROGRAM SEED COUNT";
 
 fn main() -> ExitCode {
     let arguments: Vec<String> = env::args().skip(1).collect();
@@ -101,6 +106,8 @@ fn run(arguments: &[&str]) -> Result<usize, Box<dyn Error>> {
         ["sheet-list", seed] => sheet::list::write(seed.parse()?, &mut output())?,
         ["srecord-answer"] => srecord::answer::answer_list(&input()?, &mut output())?,
         ["srecord-list", seed] => srecord::list::write(seed.parse()?, &mut output())?,
+        ["unsheet-answer"] => unsheet::answer::answer_list(&input()?, &mut output())?,
+        ["unsheet-list", seed] => unsheet::list::write(seed.parse()?, &mut output())?,
         ["sheet-whole"] => output().write_all(sheet::whole::sheet().as_bytes())?,
         ["sheet-whole-source"] => output().write_all(sheet::whole::source().as_bytes())?,
         ["sheet-whole-image"] => output().write_all(&sheet::whole::image())?,
@@ -126,6 +133,7 @@ fn against(command: &str, program: &str, seed: u64, count: usize) -> Result<usiz
         "bytes-replay" => different(bytes::replay::replay(program, seed, count)?),
         "sheet-replay" => different(sheet::replay::replay(program, seed, count)?),
         "srecord-replay" => different(srecord::replay::replay(program, seed, count)?),
+        "unsheet-replay" => different(unsheet::replay::replay(program, seed, count)?),
         _ => Err(USAGE.into()),
     }
 }

@@ -1,7 +1,7 @@
 //! Worked encodings and readings written down by hand: the text, the line and the answer.
 
 use crate::requests::Requests;
-use crate::{answer, reading, sheet, srecord};
+use crate::{answer, reading, sheet, srecord, unsheet};
 
 const MANUAL: &str = include_str!("../manual.txt");
 const READING: &str = include_str!("../reading.txt");
@@ -56,6 +56,7 @@ pub fn check() -> usize {
         + differing("readings for the MC68000", &readings_68000(), second)
         + sheet::manual::check()
         + srecord::manual::check()
+        + unsheet::manual::check()
 }
 
 fn differing(what: &str, examples: &[Example], judge: fn(&[u8]) -> (String, Requests)) -> usize {

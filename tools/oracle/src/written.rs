@@ -7,19 +7,22 @@ trait Written {
     fn write(&self, numbers: &mut Vec<i128>);
 }
 
-/// The numeric form of `instruction`, without an address.
-pub fn numbers(instruction: &Instruction) -> String {
+/// The numbers of `instruction`, without an address.
+pub fn values(instruction: &Instruction) -> Vec<i128> {
     let mut numbers = Vec::new();
     instruction.write(&mut numbers);
-    let numbers: Vec<String> = numbers.iter().map(i128::to_string).collect();
+    numbers
+}
+
+/// The numeric form of `instruction`, without an address.
+pub fn numbers(instruction: &Instruction) -> String {
+    let numbers: Vec<String> = values(instruction).iter().map(i128::to_string).collect();
     numbers.join("\t")
 }
 
 /// The place of `instruction` among the variants.
 pub fn place(instruction: &Instruction) -> usize {
-    let mut numbers = Vec::new();
-    instruction.write(&mut numbers);
-    numbers[0] as usize
+    values(instruction)[0] as usize
 }
 
 macro_rules! number {

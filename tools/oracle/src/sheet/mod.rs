@@ -3,13 +3,13 @@
 
 pub mod answer;
 mod cases;
-mod generate;
-mod judge;
-mod line;
+pub mod generate;
+pub mod judge;
+pub mod line;
 pub mod list;
-mod made;
+pub mod made;
 pub mod manual;
-mod record;
+pub mod record;
 pub mod replay;
 mod spoil;
 #[cfg(test)]

@@ -3,8 +3,8 @@
 
 use std::io::{self, Write};
 
-use super::image::Image;
-use crate::numeric::digits;
+use crate::image::Image;
+use crate::stored;
 
 /// The bytes that may be lent for a text, and the words for an image.
 pub const MOST_BYTES: usize = 262_144;
@@ -70,20 +70,15 @@ impl Case {
 
     /// The first case of a list and the rest, if it is in the form.
     pub fn first(list: &[u8]) -> Option<(Case, &[u8])> {
-        let end = list.iter().position(|byte| *byte == b'\n')?;
-        let (header, rest) = (&list[..end], &list[end + 1..]);
-        let fields = header.split(|byte| *byte == b'\t').map(digits);
-        let [Some(bytes), Some(way), Some(lent)] = fields.collect::<Vec<_>>()[..] else {
-            return None;
-        };
+        let first = stored::first(list)?;
+        let [way, lent] = first.numbers;
         let way = Way::of_number(way)?;
         let lent = usize::try_from(lent).ok()?;
-        let bytes = usize::try_from(bytes).ok()?;
         if lent > way.most() {
             return None;
         }
-        let payload = rest.get(..bytes)?.to_vec();
+        let payload = first.payload.to_vec();
         let case = Case { way, lent, payload };
-        Some((case, &rest[bytes..]))
+        Some((case, first.rest))
     }
 }

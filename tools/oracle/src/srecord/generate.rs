@@ -2,10 +2,10 @@
 //! something spoiled.
 
 use super::case::{Case, Way, MOST_WORDS};
-use super::image::Image;
 use super::judge::write;
 use super::record::{most_data, record, takes, text, Record};
 use super::spoil::{spoiled_records, spoiled_text};
+use crate::image::Image;
 use crate::random::Random;
 use crate::values::ADDRESSES;
 

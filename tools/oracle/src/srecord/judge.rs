@@ -1,7 +1,7 @@
 //! An image as S-records, and the image that S-records give, each or its
 //! refusal, as the change request has them.
 
-use super::image::Image;
+use crate::image::Image;
 
 /// No address is at or past it.
 const ADDRESSES: u64 = 1 << 32;

@@ -1,9 +1,10 @@
 //! Worked S-records written down by hand.
 
-use super::answer::{answer, NOT_IN_FORM};
+use super::answer::answer;
 use super::case::{Case, Way};
 use crate::manual::{count_different, parted, spelled_out, Outcome};
 use crate::requests::Requests;
+use crate::stored::NOT_IN_FORM;
 
 const SRECORDS: &str = include_str!("../../srecords.txt");
 

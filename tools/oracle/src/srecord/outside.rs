@@ -47,7 +47,7 @@ const HEADERS: [&[u8]; 42] = [
 ];
 
 /// What is not the line of an image.
-const IMAGES: [&[u8]; 33] = [
+pub const IMAGES: [&[u8]; 33] = [
     b"",
     b"0",
     b"\n",

@@ -2,7 +2,7 @@
 
 use std::io;
 
-use super::answer::{answer, answer_list, LONGEST, NOT_IN_FORM};
+use super::answer::{answer, answer_list};
 use super::case::Case;
 use super::generate::case;
 use super::{manual, outside};
@@ -10,6 +10,7 @@ use crate::batch::Lists;
 use crate::compare::{Comparison, Expected};
 use crate::random::Random;
 use crate::requests::Requests;
+use crate::stored::{LONGEST, NOT_IN_FORM};
 
 /// Compares lists that are not in the form, the worked cases, and `count`
 /// random ones of `seed`.

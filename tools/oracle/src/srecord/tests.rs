@@ -1,15 +1,16 @@
 use std::collections::BTreeSet;
 
-use super::answer::{answer, answer_list, LONGEST, NOT_IN_FORM};
+use super::answer::{answer, answer_list};
 use super::case::{Case, Way, MOST_BYTES, MOST_WORDS};
 use super::cases::{faults, order, written};
 use super::generate::{image, records};
-use super::image::Image;
 use super::judge::{read, write};
 use super::outside;
 use super::record::text;
 use super::{list, manual};
+use crate::image::Image;
 use crate::random::Random;
+use crate::stored::{LONGEST, NOT_IN_FORM};
 
 const SEED: u64 = 68020;
 

@@ -1,8 +1,8 @@
 //! Images to write.
 
 use super::super::case::{Case, MOST_BYTES};
-use super::super::image::Image;
 use super::START;
+use crate::image::Image;
 
 /// The bytes of a written data record without its data, of a closing one, and
 /// of a record's most words.

@@ -1,0 +1,61 @@
+//! The stored list of images.
+
+use std::collections::HashSet;
+use std::io::{self, Write};
+use std::ops::RangeInclusive;
+
+use super::case::Case;
+use super::cases::{
+    bounds, branches, broken, extended, instructions, large, lent, order, sheets, targets,
+};
+use super::generate::case;
+use super::manual;
+use crate::random::Random;
+
+/// Random cases: how many, of how many bytes.
+const RANDOM: [(usize, RangeInclusive<usize>); 2] = [(200, 1..=600), (10, 1_000..=5_000)];
+
+/// A header that is not in the form, with too much lent.
+const LAST: &[u8] = b"7\t70001\n0\t4E71\n";
+
+pub fn write(seed: u64, output: &mut impl Write) -> io::Result<()> {
+    for case in cases(seed) {
+        case.write(output)?;
+    }
+    output.write_all(LAST)?;
+    output.flush()
+}
+
+/// The cases, none twice.
+pub fn cases(seed: u64) -> Vec<Case> {
+    let mut random = Random::new(seed);
+    let examples = manual::examples().into_iter();
+    let all = [
+        examples.map(|example| example.case).collect(),
+        bounds::all(),
+        branches::all(),
+        targets::all(),
+        extended::all(),
+        broken::all(),
+        order::all(),
+        lent::all(),
+        instructions::all(seed),
+        sheets::all(seed, &mut random),
+        sampled(&mut random),
+        large::all(),
+    ];
+    let mut seen = HashSet::new();
+    let mut all = all.concat();
+    all.retain(|case| seen.insert(case.clone()));
+    all
+}
+
+fn sampled(random: &mut Random) -> Vec<Case> {
+    let mut found = Vec::new();
+    for (count, bytes) in RANDOM {
+        let cases = std::iter::repeat_with(|| case(random));
+        let fitting = cases.filter(|case| bytes.contains(&case.payload.len()));
+        found.extend(fitting.take(count));
+    }
+    found
+}
