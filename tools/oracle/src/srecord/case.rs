@@ -3,8 +3,9 @@
 
 use std::io::{self, Write};
 
+use super::answer::answer;
 use crate::image::Image;
-use crate::stored;
+use crate::stored::{self, Asked};
 
 /// The bytes that may be lent for a text, and the words for an image.
 pub const MOST_BYTES: usize = 262_144;
@@ -61,15 +62,16 @@ impl Case {
             payload: text.into(),
         }
     }
+}
 
-    pub fn write(&self, output: &mut impl Write) -> io::Result<()> {
+impl Asked for Case {
+    fn write(&self, output: &mut impl Write) -> io::Result<()> {
         let (bytes, way) = (self.payload.len(), self.way.number());
         writeln!(output, "{bytes}\t{way}\t{}", self.lent)?;
         output.write_all(&self.payload)
     }
 
-    /// The first case of a list and the rest, if it is in the form.
-    pub fn first(list: &[u8]) -> Option<(Case, &[u8])> {
+    fn first(list: &[u8]) -> Option<(Case, &[u8])> {
         let first = stored::first(list)?;
         let [way, lent] = first.numbers;
         let way = Way::of_number(way)?;
@@ -80,5 +82,12 @@ impl Case {
         let payload = first.payload.to_vec();
         let case = Case { way, lent, payload };
         Some((case, first.rest))
+    }
+    fn payload(&self) -> &[u8] {
+        &self.payload
+    }
+
+    fn answer(&self) -> Option<String> {
+        answer(self)
     }
 }

@@ -1,6 +1,5 @@
 //! The stored list of S-records.
 
-use std::collections::HashSet;
 use std::io::{self, Write};
 use std::ops::RangeInclusive;
 
@@ -9,6 +8,7 @@ use super::cases::{bounds, faults, forms, lent, mixes, order, written};
 use super::generate::case;
 use super::manual;
 use crate::random::Random;
+use crate::stored;
 
 /// Random cases: how many, of how many bytes.
 const RANDOM: [(usize, RangeInclusive<usize>); 2] = [(200, 1..=600), (20, 1_000..=3_000)];
@@ -17,11 +17,7 @@ const RANDOM: [(usize, RangeInclusive<usize>); 2] = [(200, 1..=600), (20, 1_000.
 const LAST: &[u8] = b"0\t2\t0\n";
 
 pub fn write(seed: u64, output: &mut impl Write) -> io::Result<()> {
-    for case in cases(seed) {
-        case.write(output)?;
-    }
-    output.write_all(LAST)?;
-    output.flush()
+    stored::write_list(&cases(seed), LAST, output)
 }
 
 /// The cases, none twice.
@@ -37,20 +33,7 @@ pub fn cases(seed: u64) -> Vec<Case> {
         forms::all(),
         lent::all(),
         written::all(),
-        sampled(&mut random),
+        stored::sampled(&RANDOM, case, &mut random),
     ];
-    let mut seen = HashSet::new();
-    let mut all = all.concat();
-    all.retain(|case| seen.insert(case.clone()));
-    all
-}
-
-fn sampled(random: &mut Random) -> Vec<Case> {
-    let mut found = Vec::new();
-    for (count, bytes) in RANDOM {
-        let cases = std::iter::repeat_with(|| case(random));
-        let fitting = cases.filter(|case| bytes.contains(&case.payload.len()));
-        found.extend(fitting.take(count));
-    }
-    found
+    stored::distinct(all.concat())
 }

@@ -10,7 +10,7 @@ use super::record::text;
 use super::{list, manual};
 use crate::image::Image;
 use crate::random::Random;
-use crate::stored::{LONGEST, NOT_IN_FORM};
+use crate::stored::{Asked, LONGEST, NOT_IN_FORM};
 
 const SEED: u64 = 68020;
 

@@ -28,11 +28,5 @@ impl Refused {
 
 /// The answers to a stored list, each followed by an empty line.
 pub fn answer_list(list: &[u8], output: &mut impl Write) -> io::Result<()> {
-    stored::answer_list(first, list, output)
-}
-
-/// The answer to the first case of a list, and the rest.
-fn first(list: &[u8]) -> Option<(String, &[u8])> {
-    let (case, rest) = Case::first(list)?;
-    Some((answer(&case)?, rest))
+    stored::answer_list::<Case>(list, output)
 }

@@ -1,6 +1,5 @@
 //! Sheets through the sheet's judge: to the images that they give.
 
-use super::judge::{unsheet, MOST_BYTES};
 use crate::image::Image;
 use crate::sheet::judge::judge;
 use crate::sheet::record::{Record, MOST_ROOM, PLACES};
@@ -20,10 +19,8 @@ pub fn translated(text: impl Into<Vec<u8>>) -> Option<Image> {
     })
 }
 
-/// Stops unless the sheet of an image gives start and image again, and they the
-/// same sheet.
+/// Stops unless the sheet of an image gives start and image again.
 pub fn check(image: &Image, text: &str) {
     let back = translated(text).expect("the sheet of an image is accepted");
     assert_eq!(&back, image, "{text}");
-    assert_eq!(unsheet(&back, MOST_BYTES).as_deref(), Ok(text));
 }

@@ -2,8 +2,9 @@
 
 use std::io::{self, Write};
 
+use super::answer::answer;
 use crate::image::Image;
-use crate::stored;
+use crate::stored::{self, Asked};
 
 /// The bytes that may be lent.
 pub const MOST_LENT: usize = 70_000;
@@ -22,18 +23,26 @@ impl Case {
             payload: image.line().into_bytes(),
         }
     }
+}
 
-    pub fn write(&self, output: &mut impl Write) -> io::Result<()> {
+impl Asked for Case {
+    fn write(&self, output: &mut impl Write) -> io::Result<()> {
         writeln!(output, "{}\t{}", self.payload.len(), self.lent)?;
         output.write_all(&self.payload)
     }
 
-    /// The first case of a list and the rest, if it is in the form.
-    pub fn first(list: &[u8]) -> Option<(Case, &[u8])> {
+    fn first(list: &[u8]) -> Option<(Case, &[u8])> {
         let first = stored::first(list)?;
         let [lent] = first.numbers;
         let lent = usize::try_from(lent).ok()?;
         let payload = first.payload.to_vec();
         (lent <= MOST_LENT).then_some((Case { lent, payload }, first.rest))
+    }
+    fn payload(&self) -> &[u8] {
+        &self.payload
+    }
+
+    fn answer(&self) -> Option<String> {
+        answer(self)
     }
 }

@@ -1,6 +1,5 @@
 //! The stored list of images.
 
-use std::collections::HashSet;
 use std::io::{self, Write};
 use std::ops::RangeInclusive;
 
@@ -11,6 +10,7 @@ use super::cases::{
 use super::generate::case;
 use super::manual;
 use crate::random::Random;
+use crate::stored;
 
 /// Random cases: how many, of how many bytes.
 const RANDOM: [(usize, RangeInclusive<usize>); 2] = [(200, 1..=600), (10, 1_000..=5_000)];
@@ -19,11 +19,7 @@ const RANDOM: [(usize, RangeInclusive<usize>); 2] = [(200, 1..=600), (10, 1_000.
 const LAST: &[u8] = b"7\t70001\n0\t4E71\n";
 
 pub fn write(seed: u64, output: &mut impl Write) -> io::Result<()> {
-    for case in cases(seed) {
-        case.write(output)?;
-    }
-    output.write_all(LAST)?;
-    output.flush()
+    stored::write_list(&cases(seed), LAST, output)
 }
 
 /// The cases, none twice.
@@ -41,21 +37,8 @@ pub fn cases(seed: u64) -> Vec<Case> {
         lent::all(),
         instructions::all(seed),
         sheets::all(seed, &mut random),
-        sampled(&mut random),
+        stored::sampled(&RANDOM, case, &mut random),
         large::all(),
     ];
-    let mut seen = HashSet::new();
-    let mut all = all.concat();
-    all.retain(|case| seen.insert(case.clone()));
-    all
-}
-
-fn sampled(random: &mut Random) -> Vec<Case> {
-    let mut found = Vec::new();
-    for (count, bytes) in RANDOM {
-        let cases = std::iter::repeat_with(|| case(random));
-        let fitting = cases.filter(|case| bytes.contains(&case.payload.len()));
-        found.extend(fitting.take(count));
-    }
-    found
+    stored::distinct(all.concat())
 }

@@ -21,7 +21,7 @@ use crate::sheet::judge::judge;
 use crate::sheet::line::Line;
 use crate::sheet::record::{Record, MOST_ROOM, PLACES};
 use crate::sheet::whole;
-use crate::stored::{LONGEST, NOT_IN_FORM};
+use crate::stored::{Asked, LONGEST, NOT_IN_FORM};
 
 const SEED: u64 = 68020;
 
