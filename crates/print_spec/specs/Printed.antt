@@ -11,7 +11,7 @@ use Rattle.base_spec.specs.Refused.{tab, fieldText}
 use Rattle.sheet_spec.specs.Names.{bytes}
 use Rattle.isa.specs.declared.Encoded.{Encoded}
 use Rattle.sheet_spec.specs.Sheet.{Sheet, sheetIn, addresses, encoded, encodedWords}
-use Rattle.sheet_spec.specs.Translate.{Outcome, inOrder, refused, outcomeOf, imageOf, scratchOf}
+use Rattle.sheet_spec.specs.Translate.{ScratchRule, Outcome, inOrder, refused, outcomeOf, imageOf, scratchOf}
 use Rattle.print_spec.specs.declared.Output.{Output}
 
 -- a tab and each word
@@ -42,8 +42,8 @@ printedAs inOrder listing = listing
 printedAs (refused number line detail value) listing = lineRefusal number line detail value
 
 -- with so many scratch places and image words
-unfoldable pub printedOf : List ℕ → ℕ → ℕ → List ℕ
-printedOf text places room = printedAs (outcomeOf text places room) (listingOf (sheetIn text))
+unfoldable pub printedOf : ScratchRule → List ℕ → ℕ → ℕ → List ℕ
+printedOf rule text places room = printedAs (outcomeOf rule text places room) (listingOf (sheetIn text))
 
 -- a text written into a buffer that is wide enough for 4,096 lines of at most 69 bytes: how much was written; else nothing
 abbrev pub isWide : List ℕ → Bool
@@ -54,10 +54,10 @@ pub record Put (t out out′ : List ℕ) (r : Output) : Type 0 where
   pub buffer : out′ ≡ cond (isWide out) (placed out 0 t) out
 
 -- what is printed for a text, with an image v and a scratch s; where the buffer is not wide, both are as they were
-pub record Printed (text v s out v′ s′ out′ : List ℕ) (r : Output) : Type 0 where
-  pub put : Put (printedOf text (length s) (length v)) out out′ r
-  pub image : v′ ≡ cond (isWide out) (imageOf text (length s) v) v
-  pub scratch : s′ ≡ cond (isWide out) (scratchOf text s v) s
+pub record Printed (rule : ScratchRule) (text v s out v′ s′ out′ : List ℕ) (r : Output) : Type 0 where
+  pub put : Put (printedOf rule text (length s) (length v)) out out′ r
+  pub image : v′ ≡ cond (isWide out) (imageOf rule text (length s) v) v
+  pub scratch : s′ ≡ cond (isWide out) (scratchOf rule text s v) s
 
 -- what is printed for an input that is longer than a program takes
 abbrev pub tooLongInput : List ℕ

@@ -3,6 +3,7 @@
 ghost use mathlib.Core.Path.{_≡_};
 ghost use Prim.Native.Nat.{_≤_};
 ghost use lib.ListN.{length, replicate};
+ghost use Rattle.sheet_spec.specs.Translate.{full};
 ghost use Rattle.print_spec.specs.Printed.{printedOf, Put};
 use print_spec::Output;
 
@@ -33,7 +34,7 @@ fn output_places() -> [u8; 282624]
 
 // What is printed for a sheet of at most 65,536 bytes, with 4,096 places and 16,384 words lent.
 fn listing(text: &[u8], out: &mut [u8]) -> Output
-    ensures { λ r. ⌜ Put (printedOf (now (text .entry)) 4096 16384) (now (out .entry)) (now (out .exit)) r × (r .count ≤ 282624) ⌝ }
+    ensures { λ r. ⌜ Put (printedOf full (now (text .entry)) 4096 16384) (now (out .entry)) (now (out .exit)) r × (r .count ≤ 282624) ⌝ }
 {
     let mut image = image_places();
     let mut scratch = scratch_places();

@@ -6,7 +6,7 @@ use native.Mathlib.Omega.{arith}
 use lib.ListN.{take, drop}
 use Rattle.encode_spec.specs.Encode.{encodeOf}
 use Rattle.sheet_spec.specs.Sheet.{Sheet, sheetAt, lineCount, counts, lineAt, countOfLine, addressOfLine, encoded, encodedWords, image}
-use Rattle.sheet_spec.specs.Translate.{inOrder, sheetOutcome, outcomeAt}
+use Rattle.sheet_spec.specs.Translate.{ScratchRule, inOrder, sheetOutcome, outcomeAt}
 use Rattle.sheet_spec.specs.Promises.{InGrammar, AcceptedSheet, Demand3}
 use Rattle.sheet_facts.specs.Lines.{line-grammar}
 use Rattle.sheet_size_facts.specs.Image.{words-stand}
@@ -36,7 +36,7 @@ pub demand-3 : (s : Sheet) → ((n : ℕ) → InGrammar (lineAt s n)) → (room 
 demand-3 s grammar room e = stands s grammar room (accepted-sheet s room e)
 
 -- of a text at a start
-pub demand-3-text : (text : List ℕ) (start places room : ℕ) → outcomeAt text start places room ≡ inOrder → Demand3 (sheetAt start text) (image (sheetAt start text))
-demand-3-text text start places room e =
+pub demand-3-text : (rule : ScratchRule) (text : List ℕ) (start places room : ℕ) → outcomeAt rule text start places room ≡ inOrder → Demand3 (sheetAt start text) (image (sheetAt start text))
+demand-3-text rule text start places room e =
     let a = accepted text start places room e in
     stands (sheetAt start text) (line-grammar text) room (a .lines)

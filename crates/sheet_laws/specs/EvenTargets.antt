@@ -13,7 +13,7 @@ use Rattle.isa.specs.declared.Instruction.the-variants.{Branch}
 use Rattle.base_facts.specs.Tests.{true-not-false}
 use Rattle.sheet_spec.specs.Made.{Made, makes, made}
 use Rattle.sheet_spec.specs.Sheet.{Sheet, sheetAt, lineCount, wordCount, lineAt, addressOfLine, resolved}
-use Rattle.sheet_spec.specs.Translate.{inOrder, opening, sizing, closing}
+use Rattle.sheet_spec.specs.Translate.{ScratchRule, inOrder, opening, sizing, closing}
 use Rattle.sheet_spec.specs.Follow.{Next, on, to, either, stop, nextOf, target, lineNext, nextWith}
 use Rattle.sheet_spec.specs.Promises.{InGrammar, MeasuredSheet, NoMinusOne}
 use Rattle.sheet_facts.specs.Lines.{line-grammar}
@@ -53,7 +53,7 @@ no-minus-one s grammar even ok n h g = (branch, λ c e. odd e refl)
     branch BSR e = odd e refl
 
 -- of a text that comes to the last place
-pub no-minus-one-text : (text : List ℕ) (start places room : ℕ) → opening text start places ≡ inOrder → sizing (sheetAt start text .lines) ≡ inOrder
+pub no-minus-one-text : (rule : ScratchRule) (text : List ℕ) (start places room : ℕ) → opening rule text start places ≡ inOrder → sizing (sheetAt start text .lines) ≡ inOrder
     → closing start (wordCount (sheetAt start text)) room ≡ inOrder → (n : ℕ) → 1 ≤ n → n ≤ lineCount (sheetAt start text) → NoMinusOne (sheetAt start text) n
-no-minus-one-text text start places room e f c =
-    no-minus-one (sheetAt start text) (line-grammar text) (even-start text start places e) (measured-sheet (sheetAt start text) room f c)
+no-minus-one-text rule text start places room e f c =
+    no-minus-one (sheetAt start text) (line-grammar text) (even-start rule text start places e) (measured-sheet (sheetAt start text) room f c)

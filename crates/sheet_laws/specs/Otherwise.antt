@@ -12,7 +12,7 @@ use Rattle.isa.specs.declared.Encoded.{Encoded}
 use Rattle.sheet_spec.specs.Line.{Parsed, no}
 use Rattle.sheet_spec.specs.Made.{isSome}
 use Rattle.sheet_spec.specs.Sheet.{isSheet, startLine, startOf, sizedOf, sizesOf, Sheet, sheetAt, lineCount, wordCount, endOf, addresses, resolved, encoded}
-use Rattle.sheet_spec.specs.Translate.{Outcome, inOrder, andThen, require, inTurn, sizeOutcome, encodeOutcome, opening, sizing, closing, encoding, sheetOutcome, outcomeAt}
+use Rattle.sheet_spec.specs.Translate.{ScratchRule, Outcome, inOrder, andThen, require, inTurn, sizeOutcome, encodeOutcome, opening, sizing, closing, encoding, sheetOutcome, outcomeAt}
 use Rattle.sheet_spec.specs.Promises.{AcceptedSheet, AcceptedText}
 use Rattle.sheet_facts.specs.Listing.{as-in-order}
 use Rattle.sheet_size_facts.specs.Image.{noWords, encoded-is}
@@ -55,13 +55,13 @@ sheet-not-otherwise s room ok =
     (all-encoded s room ok))
 
 -- of a text at a start
-pub not-otherwise : (text : List ℕ) (start places room : ℕ) → AcceptedText text start places room → outcomeAt text start places room ≡ inOrder
+pub not-otherwise : {rule : ScratchRule} (text : List ℕ) (start places room : ℕ) → AcceptedText rule text start places room → outcomeAt rule text start places room ≡ inOrder
 unfolding outcomeAt
-not-otherwise text start places room ok =
+not-otherwise {rule} text start places room ok =
     let s = sheetAt start text in
-    and-fine (opening text start places) _
+    and-fine (opening rule text start places) _
     (and-fine (require (isSheet text) 10) _ (require-is (isSheet text) 10 (ok .sheet))
     (and-fine (require (isSome (startOf (startLine text))) 7) _ (require-is _ 7 (ap isSome (ok .form)))
     (and-fine (require (eqb (start % 2) 0) 9) _ (require-is _ 9 (eq-eqb (start % 2) 0 (ok .even)))
-    (require-is _ 11 (le-leb (lineCount s) places (ok .scratch))))))
+    (require-is _ 11 (le-leb (rule .needed (lineCount s)) places (ok .scratch))))))
     (sheet-not-otherwise s room (ok .lines))

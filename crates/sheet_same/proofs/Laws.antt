@@ -10,7 +10,8 @@ use borrow.Author.Tests.{eqb-true, ne-eqb}
 use Rattle.sheet_spec.specs.Line.{equal}
 use Rattle.sheet_spec.specs.declared.Listed.{Listed}
 use Rattle.sheet_spec.specs.Sheet.{startIn, sheetIn, lineCount, wordCount, image}
-use Rattle.sheet_spec.specs.Translate.{Outcome, inOrder, refused, outcomeOf, listedAs, listedOf, imageOf, scratchOf, isInOrder, sameAt, same}
+use Rattle.sheet_spec.specs.Translate.{full, Outcome, inOrder, refused, outcomeOf, listedAs, listedOf, imageOf, scratchOf, isInOrder, sameAt, same}
+use Rattle.sheet_size_facts.specs.Scratch.{full-filled}
 use Rattle.sheet_size_facts.specs.Outcomes.{accepted}
 use Rattle.sheet_facts.specs.SheetLaws.{count-some}
 use Rattle.sheet_size_facts.specs.Bounds.{address-is}
@@ -25,29 +26,29 @@ fine-number inOrder s lines words = refl
 fine-number (refused number line detail value) s lines words = ne-eqb number 0 s
 
 -- ---- one sheet translated with room enough
-module _ (text v s v′ s′ : List ℕ) (r : Listed) (t : Translated text v s v′ s′ r) where
+module _ (text v s v′ s′ : List ℕ) (r : Listed) (t : Translated full text v s v′ s′ r) where
   pub fits : r .words ≤ length v′
-  fits = omega (arith, ap (λ (x : Listed). x .words) (t .listed), words-fit text (length s) (length v), ap length (t .image), image-length text (length s) v)
+  fits = omega (arith, ap (λ (x : Listed). x .words) (t .listed), words-fit full text (length s) (length v), ap length (t .image), image-length full text (length s) v)
 
   pub lent : r .words ≡ length (take (r .words) v′)
   lent = rw length-take (omega (arith, fits))
 
   keeps : length s′ ≡ length s
-  keeps = ap length (t .scratch) ∙ scratch-length text s v
+  keeps = ap length (t .scratch) ∙ scratch-length full-filled text s v
 
   start-left : r .number ≡ 0 → getD s′ 0 0 ≡ sheetIn text .start
   start-left h =
-      let l = left text v s v′ s′ r t h in
+      let l = left full-filled text v s v′ s′ r t h in
       let some = count-some text (accepted text (startIn text) (length s) (length v) (l .accepts) .sheet) in
-      omega (arith, l .addresses 1 (omega arith) (omega arith), address-is (sheetIn text) 1 (omega arith) some)
+      omega (arith, l .places 1 (omega arith) (omega arith), address-is (sheetIn text) 1 (omega arith) some)
 
-  judged : 4096 ≡ length s → 45056 ≡ length v → eqb (r .number) 0 ≡ isInOrder (outcomeOf text 4096 45056)
+  judged : 4096 ≡ length s → 45056 ≡ length v → eqb (r .number) 0 ≡ isInOrder (outcomeOf full text 4096 45056)
   unfolding listedOf
   judged h g =
       ap (λ (x : Listed). eqb (x .number) 0) (t .listed)
-      ∙ fine-number (outcomeOf text (length s) (length v)) (outcome-sound text (startIn text) (length s) (length v)) (lineCount (sheetIn text)) (wordCount (sheetIn text))
-      ∙ ap (λ (k : ℕ). isInOrder (outcomeOf text k (length v))) (sym h)
-      ∙ ap (λ (k : ℕ). isInOrder (outcomeOf text 4096 k)) (sym g)
+      ∙ fine-number (outcomeOf full text (length s) (length v)) (outcome-sound full text (startIn text) (length s) (length v)) (lineCount (sheetIn text)) (wordCount (sheetIn text))
+      ∙ ap (λ (k : ℕ). isInOrder (outcomeOf full text k (length v))) (sym h)
+      ∙ ap (λ (k : ℕ). isInOrder (outcomeOf full text 4096 k)) (sym g)
 
 both : (x y a b c d : Bool) → (x ≡ true → y ≡ true → (a ≡ c) × (b ≡ d)) → x && y && a && b ≡ x && y && c && d
 both true true a b c d f = let e = f refl refl in rw (e .0, e .1)
@@ -56,7 +57,7 @@ both false y a b c d f = refl
 
 -- ---- two sheets, one after the other
 module _ (f g v w s : List ℕ) (h : (4096 ≡ length s) × (45056 ≡ length v) × (45056 ≡ length w))
-    (v′ s₁ : List ℕ) (a : Listed) (t : Translated f v s v′ s₁ a) (w′ s₂ : List ℕ) (b : Listed) (u : Translated g w s₁ w′ s₂ b) where
+    (v′ s₁ : List ℕ) (a : Listed) (t : Translated full f v s v′ s₁ a) (w′ s₂ : List ℕ) (b : Listed) (u : Translated full g w s₁ w′ s₂ b) where
   compared : eqb (a .number) 0 && eqb (b .number) 0 && eqb (getD s₁ 0 0) (getD s₂ 0 0) && equal (take (a .words) v′) (take (b .words) w′) ≡ same f g
   unfolding sameAt
   compared =
@@ -72,15 +73,15 @@ module _ (f g v w s : List ℕ) (h : (4096 ≡ length s) × (45056 ≡ length v)
           let m = eqb-true (a .number) 0 p in
           let n = eqb-true (b .number) 0 q in (
             rw (start-left f v s v′ s₁ a t m, start-left g w s₁ w′ s₂ b u n),
-            rw (left f v s v′ s₁ a t m .words, left g w s₁ w′ s₂ b u n .words),
+            rw (left full-filled f v s v′ s₁ a t m .words, left full-filled g w s₁ w′ s₂ b u n .words),
           )
 
   pub comparison : (q : Bool) → q ≡ equal (take (a .words) v′) (take (b .words) w′)
-      → (eqb (a .number) 0 && eqb (b .number) 0 && eqb (getD s₁ 0 0) (getD s₂ 0 0) && q ≡ same f g) × (v′ ≡ imageOf f (length s) v) × (w′ ≡ imageOf g (length s) w)
-      × (s₂ ≡ scratchOf g (scratchOf f s v) w)
+      → (eqb (a .number) 0 && eqb (b .number) 0 && eqb (getD s₁ 0 0) (getD s₂ 0 0) && q ≡ same f g) × (v′ ≡ imageOf full f (length s) v) × (w′ ≡ imageOf full g (length s) w)
+      × (s₂ ≡ scratchOf full g (scratchOf full f s v) w)
   comparison q e = (
     rw e compared,
     t .image,
-    u .image ∙ ap (λ (k : ℕ). imageOf g k w) (keeps f v s v′ s₁ a t),
-    u .scratch ∙ ap (λ (l : List ℕ). scratchOf g l w) (t .scratch),
+    u .image ∙ ap (λ (k : ℕ). imageOf full g k w) (keeps f v s v′ s₁ a t),
+    u .scratch ∙ ap (λ (l : List ℕ). scratchOf full g l w) (t .scratch),
   )

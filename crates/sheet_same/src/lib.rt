@@ -2,7 +2,7 @@
 ghost use mathlib.Core.Path.{_≡_};
 ghost use lib.ListN.{length, replicate};
 ghost use Rattle.sheet_spec.specs.Line.{equal};
-ghost use Rattle.sheet_spec.specs.Translate.{imageOf, scratchOf};
+ghost use Rattle.sheet_spec.specs.Translate.{full, imageOf, scratchOf};
 ghost use Rattle.sheet_spec.specs.Translate as sheets;
 
 fn equal_words(v: &[u16], w: &[u16]) -> bool
@@ -31,9 +31,9 @@ fn compare(
 ) -> bool
     requires { ⌜ (4096 ≡ length (now scratch)) × (45056 ≡ length (now «first_image»)) × (45056 ≡ length (now «second_image»)) ⌝ }
     ensures { λ r. ⌜ (r ≡ sheets.same (now (first .entry)) (now (second .entry)))
-        × (now («first_image» .exit) ≡ imageOf (now (first .entry)) (length (now (scratch .entry))) (now («first_image» .entry)))
-        × (now («second_image» .exit) ≡ imageOf (now (second .entry)) (length (now (scratch .entry))) (now («second_image» .entry)))
-        × (now (scratch .exit) ≡ scratchOf (now (second .entry)) (scratchOf (now (first .entry)) (now (scratch .entry)) (now («first_image» .entry))) (now («second_image» .entry))) ⌝ }
+        × (now («first_image» .exit) ≡ imageOf full (now (first .entry)) (length (now (scratch .entry))) (now («first_image» .entry)))
+        × (now («second_image» .exit) ≡ imageOf full (now (second .entry)) (length (now (scratch .entry))) (now («second_image» .entry)))
+        × (now (scratch .exit) ≡ scratchOf full (now (second .entry)) (scratchOf full (now (first .entry)) (now (scratch .entry)) (now («first_image» .entry))) (now («second_image» .entry))) ⌝ }
 {
     let a = sheet_translate::translate(first, first_image, scratch);
     let start = scratch[0];

@@ -8,7 +8,7 @@ use borrow.Author.Tests.{eq-eqb, eqb-true}
 use Rattle.sheet_spec.specs.Line.{equal}
 use Rattle.sheet_facts.specs.Facts.{equal-is, equal-refl}
 use Rattle.sheet_spec.specs.Sheet.{sheetAt, image}
-use Rattle.sheet_spec.specs.Translate.{Outcome, inOrder, refused, outcomeAt, isInOrder, sameAt}
+use Rattle.sheet_spec.specs.Translate.{full, Outcome, inOrder, refused, outcomeAt, isInOrder, sameAt}
 use Rattle.sheet_spec.specs.Promises.{SameAt}
 use Rattle.base_facts.specs.Tests.{and-true}
 
@@ -20,14 +20,14 @@ is-in-order (refused number line detail value) e = absurd (false≢true e)
 pub same-is : (a b : ℕ) (s t : List ℕ) → sameAt a b s t ≡ true → SameAt a b s t
 unfolding sameAt
 same-is a b s t e =
-    let x = isInOrder (outcomeAt s a 4096 45056) in
-    let y = isInOrder (outcomeAt t b 4096 45056) in
+    let x = isInOrder (outcomeAt full s a 4096 45056) in
+    let y = isInOrder (outcomeAt full t b 4096 45056) in
     let p = and-true (x && y && eqb a b) (equal (image (sheetAt a s)) (image (sheetAt b t))) e in
     let q = and-true (x && y) (eqb a b) (p .0) in
     let r = and-true x y (q .0) in
     record {
-      first = is-in-order (outcomeAt s a 4096 45056) (r .0);
-      second = is-in-order (outcomeAt t b 4096 45056) (r .1);
+      first = is-in-order (outcomeAt full s a 4096 45056) (r .0);
+      second = is-in-order (outcomeAt full t b 4096 45056) (r .1);
       starts = eqb-true a b (q .1);
       images = equal-is (image (sheetAt a s)) (image (sheetAt b t)) (p .1);
     }
@@ -36,7 +36,7 @@ pub is-same : (a b : ℕ) (s t : List ℕ) → SameAt a b s t → sameAt a b s t
 unfolding sameAt
 is-same a b s t h = rw (h .first, h .second, eq-eqb a b (h .starts), h .images) (equal-refl (image (sheetAt b t)))
 
-pub same-refl : (a : ℕ) (s : List ℕ) → outcomeAt s a 4096 45056 ≡ inOrder → sameAt a a s s ≡ true
+pub same-refl : (a : ℕ) (s : List ℕ) → outcomeAt full s a 4096 45056 ≡ inOrder → sameAt a a s s ≡ true
 same-refl a s e = is-same a a s s (record { first = e; second = e; starts = refl; images = refl })
 
 turn : {a b : ℕ} {s t : List ℕ} → SameAt a b s t → SameAt b a t s

@@ -10,8 +10,8 @@ use Rattle.isa.specs.declared.Instruction.{Instruction}
 use Rattle.encode_spec.specs.Encode.{encodeOf, sizeOf}
 use Rattle.sheet_spec.specs.Made.{Made, makes, made}
 use Rattle.sheet_spec.specs.Sheet.{Sheet, sheetAt, lineCount, counts, wordCount, lineAt, countOfLine, addresses, addressOfLine, resolved, encodedLine, encoded, encodedWords, image}
-use Rattle.sheet_spec.specs.Translate.{inOrder, outcomeAt}
-use Rattle.sheet_spec.specs.Promises.{InGrammar, AcceptedSheet}
+use Rattle.sheet_spec.specs.Translate.{ScratchRule, inOrder, outcomeAt}
+use Rattle.sheet_spec.specs.Promises.{InGrammar, MeasuredSheet, AcceptedSheet}
 use Rattle.sheet_facts.specs.Lines.{line-grammar}
 use Rattle.sheet_size_facts.specs.Image.{noWords, encoded-is, Counts, words-length}
 use Rattle.sheet_size_facts.specs.Outcomes.{counts-length, places-length, lines-length, accepted}
@@ -21,6 +21,24 @@ use Rattle.m68k_facts.specs.Laws.{size-law, places-law, encode-most}
 -- the words that count are as many as they say
 pub words-counted : (i : Instruction) (a : ℕ) → length (encodedWords (encodeOf i a)) ≡ encodeOf i a .count
 words-counted i a = omega (arith, places-law i a, encode-most i a, length-take (encodeOf i a .count) (encodeOf i a .words))
+
+-- a measured line that is accepted counts the words that it has
+module _ (s : Sheet) (grammar : (n : ℕ) → InGrammar (lineAt s n)) (ok : MeasuredSheet s) (n : ℕ) (h : 1 ≤ n) (g : n ≤ lineCount s) where
+  size-there : sizeOf (instruction-at s grammar ok n h g) ≡ sizeOf (line-at s grammar ok n h g .first)
+  size-there = line-at s grammar ok n h g .follows .size (addressOfLine s)
+
+  pub count-there : encodeOf (instruction-at s grammar ok n h g) (addressOfLine s n) .number ≡ 0 → encodeOf (instruction-at s grammar ok n h g) (addressOfLine s n) .count ≡ countOfLine s n
+  count-there e =
+      omega (
+        arith,
+        count-size s grammar ok n h g,
+        ap (λ (m : Measured). m .size) (size-law (instruction-at s grammar ok n h g) (addressOfLine s n) e),
+        ap (λ (m : Measured). m .size) size-there,
+      )
+
+  pub line-count : encodedLine (addressOfLine s n) (made (resolved s) (lineAt s n)) .number ≡ 0
+      → encodedLine (addressOfLine s n) (made (resolved s) (lineAt s n)) .count ≡ countOfLine s n
+  line-count e = let m = makes-there s grammar ok n h g in rw m (count-there (rw m at e))
 
 module _ (s : Sheet) (grammar : (n : ℕ) → InGrammar (lineAt s n)) (room : ℕ) (ok : AcceptedSheet s room) where
   module _ (n : ℕ) (h : 1 ≤ n) (g : n ≤ lineCount s) where
@@ -39,17 +57,8 @@ module _ (s : Sheet) (grammar : (n : ℕ) → InGrammar (lineAt s n)) (room : �
         encoded-is (resolved s) (addresses s) (s .lines) (places-length s) (pred n) (omega arith)
         ∙ ap (encodedLine (addressOfLine s n)) makes-it
 
-    pub size-is : sizeOf i ≡ sizeOf (line-at s grammar (ok .measured) n h g .first)
-    size-is = line-at s grammar (ok .measured) n h g .follows .size (addressOfLine s)
-
     pub count-of : encodeOf i (addressOfLine s n) .count ≡ countOfLine s n
-    count-of =
-        omega (
-          arith,
-          count-size s grammar (ok .measured) n h g,
-          ap (λ (m : Measured). m .size) (size-law i (addressOfLine s n) encodes),
-          ap (λ (m : Measured). m .size) size-is,
-        )
+    count-of = count-there s grammar (ok .measured) n h g encodes
 
   pub line-counts : Counts (counts s) (encoded s)
   line-counts =
@@ -64,5 +73,5 @@ module _ (s : Sheet) (grammar : (n : ℕ) → InGrammar (lineAt s n)) (room : �
   image-length = words-length (counts s) (encoded s) line-counts
 
 -- the image of a text has the words of all lines
-pub image-counts : (text : List ℕ) (start places room : ℕ) → outcomeAt text start places room ≡ inOrder → length (image (sheetAt start text)) ≡ wordCount (sheetAt start text)
-image-counts text start places room e = image-length (sheetAt start text) (line-grammar text) room (accepted text start places room e .lines)
+pub image-counts : (rule : ScratchRule) (text : List ℕ) (start places room : ℕ) → outcomeAt rule text start places room ≡ inOrder → length (image (sheetAt start text)) ≡ wordCount (sheetAt start text)
+image-counts rule text start places room e = image-length (sheetAt start text) (line-grammar text) room (accepted text start places room e .lines)

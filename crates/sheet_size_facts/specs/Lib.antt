@@ -7,6 +7,7 @@ pub mod Lawful
 pub mod Renamed
 pub mod Made
 pub mod Image
+pub mod Scratch
 pub mod Outcomes
 pub mod OutcomeLaws
 pub mod Bounds

@@ -11,7 +11,7 @@ use Rattle.isa.specs.declared.Measured.{Measured}
 use Rattle.isa.specs.declared.Encoded.{Encoded}
 use Rattle.sheet_spec.specs.Made.{isSome}
 use Rattle.sheet_spec.specs.Sheet.{isSheet, startLine, startOf, sizesOf, sheetAt, lineCount, wordCount, endOf, encoded}
-use Rattle.sheet_spec.specs.Translate.{Outcome, inOrder, refused, andThen, require, inTurn, sizeOutcome, encodeOutcome, asOutcome, opening, sizing, closing, outcomeAt}
+use Rattle.sheet_spec.specs.Translate.{ScratchRule, Outcome, inOrder, refused, andThen, require, inTurn, sizeOutcome, encodeOutcome, asOutcome, opening, sizing, closing, outcomeAt}
 
 abbrev pub Sound : Outcome → Type 0
 Sound inOrder = Unit {0}
@@ -42,15 +42,15 @@ sizes-sound k ms = turn-sound sizeOutcome (λ j m. line-sound j (m .number) (m .
 pub encoded-sound : (k : ℕ) (es : List Encoded) → Sound (inTurn encodeOutcome k es)
 encoded-sound k es = turn-sound encodeOutcome (λ j e. line-sound j (e .number) (e .detail) (e .value)) k es
 
-pub outcome-sound : (text : List ℕ) (start places room : ℕ) → Sound (outcomeAt text start places room)
+pub outcome-sound : (rule : ScratchRule) (text : List ℕ) (start places room : ℕ) → Sound (outcomeAt rule text start places room)
 unfolding outcomeAt
-outcome-sound text start places room =
+outcome-sound rule text start places room =
     let s = sheetAt start text in
-    or-sound (opening text start places) _
+    or-sound (opening rule text start places) _
     (or-sound (require (isSheet text) 10) _ (unless-sound (isSheet text) 10 (λ e. omega arith))
     (or-sound (require (isSome (startOf (startLine text))) 7) _ (unless-sound (isSome (startOf (startLine text))) 7 (λ e. omega arith))
     (or-sound (require (eqb (start % 2) 0) 9) _ (unless-sound (eqb (start % 2) 0) 9 (λ e. omega arith))
-    (unless-sound (leb (lineCount s) places) 11 (λ e. omega arith)))))
+    (unless-sound (leb (rule .needed (lineCount s)) places) 11 (λ e. omega arith)))))
     (or-sound (sizing (s .lines)) _ (sizes-sound 1 (sizesOf (s .lines)))
     (or-sound (closing (s .start) (wordCount s) room) _
     (or-sound (require (leb (endOf (s .start) (wordCount s)) (2 ^ 32)) 9) _ (unless-sound (leb (endOf (s .start) (wordCount s)) (2 ^ 32)) 9 (λ e. omega arith)) (unless-sound (leb (wordCount s) room) 11 (λ e. omega arith)))

@@ -13,7 +13,7 @@ use Rattle.isa.specs.declared.Encoded.{Encoded}
 use Rattle.sheet_spec.specs.Line.{Parsed, no}
 use Rattle.sheet_spec.specs.Made.{isSome}
 use Rattle.sheet_spec.specs.Sheet.{isSheet, startLine, startOf, sizedOf, sizesOf, halfOf, Sheet, sheetAt, lineCount, counts, wordCount, endOf, addresses, lineAt, countOfLine, resolved, encoded}
-use Rattle.sheet_spec.specs.Translate.{Outcome, inOrder, require, inTurn, sizeOutcome, encodeOutcome, opening, sizing, closing, encoding, sheetOutcome, outcomeAt}
+use Rattle.sheet_spec.specs.Translate.{ScratchRule, Outcome, inOrder, require, inTurn, sizeOutcome, encodeOutcome, opening, sizing, closing, encoding, sheetOutcome, outcomeAt}
 use Rattle.sheet_spec.specs.Promises.{MeasuredSheet, AcceptedSheet, AcceptedText}
 use Rattle.sheet_facts.specs.Listing.{both-in-order, require-true, in-order-zero}
 use Rattle.sheet_size_facts.specs.Image.{addresses-length, noWords, encoded-length, encoded-is}
@@ -81,24 +81,24 @@ accepted-sheet s room e =
     }
 
 -- ---- a text
-pub even-start : (text : List ℕ) (start places : ℕ) → opening text start places ≡ inOrder → start % 2 ≡ 0
-even-start text start places e =
+pub even-start : (rule : ScratchRule) (text : List ℕ) (start places : ℕ) → opening rule text start places ≡ inOrder → start % 2 ≡ 0
+even-start rule text start places e =
     let a = both-in-order (require (isSheet text) 10) _ e in
     let b = both-in-order (require (isSome (startOf (startLine text))) 7) _ (a .1) in
     let c = both-in-order (require (eqb (start % 2) 0) 9) _ (b .1) in
     eqb-true (start % 2) 0 (require-true _ 9 (c .0))
 
-pub accepted : (text : List ℕ) (start places room : ℕ) → outcomeAt text start places room ≡ inOrder → AcceptedText text start places room
+pub accepted : {rule : ScratchRule} (text : List ℕ) (start places room : ℕ) → outcomeAt rule text start places room ≡ inOrder → AcceptedText rule text start places room
 unfolding outcomeAt
-accepted text start places room e =
-    let o = both-in-order (opening text start places) _ e in
+accepted {rule} text start places room e =
+    let o = both-in-order (opening rule text start places) _ e in
     let a = both-in-order (require (isSheet text) 10) _ (o .0) in
     let b = both-in-order (require (isSome (startOf (startLine text))) 7) _ (a .1) in
     let c = both-in-order (require (eqb (start % 2) 0) 9) _ (b .1) in
     record {
       sheet = require-true (isSheet text) 10 (a .0);
       form = start-form (startOf (startLine text)) (require-true _ 7 (b .0));
-      even = even-start text start places (o .0);
-      scratch = leb-true (lineCount (sheetAt start text)) places (require-true _ 11 (c .1));
+      even = even-start rule text start places (o .0);
+      scratch = leb-true (rule .needed (lineCount (sheetAt start text))) places (require-true _ 11 (c .1));
       lines = accepted-sheet (sheetAt start text) room (o .1);
     }

@@ -17,8 +17,8 @@ use Rattle.sheet_spec.specs.declared.Kind.the-variants as kind
 use Rattle.sheet_spec.specs.Line.{Parsed, says, no}
 use Rattle.sheet_spec.specs.Spell.{SuitAll, spell}
 use Rattle.sheet_spec.specs.Made.{makes, made}
-use Rattle.sheet_spec.specs.Sheet.{isSheet, startLine, instructionLines, startOf, sizedOf, Sheet, sheetAt, startIn, sheetIn, lineCount, wordCount, endOf, lineAt, countOfLine, addressOfLine, resolved, encodedLine, encodedWords, image}
-use Rattle.sheet_spec.specs.Translate.{inOrder, outcomeAt, listedOf, imageOf, scratchOf}
+use Rattle.sheet_spec.specs.Sheet.{isSheet, startLine, instructionLines, startOf, sizedOf, Sheet, sheetAt, startIn, sheetIn, lineCount, wordCount, endOf, addresses, lineAt, countOfLine, addressOfLine, resolved, encodedLine, encodedWords, image}
+use Rattle.sheet_spec.specs.Translate.{inOrder, ScratchRule, full, outcomeAt, listedOf, imageOf, scratchOf}
 use Rattle.sheet_spec.specs.Follow.{Reads, Together, byLines, byWords}
 
 -- a START line in the form
@@ -41,11 +41,11 @@ pub record AcceptedSheet (s : Sheet) (room : ℕ) : Type 0 where
   pub image : wordCount s ≤ room
   pub encoded : (n : ℕ) → 1 ≤ n → n ≤ lineCount s → encodedLine (addressOfLine s n) (made (resolved s) (lineAt s n)) .number ≡ 0
 
-pub record AcceptedText (text : List ℕ) (start places room : ℕ) : Type 0 where
+pub record AcceptedText (rule : ScratchRule) (text : List ℕ) (start places room : ℕ) : Type 0 where
   pub sheet : isSheet text ≡ true
   pub form : startOf (startLine text) ≡ some (startIn text)
   pub even : start % 2 ≡ 0
-  pub scratch : lineCount (sheetAt start text) ≤ places
+  pub scratch : rule .needed (lineCount (sheetAt start text)) ≤ places
   pub lines : AcceptedSheet (sheetAt start text) room
 
 -- line n is no short branch of -1, to its own address plus 1 (02, N5)
@@ -55,15 +55,15 @@ NoMinusOne s n =
     × ((c : Condition) → made (resolved s) (lineAt s n) ≡ makes (Bcc ((addressOfLine s n + 1) % 2 ^ 32) c Short) → ⊥)
 
 -- from a text, an image v and a scratch s: the answer r, the image v′ and the scratch s′
-pub record Translated (text v s v′ s′ : List ℕ) (r : Listed) : Type 0 where
-  pub listed : r ≡ listedOf text (length s) (length v)
-  pub image : v′ ≡ imageOf text (length s) v
-  pub scratch : s′ ≡ scratchOf text s v
+pub record Translated (rule : ScratchRule) (text v s v′ s′ : List ℕ) (r : Listed) : Type 0 where
+  pub listed : r ≡ listedOf rule text (length s) (length v)
+  pub image : v′ ≡ imageOf rule text (length s) v
+  pub scratch : s′ ≡ scratchOf rule text s v
 
 -- two sheets, at starts a and b, are the same (01)
 pub record SameAt (a b : ℕ) (f g : List ℕ) : Type 0 where
-  pub first : outcomeAt f a 4096 45056 ≡ inOrder
-  pub second : outcomeAt g b 4096 45056 ≡ inOrder
+  pub first : outcomeAt full f a 4096 45056 ≡ inOrder
+  pub second : outcomeAt full g b 4096 45056 ≡ inOrder
   pub starts : a ≡ b
   pub images : image (sheetAt a f) ≡ image (sheetAt b g)
 
@@ -77,13 +77,13 @@ pub record Demand3 (s : Sheet) (v : List ℕ) : Type 0 where
   pub together : (choices : List Bool) → Together s v (byLines s choices) (byWords (s .start) v choices)
   pub each : (n : ℕ) → 1 ≤ n → n ≤ lineCount s → Stands s v n
 
--- no refusal: the counts; demand 3 of the words left; each line's spelling and address; later words and places unchanged
-pub record Followed (text v s v′ s′ : List ℕ) (r : Listed) : Type 0 where
+-- no refusal: the counts; demand 3 of the words left; each line's spelling; each place's address; later words and places unchanged
+pub record Followed (rule : ScratchRule) (text v s v′ s′ : List ℕ) (r : Listed) : Type 0 where
   pub lines : r .lines ≡ lineCount (sheetIn text)
   pub counted : r .words ≡ wordCount (sheetIn text)
   pub words : take (r .words) v′ ≡ image (sheetIn text)
   pub demand-3 : Demand3 (sheetIn text) (take (r .words) v′)
   pub spelled : (n : ℕ) (h : 1 ≤ n) (g : n ≤ lineCount (sheetIn text)) → getD (instructionLines text) (pred n) [] ≡ spell (demand-3 .each n h g .read .tokens)
-  pub addresses : (n : ℕ) → 1 ≤ n → n ≤ r .lines → getD s′ (pred n) 0 ≡ addressOfLine (sheetIn text) n
+  pub addresses : (n : ℕ) → 1 ≤ n → n ≤ rule .needed (r .lines) → getD s′ (pred n) 0 ≡ getD (rule .held (addresses (sheetIn text))) (pred n) 0
   pub later-words : drop (r .words) v′ ≡ drop (r .words) v
-  pub later-places : drop (r .lines) s′ ≡ drop (r .lines) s
+  pub later-places : drop (rule .needed (r .lines)) s′ ≡ drop (rule .needed (r .lines)) s

@@ -9,7 +9,7 @@ use lib.Seq.{take-at}
 use Rattle.base_facts.specs.Tests.{leb-true}
 use Rattle.sheet_spec.specs.declared.Listed.{Listed}
 use Rattle.sheet_spec.specs.Sheet.{startLine, startOf, startIn, sheetIn, wordCount, endOf, image}
-use Rattle.sheet_spec.specs.Translate.{Outcome, inOrder, refused, outcomeOf, listedOf, over, imageOf}
+use Rattle.sheet_spec.specs.Translate.{full, Outcome, inOrder, refused, outcomeOf, listedOf, over, imageOf}
 use Rattle.sheet_spec.specs.Promises.{Translated}
 use Rattle.sheet_size_facts.specs.Outcomes.{accepted}
 use Rattle.sheet_size_facts.specs.Counted.{image-counts}
@@ -46,12 +46,12 @@ pub record Recordable (text v v′ : List ℕ) (places words : ℕ) : Type 0 whe
   pub ends : endOf (startIn text) (length (image (sheetIn text))) ≤ 2 ^ 32
   pub printed : imageText (startIn text) (image (sheetIn text)) ≡ sheetRecords text places (length v)
 
-accepted-recordable : (text v s : List ℕ) → outcomeOf text (length s) (length v) ≡ inOrder
+accepted-recordable : (text v s : List ℕ) → outcomeOf full text (length s) (length v) ≡ inOrder
     → Recordable text v (over (image (sheetIn text)) v) (length s) (wordCount (sheetIn text))
 unfolding sheetRecords
 accepted-recordable text v s e =
     let a = accepted text (startIn text) (length s) (length v) e .lines in
-    let m = image-counts text (startIn text) (length s) (length v) e in
+    let m = image-counts full text (startIn text) (length s) (length v) e in
     record {
       room = rw length-append (omega (arith, m));
       image-words = take-at (image (sheetIn text)) (drop (length (image (sheetIn text))) v) (wordCount (sheetIn text)) m;
@@ -61,12 +61,12 @@ accepted-recordable text v s e =
       printed = rw e;
     }
 
-module _ {text v s v′ s′ : List ℕ} {r : Listed} (t : Translated text v s v′ s′ r) where
+module _ {text v s v′ s′ : List ℕ} {r : Listed} (t : Translated full text v s v′ s′ r) where
   pub recordable : r .number ≡ 0 → Recordable text v v′ (length s) (r .words)
   unfolding listedOf imageOf
-  recordable h = go (outcomeOf text (length s) (length v)) refl (outcome-sound text (startIn text) (length s) (length v))
+  recordable h = go (outcomeOf full text (length s) (length v)) refl (outcome-sound full text (startIn text) (length s) (length v))
     where
-      go : (w : Outcome) → outcomeOf text (length s) (length v) ≡ w → Sound w → Recordable text v v′ (length s) (r .words)
+      go : (w : Outcome) → outcomeOf full text (length s) (length v) ≡ w → Sound w → Recordable text v v′ (length s) (r .words)
       go inOrder e n = rw (t .listed, t .image, e) (accepted-recordable text v s e)
       go (refused number line detail value) e n = absurd (n (rw (t .listed, e) at h))
 

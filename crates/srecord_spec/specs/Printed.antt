@@ -6,7 +6,7 @@ use lib.Dec.{leb}
 use lib.ListN.{length}
 use Rattle.base_spec.specs.Written.{decimalOf}
 use Rattle.sheet_spec.specs.Sheet as sheet
-use Rattle.sheet_spec.specs.Translate.{outcomeOf}
+use Rattle.sheet_spec.specs.Translate.{full, outcomeOf}
 use Rattle.print_spec.specs.Printed.{listedWords, printedAs, tooLongInput}
 use Rattle.srecord_spec.specs.Write.{imageText, writeOutcome}
 use Rattle.srecord_spec.specs.Read.{startRead, imageRead, readOutcome}
@@ -29,4 +29,4 @@ imagePrinted text = cond (leb (length text) 1048576) (loadedText text 45056) too
 
 -- for a sheet, with so many scratch places and image words: its image as S-records, or its refusal
 unfoldable pub sheetRecords : List ℕ → ℕ → ℕ → List ℕ
-sheetRecords text places room = printedAs (outcomeOf text places room) (imageText (sheet.startIn text) (sheet.image (sheet.sheetIn text)))
+sheetRecords text places room = printedAs (outcomeOf full text places room) (imageText (sheet.startIn text) (sheet.image (sheet.sheetIn text)))

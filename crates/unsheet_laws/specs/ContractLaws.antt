@@ -8,7 +8,7 @@ use lib.Seq.{take-at, drop-at}
 use Rattle.read_spec.specs.Accepted.{Words}
 use Rattle.sheet_spec.specs.declared.Listed.{Listed}
 use Rattle.sheet_spec.specs.Sheet.{startIn, sheetIn, lineCount, wordCount, image}
-use Rattle.sheet_spec.specs.Translate.{Outcome, inOrder, refused, over, outcomeOf, listedAs, listedOf, imageAs, imageOf}
+use Rattle.sheet_spec.specs.Translate.{full, Outcome, inOrder, refused, over, outcomeOf, listedAs, listedOf, imageAs, imageOf}
 use Rattle.sheet_spec.specs.Promises.{Translated}
 use Rattle.sheet_size_facts.specs.OutcomeLaws.{Sound, outcome-sound}
 use Rattle.sheet_size_facts.specs.Counted.{image-counts}
@@ -89,7 +89,7 @@ found-past f = past f
 
 -- ---- found, then translated: start and image come back, word for word
 pub found-translated : {start : ℕ} {v t t′ : List ℕ} {r : Unsheeted} → Words v → SheetFound start v t t′ r → r .number ≡ 0
-    → {w s w′ s′ : List ℕ} {q : Listed} → Translated (take (r .bytes) t′) w s w′ s′ q → r .lines ≤ length s → length v ≤ length w
+    → {w s w′ s′ : List ℕ} {q : Listed} → Translated full (take (r .bytes) t′) w s w′ s′ q → r .lines ≤ length s → length v ≤ length w
     → (q .number ≡ 0) × (q .lines ≡ r .lines) × (q .words ≡ length v) × (take (length v) w′ ≡ v) × (startIn (take (r .bytes) t′) ≡ start)
 unfolding listedOf imageOf
 found-translated {start} {v} {t} {t′} {r} words f h {w} {s} {w′} {s′} {q} d scratch room =
@@ -98,23 +98,23 @@ found-translated {start} {v} {t} {t′} {r} words f h {w} {s} {w′} {s′} {q} 
     let text = found-text f h in
     let back = found-returns start v (length t) words e in
     let lines : r .lines ≡ lineCount (sheetIn x) = ap (λ (a : Unsheeted). a .lines) (found-answer f e) ∙ sym (count-is start v (length t) words e) in
-    let d : Translated x w s w′ s′ q = subst (λ (b : List ℕ). Translated b w s w′ s′ q) text d in
+    let d : Translated full x w s w′ s′ q = subst (λ (b : List ℕ). Translated full b w s w′ s′ q) text d in
     let o = back .accepts (length s) (length w) (omega (arith, lines, scratch)) room in
     let a : q ≡ listedAs inOrder (lineCount (sheetIn x)) (wordCount (sheetIn x)) = d .listed ∙ ap (λ (u : Outcome). listedAs u (lineCount (sheetIn x)) (wordCount (sheetIn x))) o in
-    let counted : wordCount (sheetIn x) ≡ length v = sym (image-counts x (startIn x) (length s) (length w) o) ∙ ap length (back .words) in
+    let counted : wordCount (sheetIn x) ≡ length v = sym (image-counts full x (startIn x) (length s) (length w) o) ∙ ap length (back .words) in
     let left : w′ ≡ over v w = d .image ∙ ap (λ (u : Outcome). imageAs u (image (sheetIn x)) w) o ∙ ap (λ (b : List ℕ). over b w) (back .words) in
     (ap (λ (b : Listed). b .number) a, ap (λ (b : Listed). b .lines) a ∙ sym lines, ap (λ (b : Listed). b .words) a ∙ counted, ap (take (length v)) left ∙ take-at v (drop (length v) w) (length v) refl, ap startIn text ∙ back .starts)
 
 -- ---- translated, then found: the answer is the text's length and the sheet's lines, or 17 where the text is longer than 65,536 bytes or than what is lent
-pub translated-found : {text w s w′ s′ : List ℕ} {q : Listed} → Translated text w s w′ s′ q → q .number ≡ 0
+pub translated-found : {text w s w′ s′ : List ℕ} {q : Listed} → Translated full text w s w′ s′ q → q .number ≡ 0
     → {t t′ : List ℕ} {r : Unsheeted} → SheetFound (startIn text) (take (q .words) w′) t t′ r
     → r ≡ unsheetedAs (lengthOutcome (sheetText (startIn text) (take (q .words) w′)) (length t)) (length (sheetText (startIn text) (take (q .words) w′))) (q .lines)
 unfolding listedOf imageOf unsheetedOf
 translated-found {text} {w} {s} {w′} {s′} {q} d h {t} {t′} {r} f =
     let v = image (sheetIn text) in
-    let o : outcomeOf text (length s) (length w) ≡ inOrder = listed-by (outcomeOf text (length s) (length w)) (outcome-sound text (startIn text) (length s) (length w)) (lineCount (sheetIn text)) (wordCount (sheetIn text)) (sym (ap (λ (x : Listed). x .number) (d .listed)) ∙ h) in
+    let o : outcomeOf full text (length s) (length w) ≡ inOrder = listed-by (outcomeOf full text (length s) (length w)) (outcome-sound full text (startIn text) (length s) (length w)) (lineCount (sheetIn text)) (wordCount (sheetIn text)) (sym (ap (λ (x : Listed). x .number) (d .listed)) ∙ h) in
     let a : q ≡ listedAs inOrder (lineCount (sheetIn text)) (wordCount (sheetIn text)) = d .listed ∙ ap (λ (u : Outcome). listedAs u (lineCount (sheetIn text)) (wordCount (sheetIn text))) o in
-    let n : length v ≡ q .words = image-counts text (startIn text) (length s) (length w) o ∙ sym (ap (λ (x : Listed). x .words) a) in
+    let n : length v ≡ q .words = image-counts full text (startIn text) (length s) (length w) o ∙ sym (ap (λ (x : Listed). x .words) a) in
     let left : w′ ≡ over v w = d .image ∙ ap (λ (u : Outcome). imageAs u v w) o in
     let words : take (q .words) w′ ≡ v = ap (take (q .words)) left ∙ take-at v (drop (length v) w) (q .words) n in
     let lines : length (linesIn (startIn text) v) ≡ q .lines = lines-found text (startIn text) (length s) (length w) o ∙ sym (ap (λ (x : Listed). x .lines) a) in
@@ -125,7 +125,7 @@ translated-found {text} {w} {s} {w′} {s′} {q} d h {t} {t′} {r} f =
 
 -- ---- found, translated and found again: the same answer, and the same text
 pub found-again : {start : ℕ} {v t t′ : List ℕ} {r : Unsheeted} → Words v → SheetFound start v t t′ r → r .number ≡ 0
-    → {w s w′ s′ : List ℕ} {q : Listed} → Translated (take (r .bytes) t′) w s w′ s′ q → r .lines ≤ length s → length v ≤ length w
+    → {w s w′ s′ : List ℕ} {q : Listed} → Translated full (take (r .bytes) t′) w s w′ s′ q → r .lines ≤ length s → length v ≤ length w
     → {u u′ : List ℕ} {p : Unsheeted} → SheetFound (startIn (take (r .bytes) t′)) (take (q .words) w′) u u′ p → r .bytes ≤ length u
     → (p ≡ r) × (take (p .bytes) u′ ≡ take (r .bytes) t′)
 found-again {start} {v} {t} {t′} {r} words f h {w} {s} {w′} {s′} {q} d scratch room {u} {u′} {p} g lent =

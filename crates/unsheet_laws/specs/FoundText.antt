@@ -22,7 +22,7 @@ use Rattle.sheet_spec.specs.Line.{Parsed, says, no, lineOf}
 use Rattle.sheet_spec.specs.Made.{isSome, Line}
 use Rattle.sheet_spec.specs.Spell.{spell}
 use Rattle.sheet_spec.specs.Sheet.{feeds, last, isSheet, startLine, startOf, Sheet, sheetAt, startIn, sheetIn, lineCount, resolved, image, lineAt}
-use Rattle.sheet_spec.specs.Translate.{inOrder, require, opening, sheetOutcome, outcomeAt, outcomeOf}
+use Rattle.sheet_spec.specs.Translate.{full, inOrder, require, opening, sheetOutcome, outcomeAt, outcomeOf}
 use Rattle.sheet_spec.specs.Promises.{startText}
 use Rattle.sheet_facts.specs.SheetLaws.{lines-feeds}
 use Rattle.sheet_form_laws.specs.JoinForm.{joined-line}
@@ -135,17 +135,17 @@ module _ (start : ℕ) (v : List ℕ) (room : ℕ) (words : Words v) (e : unshee
       (le-leb 2 (feeds X) (omega (arith, feeds-are, n))))
       (le-leb (feeds X) 4097 (omega (arith, feeds-are, u .lines)))
 
-  opens : (places : ℕ) → lineCount (sheetIn X) ≤ places → opening X (startIn X) places ≡ inOrder
+  opens : (places : ℕ) → lineCount (sheetIn X) ≤ places → opening full X (startIn X) places ≡ inOrder
   opens places h =
       and-fine (require (isSheet X) 10) _ (require-is (isSheet X) 10 is-sheet)
       (and-fine (require (isSome (startOf (startLine X))) 7) _ (require-is _ 7 (ap isSome start-there))
       (and-fine (require (eqb (startIn X % 2) 0) 9) _ (require-is _ 9 (eq-eqb (startIn X % 2) 0 (ap (λ (n : ℕ). n % 2) start-is ∙ u .even)))
       (require-is _ 11 (le-leb (lineCount (sheetIn X)) places h))))
 
-  accepts : (places lent : ℕ) → lineCount (sheetIn X) ≤ places → length v ≤ lent → outcomeOf X places lent ≡ inOrder
+  accepts : (places lent : ℕ) → lineCount (sheetIn X) ≤ places → length v ≤ lent → outcomeOf full X places lent ≡ inOrder
   unfolding outcomeAt
   accepts places lent h g =
-      and-fine (opening X (startIn X) places) _ (opens places h)
+      and-fine (opening full X (startIn X) places) _ (opens places h)
       (ap (λ (s : Sheet). sheetOutcome s lent) sheet-is ∙ found-accepted start v words ls (u .whole) (u .ends) (u .branches) lent g)
 
   found-returns′ : Returns X start v

@@ -16,7 +16,7 @@ use Rattle.read_spec.specs.Plain.{plain}
 use Rattle.read_spec.specs.Read.{readOf}
 use Rattle.sheet_spec.specs.Made.{made}
 use Rattle.sheet_spec.specs.Sheet.{Sheet, sheetAt, startIn, sheetIn, lineCount, counts, total, endOf, countOfLine, addressOfLine, resolved, image}
-use Rattle.sheet_spec.specs.Translate.{Outcome, inOrder, andThen, outcomeAt, outcomeOf}
+use Rattle.sheet_spec.specs.Translate.{full, Outcome, inOrder, andThen, outcomeAt, outcomeOf}
 use Rattle.sheet_spec.specs.Follow.{Next, to, either, nextOf, lineNext, nextWith, targetLine, readingAt, Reads}
 use Rattle.sheet_spec.specs.Promises.{AcceptedText, Demand3}
 use Rattle.sheet_facts.specs.Lines.{line-grammar}
@@ -45,21 +45,21 @@ going x a k m p q t (inr e) = let h = subst (λ (y : Next). Aims y a × Within y
 past : {u w o : Outcome} → u ≡ inOrder → w ≡ o → andThen u w ≡ o
 past {w = w} p q = ap (λ (x : Outcome). andThen x w) p ∙ q
 
-module _ (text : List ℕ) (start places lent : ℕ) (e : outcomeAt text start places lent ≡ inOrder) where
+module _ (text : List ℕ) (start places lent : ℕ) (e : outcomeAt full text start places lent ≡ inOrder) where
   abbrev s : Sheet
   s = sheetAt start text
 
   abbrev v : List ℕ
   v = image s
 
-  ok : AcceptedText text start places lent
+  ok : AcceptedText full text start places lent
   ok = accepted text start places lent e
 
   demand : Demand3 s v
-  demand = demand-3-text text start places lent e
+  demand = demand-3-text full text start places lent e
 
   length-is : length v ≡ total (counts s)
-  length-is = image-counts text start places lent e
+  length-is = image-counts full text start places lent e
 
   -- the lines from line k on, m of them
   abbrev sheetLines : ℕ → ℕ → List ReadLine
@@ -151,17 +151,17 @@ module _ (text : List ℕ) (start places lent : ℕ) (e : outcomeAt text start p
       (past branches refl))))
 
 -- as many lines are read as the sheet has
-pub lines-found : (text : List ℕ) (start places words : ℕ) → outcomeAt text start places words ≡ inOrder → length (linesIn start (image (sheetAt start text))) ≡ lineCount (sheetAt start text)
+pub lines-found : (text : List ℕ) (start places words : ℕ) → outcomeAt full text start places words ≡ inOrder → length (linesIn start (image (sheetAt start text))) ≡ lineCount (sheetAt start text)
 lines-found text start places words e = ap length (read text start places words e .0) ∙ lines-length text start places words e 1 (lineCount (sheetAt start text))
 
 -- of a text at a start: found, or 17 and the spelling is too long
-pub sheet-found-at : (text : List ℕ) (start places words : ℕ) → outcomeAt text start places words ≡ inOrder → (room : ℕ)
+pub sheet-found-at : (text : List ℕ) (start places words : ℕ) → outcomeAt full text start places words ≡ inOrder → (room : ℕ)
     → unsheetOutcome start (image (sheetAt start text)) room
     ≡ lengthOutcome (sheetText start (image (sheetAt start text))) room
 sheet-found-at text start places words e room = found-but text start places words e room
 
 -- at its own
-pub sheet-found : (text : List ℕ) (places words : ℕ) → outcomeOf text places words ≡ inOrder → (room : ℕ)
+pub sheet-found : (text : List ℕ) (places words : ℕ) → outcomeOf full text places words ≡ inOrder → (room : ℕ)
     → unsheetOutcome (startIn text) (image (sheetIn text)) room
     ≡ lengthOutcome (sheetText (startIn text) (image (sheetIn text))) room
 sheet-found text places words e room = sheet-found-at text (startIn text) places words e room

@@ -9,7 +9,7 @@ use Rattle.read_spec.specs.declared.Reading.the-variants.{Read}
 use Rattle.read_spec.specs.Read.{readOf}
 use Rattle.sheet_spec.specs.Sheet.{startIn, sheetIn, lineCount, endOf, image}
 use Rattle.sheet_spec.specs.Follow.{to, either, nextOf}
-use Rattle.sheet_spec.specs.Translate.{inOrder, outcomeOf}
+use Rattle.sheet_spec.specs.Translate.{full, inOrder, outcomeOf}
 use Rattle.unsheet_spec.specs.declared.Unsheeted.{Unsheeted}
 use Rattle.unsheet_spec.specs.Lines.{ReadLine, addressAt}
 use Rattle.unsheet_spec.specs.Text.{sheetText}
@@ -53,6 +53,6 @@ pub record Found (start : ℕ) (v : List ℕ) (room : ℕ) (ls : List ReadLine) 
 
 -- a text is translated, with enough lent, into start and image
 pub record Returns (text : List ℕ) (start : ℕ) (v : List ℕ) : Type 0 where
-  pub accepts : (places room : ℕ) → lineCount (sheetIn text) ≤ places → length v ≤ room → outcomeOf text places room ≡ inOrder
+  pub accepts : (places room : ℕ) → lineCount (sheetIn text) ≤ places → length v ≤ room → outcomeOf full text places room ≡ inOrder
   pub starts : startIn text ≡ start
   pub words : image (sheetIn text) ≡ v
