@@ -10,7 +10,7 @@ use lib.ListN.{length, take, set, getD, length-map, List·getD-eq-default}
 use lib.IntN.{pos}
 use borrow.Author.Tests.{le-leb, lt-leb, leb-false}
 use Rattle.base_facts.specs.Lists.{pad, map-more}
-use Rattle.base_facts.specs.Tests.{and-yes, cond-true}
+use Rattle.base_facts.specs.Tests.{and-yes, cond-true, cond-false, never}
 use Rattle.base_spec.specs.Signed.{minus}
 use Rattle.numeric_spec.specs.Build.{builtOf}
 use Rattle.numeric_places.specs.declared.Numbers.{Numbers}
@@ -18,7 +18,7 @@ use Rattle.numeric_places.specs.Places.{signedFrom, numbersHeld, builtFrom}
 use Rattle.sheet_spec.specs.Line.{Token, literal, label, invalid, says}
 use Rattle.sheet_spec.specs.Made.{numberAs, isSome, resolves, resolvesAll, builtAs, ofLines}
 use Rattle.sheet_tokens.specs.Values.{capped, valueOf}
-use Rattle.sheet_labels.specs.Labels.{addressIn, numberIn, belowZero, saysLabel, namesLine, listed, labelledAll}
+use Rattle.sheet_labels.specs.Labels.{addressIn, numberIn, ownNumber, belowZero, saysLabel, namesLine, listed, aimed, aimedTo, labelledAll}
 
 -- by whether a number is above 4,096
 capped-cases : (P : ℕ → Type 0) (k : ℕ) → P k → (4096 < k → P 4097) → P (capped k)
@@ -81,6 +81,12 @@ negativeAs v = belowZero (valueOf v)
 abbrev pub magnitudeAs : List ℕ → Token → ℕ
 magnitudeAs addresses v = numberIn addresses (valueOf v)
 
+abbrev pub ownAs : Token → ℕ
+ownAs v = ownNumber (valueOf v)
+
+abbrev pub labelAs : Token → Bool
+labelAs v = saysLabel (valueOf v)
+
 abbrev pub heldBy : List ℕ → List Token → Numbers
 heldBy addresses vs = record { count = length vs; negative = inPlaces false negativeAs vs; magnitude = inPlaces 0 (magnitudeAs addresses) vs }
 
@@ -128,6 +134,67 @@ or-none : (a : Bool) → a || false ≡ a
 or-none true = refl
 or-none false = refl
 
+or-neither : (a b : Bool) → a || b ≡ false → (a ≡ false) × (b ≡ false)
+or-neither true b h = never (sym h)
+or-neither false b h = (refl, h)
+
 pub labelled-more : (vs : List Token) (v : Token) → labelledAll (vs ++ (v ∷ [])) ≡ labelledAll vs || saysLabel (valueOf v)
 labelled-more [] v = or-none (saysLabel (valueOf v))
 labelled-more (x ∷ xs) v = ap (λ (t : Bool). saysLabel (valueOf x) || t) (labelled-more xs v) ∙ or-assoc (saysLabel (valueOf x)) (labelledAll xs) (saysLabel (valueOf v))
+
+-- ---- labels made what f says
+set-same : (ms : List ℕ) (k : ℕ) → set ms k (getD ms k 0) ≡ ms
+set-same [] k = refl
+set-same (m ∷ ms) zero = refl
+set-same (m ∷ ms) (suc k) = ap (λ (t : List ℕ). m ∷ t) (set-same ms k)
+
+module _ (f : ℕ → ℕ) where
+  -- one place more
+  pub aimed-more : (bs : List Bool) (ms : List ℕ) (k : ℕ)
+      → set (aimedTo k f bs ms) k (cond (getD bs k false) (f (getD (aimedTo k f bs ms) k 0)) (getD (aimedTo k f bs ms) k 0)) ≡ aimedTo (suc k) f bs ms
+  aimed-more [] ms zero = set-same ms zero
+  aimed-more [] ms (suc k) = set-same ms (suc k)
+  aimed-more (b ∷ bs) [] zero = refl
+  aimed-more (b ∷ bs) [] (suc k) = refl
+  aimed-more (b ∷ bs) (m ∷ ms) zero = refl
+  aimed-more (b ∷ bs) (m ∷ ms) (suc k) = ap (λ (t : List ℕ). cond b (f m) m ∷ t) (aimed-more bs ms k)
+
+  -- past what is said there is no label
+  aimed-none : (n : ℕ) → aimed f (pad n false []) (pad n 0 []) ≡ pad n 0 []
+  aimed-none zero = refl
+  aimed-none (suc n) = ap (λ (t : List ℕ). 0 ∷ t) (aimed-none n)
+
+  aimed-pad : (n : ℕ) (vs : List Token) → aimedTo (length vs) f (pad n false (map labelAs vs)) (pad n 0 (map ownAs vs)) ≡ aimed f (pad n false (map labelAs vs)) (pad n 0 (map ownAs vs))
+  aimed-pad zero [] = refl
+  aimed-pad zero (v ∷ vs) = refl
+  aimed-pad (suc n) [] = sym (aimed-none (suc n))
+  aimed-pad (suc n) (v ∷ vs) = ap (λ (t : List ℕ). cond (labelAs v) (f (ownAs v)) (ownAs v) ∷ t) (aimed-pad n vs)
+
+  pub aimed-all : (vs : List Token) → aimedTo (length vs) f (inPlaces false labelAs vs) (inPlaces 0 ownAs vs) ≡ aimed f (inPlaces false labelAs vs) (inPlaces 0 ownAs vs)
+  aimed-all = aimed-pad 24
+
+  -- a line without a label
+  unlabelled-pad : (n : ℕ) (vs : List Token) → labelledAll vs ≡ false → aimed f (pad n false (map labelAs vs)) (pad n 0 (map ownAs vs)) ≡ pad n 0 (map ownAs vs)
+  unlabelled-pad zero vs h = refl
+  unlabelled-pad (suc n) [] h = aimed-none (suc n)
+  unlabelled-pad (suc n) (v ∷ vs) h =
+      let b = or-neither (labelAs v) (labelledAll vs) h in
+      λ i. cond-false (labelAs v) (f (ownAs v)) (ownAs v) (b .0) i ∷ unlabelled-pad n vs (b .1) i
+
+  pub aimed-unlabelled : (vs : List Token) → labelledAll vs ≡ false → aimed f (inPlaces false labelAs vs) (inPlaces 0 ownAs vs) ≡ inPlaces 0 ownAs vs
+  aimed-unlabelled = unlabelled-pad 24
+
+-- made addresses of a list
+module _ (addresses : List ℕ) where
+  aimed-token : (v : Token) → cond (labelAs v) (addressIn addresses (ownAs v)) (ownAs v) ≡ magnitudeAs addresses v
+  aimed-token (literal s n) = refl
+  aimed-token (label k) = refl
+  aimed-token invalid = refl
+
+  listed-pad : (n : ℕ) (vs : List Token) → aimed (addressIn addresses) (pad n false (map labelAs vs)) (pad n 0 (map ownAs vs)) ≡ pad n 0 (map (magnitudeAs addresses) vs)
+  listed-pad zero vs = refl
+  listed-pad (suc n) [] = aimed-none (addressIn addresses) (suc n)
+  listed-pad (suc n) (v ∷ vs) = λ i. aimed-token v i ∷ listed-pad n vs i
+
+  pub aimed-listed : (vs : List Token) → aimed (addressIn addresses) (inPlaces false labelAs vs) (inPlaces 0 ownAs vs) ≡ inPlaces 0 (magnitudeAs addresses) vs
+  aimed-listed = listed-pad 24

@@ -1,6 +1,6 @@
 -- What a field's value says, with the lines at given addresses.
-use Prim.Native.Nat.{ℕ, pred}
-use mathlib.Core.Bool.{Bool, true, false, _&&_, _||_}
+use Prim.Native.Nat.{ℕ, zero, suc, pred}
+use mathlib.Core.Bool.{Bool, true, false, cond, _&&_, _||_}
 use mathlib.Core.List.{List, [], _∷_}
 use mathlib.Core.Option.{Option}
 use lib.Dec.{leb}
@@ -21,6 +21,12 @@ numberIn addresses (value.Number negative n) = n
 numberIn addresses (value.Line k) = addressIn addresses k
 numberIn addresses value.None = 0
 
+-- of a label its line's number
+abbrev pub ownNumber : Value → ℕ
+ownNumber (value.Number negative n) = n
+ownNumber (value.Line k) = k
+ownNumber value.None = 0
+
 abbrev pub belowZero : Value → Bool
 belowZero (value.Number negative n) = negative
 belowZero (value.Line k) = false
@@ -40,6 +46,19 @@ namesLine n value.None = true
 -- labels made the addresses of a list, one a line
 abbrev pub listed : List ℕ → ℕ → Option ℕ
 listed addresses = ofLines (length addresses) (λ k. getD addresses (pred k) 0)
+
+-- labels among numbers in places, each made what f says
+abbrev pub aimed : (ℕ → ℕ) → List Bool → List ℕ → List ℕ
+aimed f [] ms = []
+aimed f (b ∷ bs) [] = []
+aimed f (b ∷ bs) (m ∷ ms) = cond b (f m) m ∷ aimed f bs ms
+
+-- those of the first k places
+abbrev pub aimedTo : ℕ → (ℕ → ℕ) → List Bool → List ℕ → List ℕ
+aimedTo zero f bs ms = ms
+aimedTo (suc k) f [] ms = ms
+aimedTo (suc k) f (b ∷ bs) [] = []
+aimedTo (suc k) f (b ∷ bs) (m ∷ ms) = cond b (f m) m ∷ aimedTo k f bs ms
 
 -- what a line says has a label
 abbrev pub labelledAll : List Token → Bool

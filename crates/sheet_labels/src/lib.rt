@@ -1,6 +1,6 @@
 // What a field's value says of a label: the address that it is made, and whether it names a line.
 ghost use mathlib.Core.Path.{_≡_};
-ghost use Rattle.sheet_labels.specs.Labels.{addressIn, numberIn, belowZero, saysLabel, namesLine};
+ghost use Rattle.sheet_labels.specs.Labels.{addressIn, ownNumber, belowZero, saysLabel, namesLine};
 use sheet_tokens::Value;
 
 fn wide(x: u32) -> u64
@@ -10,7 +10,7 @@ fn wide(x: u32) -> u64
 }
 
 // The address of line k, or 0 where there is none.
-fn address_in(addresses: &[u32], k: u64) -> u64
+pub fn address_in(addresses: &[u32], k: u64) -> u64
     ensures { λ r. ⌜ r ≡ addressIn (now (addresses .entry)) k ⌝ }
 {
     if k == 0 {
@@ -23,16 +23,16 @@ fn address_in(addresses: &[u32], k: u64) -> u64
     0
 }
 
-// The number that a value says, a label made its line's address.
-pub fn number_in(addresses: &[u32], v: Value) -> u64
-    ensures { λ r. ⌜ r ≡ numberIn (now (addresses .entry)) v ⌝ }
+// The number that a value says, of a label its line's.
+pub fn own_number(v: Value) -> u64
+    ensures { λ r. ⌜ r ≡ ownNumber v ⌝ }
 {
     match v {
         Value::Number {
             negative: _,
             magnitude,
         } => magnitude,
-        Value::Line(k) => address_in(addresses, k),
+        Value::Line(k) => k,
         Value::None => 0,
     }
 }
