@@ -2,3 +2,4 @@ pub mod Passes
 pub mod Settle
 pub mod PassLaws
 pub mod SettleLaws
+pub mod Walks

@@ -36,7 +36,7 @@ pub struct Sized {
 }
 
 // The size of what a line makes, or why the line is turned back.
-fn sized_as(b: Built, named: bool) -> Measured
+pub fn sized_as(b: Built, named: bool) -> Measured
     ensures { λ r. ⌜ r ≡ sizedAs (judged b named) ⌝ }
 {
     match b {
@@ -117,7 +117,7 @@ fn judge(line: &[u8], lines: usize, address: u32) -> LineJudged
     judge_unlabelled(built, address)
 }
 
-fn encoded_as(b: Built, address: u32) -> Encoded
+pub fn encoded_as(b: Built, address: u32) -> Encoded
     ensures { λ r. ⌜ r ≡ encodedLine address (judged b true) ⌝ }
 {
     match b {
@@ -142,7 +142,7 @@ fn encoded(line: &[u8], addresses: &[u32], address: u32) -> Encoded
     encoded_as(built, address)
 }
 
-fn refused_at(k: usize, number: u8, detail: u8, value: i64) -> Passed
+pub fn refused_at(k: usize, number: u8, detail: u8, value: i64) -> Passed
     requires { ⌜ k < 4096 ⌝ }
     ensures { λ r. ⌜ r ≡ passedOf (refused number (k + 1) detail value) 0 ⌝ }
 {
@@ -155,7 +155,7 @@ fn refused_at(k: usize, number: u8, detail: u8, value: i64) -> Passed
     }
 }
 
-fn in_order(words: usize) -> Passed
+pub fn in_order(words: usize) -> Passed
     ensures { λ r. ⌜ r ≡ passedOf inOrder words ⌝ }
 {
     Passed {
@@ -260,7 +260,7 @@ pub fn ranges(text: &[u8], from: usize, addresses: &[u32], settled: bool) -> Pas
 }
 
 // The words that count, at the front of the part.
-fn put_words(part: &mut [u16], e: Encoded)
+pub fn put_words(part: &mut [u16], e: Encoded)
     requires { ⌜ (e .count ≤ 11) × (e .count ≤ length (now part)) ⌝ }
     ensures { λ r. ⌜ now (part .exit) ≡ over (encodedWords e) (now (part .entry)) ⌝ }
 {

@@ -1,4 +1,5 @@
 pub mod Translated
 pub mod StageLaws
 pub mod PlaceLaws
+pub mod Stages
 pub mod Left

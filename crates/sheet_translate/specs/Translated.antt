@@ -5,7 +5,7 @@ use mathlib.Core.List.{List}
 use Prim.Native.Nat.{ℕ, _≤_}
 use lib.ListN.{length, take}
 use Rattle.sheet_spec.specs.Sheet.{sheetIn, lineCount, wordCount, addresses, encoded}
-use Rattle.sheet_spec.specs.Translate.{Outcome, inOrder, refused, encoding, outcomeOf}
+use Rattle.sheet_spec.specs.Translate.{full, Outcome, inOrder, refused, encoding, outcomeOf}
 use Rattle.sheet_spec.specs.Promises.{MeasuredSheet}
 use Rattle.sheet_passes.specs.Passes.{parsedAt}
 use Rattle.sheet_passes.specs.Settle.{Settled}
@@ -26,4 +26,4 @@ pub record SizedSheet (text : List ℕ) (from lines words : ℕ) (settled : Bool
   pub settles : settled ≡ true → Settled (addresses (sheetIn text)) (sheetIn text .lines)
   pub addresses : take lines s ≡ addresses (sheetIn text)
   pub measured : MeasuredSheet (sheetIn text)
-  pub outcome : outcomeOf text (length s) (length v) ≡ encoding (encoded (sheetIn text))
+  pub outcome : outcomeOf full text (length s) (length v) ≡ encoding (encoded (sheetIn text))

@@ -4,7 +4,7 @@ ghost use Prim.Native.Nat.{_≤_};
 ghost use lib.ListN.{length, replicate};
 ghost use Rattle.sheet_spec.specs.Sheet.{startIn};
 ghost use Rattle.sheet_spec.specs.Translate as stage;
-ghost use Rattle.sheet_spec.specs.Translate.{inOrder, refused, listedAs};
+ghost use Rattle.sheet_spec.specs.Translate.{inOrder, refused, full, listedAs};
 ghost use Rattle.sheet_translate.specs.Translated.{outcomeNumber, SizedSheet};
 ghost use Rattle.sheet_spec.specs.Promises.{Translated};
 use sheet_passes::Passed;
@@ -21,7 +21,7 @@ fn zero(s: &mut [u32])
 }
 
 // A refusal; every place of the scratch is 0.
-fn refuse(scratch: &mut [u32], number: u8, line: usize, detail: u8, value: i64) -> Listed
+pub fn refuse(scratch: &mut [u32], number: u8, line: usize, detail: u8, value: i64) -> Listed
     ensures { λ r. ⌜ (r ≡ listedAs (refused number line detail value) 0 0) × (now (scratch .exit) ≡ replicate (length (now (scratch .entry))) 0) ⌝ }
 {
     zero(scratch);
@@ -36,15 +36,15 @@ fn refuse(scratch: &mut [u32], number: u8, line: usize, detail: u8, value: i64) 
 }
 
 // The refusal of a pass over the lines.
-fn refuse_pass(scratch: &mut [u32], p: Passed) -> Listed
+pub fn refuse_pass(scratch: &mut [u32], p: Passed) -> Listed
     ensures { λ r. ⌜ (r ≡ listedAs (refused (p .number) (p .line) (p .detail) (p .value)) 0 0) × (now (scratch .exit) ≡ replicate (length (now (scratch .entry))) 0) ⌝ }
 {
     refuse(scratch, p.number, p.line, p.detail, p.value)
 }
 
 // Before the lines: the sheet's outline, START, the scratch. 0 where all are in order.
-fn opening(text: &[u8], places: usize) -> u8
-    ensures { λ r. ⌜ r ≡ outcomeNumber (stage.opening (now (text .entry)) (startIn (now (text .entry))) places) ⌝ }
+pub fn opening(text: &[u8], places: usize) -> u8
+    ensures { λ r. ⌜ r ≡ outcomeNumber (stage.opening full (now (text .entry)) (startIn (now (text .entry))) places) ⌝ }
 {
     if !sheet_start::is_sheet(text) {
         return 10;
@@ -63,7 +63,7 @@ fn opening(text: &[u8], places: usize) -> u8
 }
 
 // After all lines: the end, the image's room. 0 where both are in order.
-fn closing(start: u32, words: usize, room: usize) -> u8
+pub fn closing(start: u32, words: usize, room: usize) -> u8
     requires { ⌜ words ≤ 45056 ⌝ }
     ensures { λ r. ⌜ r ≡ outcomeNumber (stage.closing start words room) ⌝ }
 {
@@ -87,7 +87,7 @@ fn lay_down(
     scratch: &mut [u32],
 ) -> Listed
     requires { ⌜ SizedSheet (now text) from lines words settled (now image) (now scratch) ⌝ }
-    ensures { λ r. ⌜ Translated (now (text .entry)) (now (image .entry)) (now (scratch .entry)) (now (image .exit)) (now (scratch .exit)) r ⌝ }
+    ensures { λ r. ⌜ Translated full (now (text .entry)) (now (image .entry)) (now (scratch .entry)) (now (image .exit)) (now (scratch .exit)) r ⌝ }
 {
     let p = sheet_passes::ranges(text, from, &scratch[..lines], settled);
     if p.number != 0 {
@@ -106,8 +106,8 @@ fn lay_down(
 
 // The lines of a sheet whose opening is in order.
 fn translate_lines(text: &[u8], image: &mut [u16], scratch: &mut [u32]) -> Listed
-    requires { ⌜ stage.opening (now text) (startIn (now text)) (length (now scratch)) ≡ inOrder ⌝ }
-    ensures { λ r. ⌜ Translated (now (text .entry)) (now (image .entry)) (now (scratch .entry)) (now (image .exit)) (now (scratch .exit)) r ⌝ }
+    requires { ⌜ stage.opening full (now text) (startIn (now text)) (length (now scratch)) ≡ inOrder ⌝ }
+    ensures { λ r. ⌜ Translated full (now (text .entry)) (now (image .entry)) (now (scratch .entry)) (now (image .exit)) (now (scratch .exit)) r ⌝ }
 {
     let lines = sheet_start::feeds(text) - 1;
     let from = sheet_start::lines_begin(text);
@@ -128,7 +128,7 @@ fn translate_lines(text: &[u8], image: &mut [u16], scratch: &mut [u32]) -> Liste
 
 // The sheet's counts of lines and words, with the words in the image and the lines' addresses in the scratch; or its refusal.
 pub fn translate(text: &[u8], image: &mut [u16], scratch: &mut [u32]) -> Listed
-    ensures { λ r. ⌜ Translated (now (text .entry)) (now (image .entry)) (now (scratch .entry)) (now (image .exit)) (now (scratch .exit)) r ⌝ }
+    ensures { λ r. ⌜ Translated full (now (text .entry)) (now (image .entry)) (now (scratch .entry)) (now (image .exit)) (now (scratch .exit)) r ⌝ }
 {
     let number = opening(text, scratch.len());
     if number != 0 {

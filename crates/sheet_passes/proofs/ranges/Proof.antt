@@ -4,7 +4,8 @@ use borrow.Author.Needs.{needs}
 use mir.Facts.{toZ-ofZ}
 use mir.Syntax.{w64}
 use lib.ListN.{length}
-use Rattle.sheet_passes.proofs.Laws.{Ranging, ranging, ranging-end, ranging-stop, ranging-next, place-inside}
+use Rattle.sheet_passes.proofs.Laws.{Ranging, ranging, ranging-end, ranging-stop, ranging-next}
+use Rattle.sheet_passes.specs.Walks.{place-inside}
 use Rattle.sheet_passes.proofs.ranges.Statement.{statement}
 use Rattle.sheet_passes.proofs.ranges.Tie as tie
 

@@ -4,7 +4,7 @@ use mathlib.Core.Path.{_≡_, refl}
 use Prim.Native.Nat.{_-_, _≤_}
 use native.Mathlib.Omega.{arith}
 use lib.ListN.{length, length-take, length-drop}
-use Rattle.sheet_passes.proofs.Laws.{place-inside, Writing, writing, writing-end, writing-most, writing-room, writing-next}
+use Rattle.sheet_passes.specs.Walks.{place-inside, Writing, writing, writing-end, writing-most, writing-room, writing-next}
 
 abbrev Inv-loop : tie.InvT-loop
 Inv-loop text from addresses image₀ next₀ k₀ at₀ image next k at =

@@ -1,4 +1,4 @@
-use Rattle.sheet_translate.proofs.Laws.{lent, placed, settled-lines, refused-range, image-fits, laid}
+use Rattle.sheet_translate.proofs.Laws.{lent, placed, settled-lines, range-refused, words-fit, laid-down}
 use borrow.Author.Needs.{needs}
 use Rattle.sheet_translate.proofs.lay_down.Statement.{statement}
 use Rattle.sheet_translate.proofs.lay_down.Tie as tie
@@ -13,7 +13,7 @@ returns : tie.Need-returns
 returns c =
     let p = c .before .before .before .before .before .before .ranges in
     let r = c .before .before .refuse-pass in
-    refused-range (c .before .before .before .before .before .before .before .before .before .before .before .pre) (p .result) (p .ensures) (c .before .before .before .before .if1 .taken) (r .last .0) (r .result) (r .ensures .0) (r .ensures .1)
+    range-refused (c .before .before .before .before .before .before .before .before .before .before .before .pre) (p .result) (p .ensures) (c .before .before .before .before .if1 .taken) (r .last .0) (r .result) (r .ensures .0) (r .ensures .1)
 
 slice-aggregate-write : tie.Need-slice-aggregate-write
 slice-aggregate-write c = lent (c .before .before .before .before .before .before .before .before .pre)
@@ -22,13 +22,13 @@ write-requires : tie.Need-write-requires
 write-requires c κs =
     let z = c .before .before .before .before .before .before .before .before .before .pre in
     let p = c .before .before .before .before .ranges in
-    (placed z, image-fits z (p .result) (p .ensures) (c .before .before .if1 .left))
+    (placed z, words-fit z (p .result) (p .ensures) (c .before .before .if1 .left))
 
 returns-2 : tie.Need-returns-2
 returns-2 c =
     let p = c .before .before .before .before .before .before .before .ranges in
     let w = c .before .before .write in
-    laid (c .before .before .before .before .before .before .before .before .before .before .before .before .pre) (p .result) (p .ensures) (c .before .before .before .before .before .if1 .left) (w .last .1 .1 .1 .0) (w .ensures .1)
+    laid-down (c .before .before .before .before .before .before .before .before .before .before .before .before .pre) (p .result) (p .ensures) (c .before .before .before .before .before .if1 .left) (w .last .1 .1 .1 .0) (w .ensures .1)
 
 pub lay-down-spec : {M : Type 1} → statement M
 lay-down-spec =

@@ -1,5 +1,6 @@
 use lib.ListN.{length}
-use Rattle.sheet_translate.proofs.Laws.{refused-opening, opening-fine}
+use Rattle.sheet_spec.specs.Translate.{full}
+use Rattle.sheet_translate.specs.Stages.{refused-opening, opening-fine}
 use borrow.Author.Needs.{needs}
 use Rattle.sheet_translate.proofs.translate.Statement.{statement}
 use Rattle.sheet_translate.proofs.translate.Tie as tie
@@ -9,13 +10,13 @@ returns c =
     let a = c .before .before .before .before .before .before .before .before .before .args in
     let k = c .before .before .before .before .before .opening in
     let r = c .before .before .refuse in
-    refused-opening (a .text .now) (a .image .now) (a .scratch .now) (k .result) (k .ensures) (c .before .before .before .before .if1 .taken) (r .last .0) (r .result) (r .ensures .0) (r .ensures .1)
+    refused-opening full (a .text .now) (a .image .now) (a .scratch .now) (k .result) (k .ensures) (c .before .before .before .before .if1 .taken) (r .last .0) (r .result) (r .ensures .0) (r .ensures .1)
 
 translate-lines-requires : tie.Need-translate-lines-requires
 translate-lines-requires c κs =
     let a = c .before .before .before .before .before .before .before .args in
     let k = c .before .before .before .opening in
-    opening-fine (a .text .now) (length (a .scratch .now)) (k .result) (k .ensures) (c .before .before .if1 .left)
+    opening-fine full (a .text .now) (length (a .scratch .now)) (k .result) (k .ensures) (c .before .before .if1 .left)
 
 pub translate-spec : {M : Type 1} → statement M
 translate-spec =

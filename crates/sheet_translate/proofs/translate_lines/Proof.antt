@@ -1,4 +1,4 @@
-use Rattle.sheet_translate.proofs.Laws.{feeds-some, sizes-ready, refused-size, words-most, refused-end, ready, done}
+use Rattle.sheet_translate.proofs.Laws.{feeds-some, sizes-ready, size-refused, few-words, end-refused, ready, done}
 use borrow.Author.Needs.{needs}
 use Rattle.sheet_translate.proofs.translate_lines.Statement.{statement}
 use Rattle.sheet_translate.proofs.translate_lines.Tie as tie
@@ -24,7 +24,7 @@ returns c =
     let t = c .before .before .before .before .before .before .before .before .before .before .before .start in
     let p = c .before .before .before .before .before .before .before .before .before .sizes in
     let r = c .before .before .refuse-pass in
-    refused-size (a .text .now) (a .image .now) (a .scratch .now) (c .before .before .before .before .before .before .before .before .before .before .before .before .before .before .before .before .before .pre) (n .result) (n .ensures) (f .result) (f .ensures) (t .result) (t .ensures) (p .result) (p .last .1 .1 .1 .1 .0) (p .ensures .0) (p .ensures .1) (c .before .before .before .before .if1 .taken) (r .last .0) (r .result) (r .ensures .0) (r .ensures .1)
+    size-refused (a .text .now) (a .image .now) (a .scratch .now) (c .before .before .before .before .before .before .before .before .before .before .before .before .before .before .before .before .before .pre) (n .result) (n .ensures) (f .result) (f .ensures) (t .result) (t .ensures) (p .result) (p .last .1 .1 .1 .1 .0) (p .ensures .0) (p .ensures .1) (c .before .before .before .before .if1 .taken) (r .last .0) (r .result) (r .ensures .0) (r .ensures .1)
 
 closing-requires : tie.Need-closing-requires
 closing-requires c κs =
@@ -33,7 +33,7 @@ closing-requires c κs =
     let f = c .before .before .before .before .before .before .before .before .lines-begin in
     let t = c .before .before .before .before .before .before .before .start in
     let p = c .before .before .before .before .before .sizes in
-    words-most (a .text .now) (a .image .now) (a .scratch .now) (c .before .before .before .before .before .before .before .before .before .before .before .before .before .pre) (n .result) (n .ensures) (f .result) (f .ensures) (t .result) (t .ensures) (p .result) (p .last .1 .1 .1 .1 .0) (p .ensures .0) (p .ensures .1) (c .if1 .left)
+    few-words (a .text .now) (a .image .now) (a .scratch .now) (c .before .before .before .before .before .before .before .before .before .before .before .before .before .pre) (n .result) (n .ensures) (f .result) (f .ensures) (t .result) (t .ensures) (p .result) (p .last .1 .1 .1 .1 .0) (p .ensures .0) (p .ensures .1) (c .if1 .left)
 
 returns-2 : tie.Need-returns-2
 returns-2 c =
@@ -44,7 +44,7 @@ returns-2 c =
     let p = c .before .before .before .before .before .before .before .before .before .before .before .sizes in
     let k = c .before .before .before .before .before .closing in
     let r = c .before .before .refuse in
-    refused-end (a .text .now) (a .image .now) (a .scratch .now) (c .before .before .before .before .before .before .before .before .before .before .before .before .before .before .before .before .before .before .before .pre) (n .result) (n .ensures) (f .result) (f .ensures) (t .result) (t .ensures) (p .result) (p .last .1 .1 .1 .1 .0) (p .ensures .0) (p .ensures .1) (c .before .before .before .before .before .before .if1 .left) (k .result) (k .ensures) (c .before .before .before .before .if2 .taken) (r .last .0) (r .result) (r .ensures .0) (r .ensures .1)
+    end-refused (a .text .now) (a .image .now) (a .scratch .now) (c .before .before .before .before .before .before .before .before .before .before .before .before .before .before .before .before .before .before .before .pre) (n .result) (n .ensures) (f .result) (f .ensures) (t .result) (t .ensures) (p .result) (p .last .1 .1 .1 .1 .0) (p .ensures .0) (p .ensures .1) (c .before .before .before .before .before .before .if1 .left) (k .result) (k .ensures) (c .before .before .before .before .if2 .taken) (r .last .0) (r .result) (r .ensures .0) (r .ensures .1)
 
 lay-down-requires : tie.Need-lay-down-requires
 lay-down-requires c κs =
