@@ -4,7 +4,7 @@ use mathlib.Core.List.{[], _∷_}
 use lib.IntN.{negsuc}
 use Rattle.base_spec.specs.Written.{decimalOf}
 use Rattle.sheet_spec.specs.Names.{bytes}
-use Rattle.sheet_spec.specs.Translate.{outcomeAt}
+use Rattle.sheet_spec.specs.Translate.{full, outcomeAt}
 use Rattle.print_spec.specs.Printed.{lineText, lineRefusal, printedOf}
 
 -- a line of one word, and one of two
@@ -17,6 +17,6 @@ unfolding lineRefusal decimalOf
 refusal = refl
 
 -- START 4097 (01)
-odd : printedOf (bytes "START\t4097\nNOP\n") 4096 16384 ≡ bytes "refused\t9\t0\t0\t0\n"
+odd : printedOf full (bytes "START\t4097\nNOP\n") 4096 16384 ≡ bytes "refused\t9\t0\t0\t0\n"
 unfolding printedOf outcomeAt lineRefusal decimalOf
 odd = refl

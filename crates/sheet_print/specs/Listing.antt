@@ -1,10 +1,13 @@
 -- A listing from the lines' addresses and the words of all lines.
 use Prim.Native.Nat.{ℕ, suc, _-_, _/_, _≤_}
+use mathlib.Core.Path.{_≡_}
 use mathlib.Core.List.{List, [], _∷_, _++_}
 use lib.ListN.{length, take, drop, getD}
 use mathlib.Core.Bool.{true, false}
+use Rattle.base_spec.specs.Written.{placed}
+use Rattle.sheet_spec.specs.Translate.{ScratchRule, imageOf, scratchOf}
 use Rattle.print_spec.specs.declared.Output.{Output}
-use Rattle.print_spec.specs.Printed.{lineText}
+use Rattle.print_spec.specs.Printed.{lineText, printedOf}
 
 -- the words of the first line, where so many are left: half the bytes up to the next line, or all
 abbrev pub firstCount : List ℕ → ℕ → ℕ
@@ -35,3 +38,11 @@ wideBy n = record { wide = true; count = n }
 
 abbrev pub notWide : Output
 notWide = record { wide = false; count = 0 }
+
+-- n bytes printed from the buffer's first place on, at most 4,096 lines of 69; image and scratch as the translator leaves them
+pub record PrintedWide (rule : ScratchRule) (text v s out v′ s′ out′ : List ℕ) (n : ℕ) : Type 0 where
+  pub count : n ≡ length (printedOf rule text (length s) (length v))
+  pub buffer : out′ ≡ placed out 0 (printedOf rule text (length s) (length v))
+  pub few : n ≤ 282624
+  pub image : v′ ≡ imageOf rule text (length s) v
+  pub scratch : s′ ≡ scratchOf rule text s v

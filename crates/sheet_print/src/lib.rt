@@ -2,15 +2,14 @@
 ghost use mathlib.Core.Path.{_≡_};
 ghost use Prim.Native.Nat.{_+_, _*_, _-_, _/_, _≤_};
 ghost use lib.ListN.{length};
-ghost use Rattle.base_spec.specs.Written.{placed};
 ghost use Rattle.base_text.specs.Wrote.{Wrote};
-ghost use Rattle.sheet_spec.specs.Translate.{imageOf, scratchOf};
-ghost use Rattle.print_spec.specs.Printed.{lineText, printedOf, Printed};
-ghost use Rattle.sheet_print.specs.Listing.{firstCount, linesText, Rises, Laid, notWide, wideBy};
+ghost use Rattle.sheet_spec.specs.Translate.{full};
+ghost use Rattle.print_spec.specs.Printed.{lineText, Printed};
+ghost use Rattle.sheet_print.specs.Listing.{firstCount, linesText, Rises, Laid, notWide, wideBy, PrintedWide};
 use print_spec::Output;
 
 // A line's number, address and words.
-fn put_line(out: &mut [u8], at: usize, k: usize, address: u32, words: &[u16]) -> usize
+pub fn put_line(out: &mut [u8], at: usize, k: usize, address: u32, words: &[u16]) -> usize
     requires { ⌜ (at + 69 ≤ length (now out)) × (k ≤ 4096) × (length (now words) ≤ 11) ⌝ }
     ensures { λ r. ⌜ Wrote (now (out .entry)) at (lineText k address (now (words .entry))) (now (out .exit)) r × (r ≤ at + 69) ⌝ }
 {
@@ -59,8 +58,7 @@ fn put_listing(addresses: &[u32], words: &[u16], out: &mut [u8]) -> usize
 // The listing or the refusal of a sheet, from the first place on; how many places it takes.
 fn print_wide(text: &[u8], image: &mut [u16], scratch: &mut [u32], out: &mut [u8]) -> usize
     requires { ⌜ 282624 ≤ length (now out) ⌝ }
-    ensures { λ r. ⌜ (r ≡ length (printedOf (now (text .entry)) (length (now (scratch .entry))) (length (now (image .entry))))) × (now (out .exit) ≡ placed (now (out .entry)) 0 (printedOf (now (text .entry)) (length (now (scratch .entry))) (length (now (image .entry))))) × (r ≤ 282624) ⌝ }
-    ensures { λ r. ⌜ (now (image .exit) ≡ imageOf (now (text .entry)) (length (now (scratch .entry))) (now (image .entry))) × (now (scratch .exit) ≡ scratchOf (now (text .entry)) (now (scratch .entry)) (now (image .entry))) ⌝ }
+    ensures { λ r. ⌜ PrintedWide full (now (text .entry)) (now (image .entry)) (now (scratch .entry)) (now (out .entry)) (now (image .exit)) (now (scratch .exit)) (now (out .exit)) r ⌝ }
 {
     let r = sheet_translate::translate(text, image, scratch);
     if r.number == 0 {
@@ -71,7 +69,7 @@ fn print_wide(text: &[u8], image: &mut [u16], scratch: &mut [u32], out: &mut [u8
     print_parts::put_refusal(out, r.number, r.line, r.detail, r.value)
 }
 
-fn not_wide() -> Output
+pub fn not_wide() -> Output
     ensures { λ r. ⌜ r ≡ notWide ⌝ }
 {
     Output {
@@ -80,7 +78,7 @@ fn not_wide() -> Output
     }
 }
 
-fn wide(count: usize) -> Output
+pub fn wide(count: usize) -> Output
     ensures { λ r. ⌜ r ≡ wideBy count ⌝ }
 {
     Output {
@@ -91,7 +89,7 @@ fn wide(count: usize) -> Output
 
 // The same, where the buffer is wide enough; how much was written.
 pub fn print(text: &[u8], image: &mut [u16], scratch: &mut [u32], out: &mut [u8]) -> Output
-    ensures { λ r. ⌜ Printed (now (text .entry)) (now (image .entry)) (now (scratch .entry)) (now (out .entry)) (now (image .exit)) (now (scratch .exit)) (now (out .exit)) r × (r .count ≤ 282624) ⌝ }
+    ensures { λ r. ⌜ Printed full (now (text .entry)) (now (image .entry)) (now (scratch .entry)) (now (out .entry)) (now (image .exit)) (now (scratch .exit)) (now (out .exit)) r × (r .count ≤ 282624) ⌝ }
 {
     if out.len() < 282624 {
         return not_wide();

@@ -9,8 +9,8 @@ returns : tie.Need-returns
 returns c =
     let a = c .before .before .before .args in
     let h = c .before .header-at in (
-      c .limit .ensures ∙ ap (limited (a .second) (a .third)) (h .ensures .0),
-      subst (Within (a .from) (length (a .list .now)) (a .second) (a .third)) (sym (c .limit .ensures)) (limited-within (a .from) (length (a .list .now)) (a .second) (a .third) (h .result) (h .ensures .1)),
+      c .limit .ensures ∙ ap (limited (a .second) (a .third) (a .fourth)) (h .ensures .0),
+      subst (Within (a .from) (length (a .list .now)) (a .second) (a .third) (a .fourth)) (sym (c .limit .ensures)) (limited-within (a .from) (length (a .list .now)) (a .second) (a .third) (a .fourth) (h .result) (h .ensures .1)),
     )
 
 pub header-of-numbers-spec : {M : Type 1} → statement M

@@ -28,17 +28,14 @@ returns : tie.Need-returns
 returns c =
     let t = c .before .before .before .before .before .before .before .before .before .before .before .before .translate .ensures in
     let l = listable t (c .before .before .before .before .before .before .if1 .taken) in
-    let p = c .before .before .put-listing .ensures in
-    let f = from-first _ (p .0) (l .listing) in
-    ((f .0, f .1, omega (arith, l .few)), (t .image, t .scratch))
+    from-first t (c .before .before .put-listing .ensures .0) (l .listing) (omega (arith, l .few))
 
 returns-2 : tie.Need-returns-2
 unfolding printedOf
 returns-2 c =
     let t = c .before .before .before .before .before .before .before .before .before .before .before .translate in
     let p = rw (toZ-ofZ {w = w64} {z = t .result .value} (search needs)) at (c .before .before .put-refusal .ensures) in
-    let f = from-first _ (p .0) (refusal-is (t .ensures) (c .before .before .before .before .before .if1 .left) _) in
-    ((f .0, f .1, omega arith), (t .ensures .image, t .ensures .scratch))
+    from-first (t .ensures) (p .0) (refusal-is (t .ensures) (c .before .before .before .before .before .if1 .left) _) (omega arith)
 
 pub print-wide-spec : {M : Type 1} → statement M
 print-wide-spec =

@@ -20,12 +20,12 @@ slice-aggregate-print-sheet-2 : tie.Need-slice-aggregate-print-sheet-2 Inv-loop 
 slice-aggregate-print-sheet-2 c = simp length-take (omega arith)
 
 loop-less : tie.Need-loop-less Inv-loop μ-loop
-loop-less c = omega (arith, c .before .before .before .before .before .before .before .before .before .before .read-header .ensures .1 .place .onward (not-false _ (c .before .before .before .before .before .before .before .before .if1 .left)))
+loop-less c = omega (arith, c .before .before .before .before .before .before .before .before .before .before .read-long-header .ensures .1 .place .onward (not-false _ (c .before .before .before .before .before .before .before .before .if1 .left)))
 
 loop-again : tie.Need-loop-again Inv-loop μ-loop
 loop-again c =
     let l = c .before .before .before .before .before .before .before .before .before .before .before .before .loop in
-    let h = c .before .before .before .before .before .before .before .before .before .before .read-header .result in (
+    let h = c .before .before .before .before .before .before .before .before .before .before .read-long-header .result in (
       simp (length-append, length-drop) (omega (arith, length-take (h .third) (l .image))),
       simp (length-append, length-drop) (omega (arith, length-take (h .second) (l .scratch))),
       omega arith,
