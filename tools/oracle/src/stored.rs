@@ -1,6 +1,9 @@
 //! Stored lists of cases: a header of decimal numbers parted by tabs, of which
 //! the first says how many bytes follow its LF.
 
+#[cfg(test)]
+pub mod checks;
+
 use std::collections::HashSet;
 use std::hash::Hash;
 use std::io::{self, Write};
@@ -20,15 +23,15 @@ pub const LONGEST: usize = 1 << 20;
 pub const NOT_IN_FORM: &str = "list\n";
 
 /// The first case of a list, if it is in the form.
-pub struct First<'l, const N: usize> {
+pub struct First<'l> {
     /// The numbers of its header after the first.
-    pub numbers: [u64; N],
+    pub numbers: Vec<u64>,
     /// The bytes that follow the header.
     pub payload: &'l [u8],
     pub rest: &'l [u8],
 }
 
-pub fn first<const N: usize>(list: &[u8]) -> Option<First<'_, N>> {
+pub fn first(list: &[u8]) -> Option<First<'_>> {
     let end = list.iter().position(|byte| *byte == b'\n')?;
     let (header, behind) = (&list[..end], &list[end + 1..]);
     let numbers: Option<Vec<u64>> = header.split(|byte| *byte == b'\t').map(digits).collect();
@@ -36,7 +39,7 @@ pub fn first<const N: usize>(list: &[u8]) -> Option<First<'_, N>> {
     let (bytes, others) = numbers.split_first()?;
     let bytes = usize::try_from(*bytes).ok()?;
     Some(First {
-        numbers: others.try_into().ok()?,
+        numbers: others.to_vec(),
         payload: behind.get(..bytes)?,
         rest: &behind[bytes..],
     })
@@ -50,6 +53,10 @@ pub trait Asked: Clone + Eq + Hash {
     fn payload(&self) -> &[u8];
     /// None where the payload is not in the form.
     fn answer(&self) -> Option<String>;
+    /// The requests without which the answer would be another.
+    fn requests(&self) -> Requests {
+        Requests::default()
+    }
 }
 
 /// What is printed for a case alone.
@@ -123,9 +130,17 @@ pub fn check<C: Asked>(kind: &str, examples: Vec<Example<C>>) -> usize {
         text: example.what,
         answer: due(&example.case),
         by_hand: example.answer,
-        requests: Requests::default(),
+        requests: example.case.requests(),
     });
     count_different(kind, outcomes)
+}
+
+/// A list of so many bytes: a case of LFs alone, whose header has `others` after
+/// the first number.
+pub fn of_feeds(bytes: usize, others: &str) -> Vec<u8> {
+    let feeds = bytes - format!("1000000\t{others}\n").len();
+    let header = format!("{feeds}\t{others}\n");
+    [header.into_bytes(), vec![b'\n'; feeds]].concat()
 }
 
 /// What a program is run on: lists that are not in the form, alone and after a
@@ -170,5 +185,5 @@ fn whole<C: Asked>(lists: &mut Lists, list: Vec<u8>) -> io::Result<()> {
 fn push(lists: &mut Lists, case: &impl Asked) -> io::Result<()> {
     let mut asked = Vec::new();
     case.write(&mut asked)?;
-    lists.push(asked, Expected::new(due(case), Requests::default()))
+    lists.push(asked, Expected::new(due(case), case.requests()))
 }

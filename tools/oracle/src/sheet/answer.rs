@@ -1,10 +1,10 @@
 //! What the program `sheet` prints.
 
-use std::error::Error;
 use std::io::{self, Write};
 
 use super::judge::{judge, Listed, Refused};
-use super::record::{records, Record};
+use super::record::Record;
+use crate::stored;
 
 /// The listing or the refusal, each line with its LF.
 pub fn answer(record: &Record) -> String {
@@ -39,11 +39,8 @@ impl Refused {
 }
 
 /// The answers to a stored list, each followed by an empty line.
-pub fn answer_list(input: &[u8], output: &mut impl Write) -> Result<(), Box<dyn Error>> {
-    for record in records(input)? {
-        writeln!(output, "{}", answer(&record))?;
-    }
-    Ok(output.flush()?)
+pub fn answer_list(list: &[u8], output: &mut impl Write) -> io::Result<()> {
+    stored::answer_list::<Record>(list, output)
 }
 
 /// The answer to one sheet as the program `sheet` has it.

@@ -2,7 +2,7 @@
 
 use super::line::{Line, WITHOUT_A_LINE};
 use super::made::{words, Sheet};
-use super::record::{Record, MOST_ROOM, PLACES, ROOM};
+use super::record::{Record, Way, MOST_ROOM, PLACES, ROOM};
 use super::spoil::{spoiled_sheet, spoiled_text};
 use crate::answer::accepts_without_n5;
 use crate::draft::Draft;
@@ -74,8 +74,13 @@ fn wide(random: &mut Random) -> Sheet {
 }
 
 fn common(random: &mut Random) -> Sheet {
-    let places = places();
     let count = count(random);
+    of_lines(count, random)
+}
+
+/// So many lines, fewer where they would pass 2^32.
+fn of_lines(count: usize, random: &mut Random) -> Sheet {
+    let places = places();
     let mut sheet = Sheet::new(start(random));
     while sheet.lines.len() < count && sheet.left() > 0 {
         let place = random.pick(&places);
@@ -108,9 +113,52 @@ fn start(random: &mut Random) -> u32 {
     start & 0xFFFF_FFFE
 }
 
-/// A sheet, four in ten of them as they were made.
+/// A sheet by the full scratch.
 pub fn record(random: &mut Random) -> Record {
-    let mut sheet = sheet(random);
+    let sheet = sheet(random);
+    asked(sheet, random)
+}
+
+/// A sheet either way, with places around what its own way or the other needs.
+pub fn either(random: &mut Random) -> Record {
+    let sheet = match random.chance(25) {
+        true => blocks(random),
+        false => sheet(random),
+    };
+    let record = asked(sheet, random);
+    let way = random.pick(&Way::ALL);
+    let counted = match random.chance(90) {
+        true => way,
+        false => random.pick(&Way::ALL),
+    };
+    let need = counted.places(record.lines());
+    let places = match random.below(20) {
+        0..=8 => need,
+        9..=12 => need + 1,
+        13 => need.saturating_sub(1),
+        14 => 0,
+        _ => PLACES,
+    };
+    let record = record.by(way, places.min(PLACES));
+    match way == Way::Full && random.chance(50) {
+        true => Record {
+            way: None,
+            ..record
+        },
+        false => record,
+    }
+}
+
+/// An accepted sheet whose lines end around the end of 64.
+fn blocks(random: &mut Random) -> Sheet {
+    let count = 64 * random.between(1, 5) + random.between(-1, 1);
+    let mut sheet = of_lines(count as usize, random);
+    sheet.name_targets(random);
+    sheet
+}
+
+/// A sheet with what is lent for it, four in ten as they were made.
+fn asked(mut sheet: Sheet, random: &mut Random) -> Record {
     let (lines, words) = (sheet.lines.len(), sheet.words as usize);
     let kind = random.below(20);
     if (8..16).contains(&kind) {
@@ -120,11 +168,8 @@ pub fn record(random: &mut Random) -> Record {
     if kind >= 16 {
         spoiled_text(&mut text, random);
     }
-    Record {
-        text,
-        places: lent(lines, PLACES, PLACES, random),
-        room: lent(words, ROOM, MOST_ROOM, random),
-    }
+    let places = lent(lines, PLACES, PLACES, random);
+    Record::new(text, places, lent(words, ROOM, MOST_ROOM, random))
 }
 
 /// What is lent where `need` is needed: mostly enough.

@@ -47,7 +47,8 @@ fn judge_by(answer: fn(&Placed) -> Answer, record: &Record) -> Result<Vec<Listed
     let texts = texts(&record.text)?;
     let start = start(texts[0])?;
     let texts = &texts[1..];
-    unless(texts.len() <= record.places, 11)?;
+    let needed = record.way.unwrap_or_default().places(texts.len());
+    unless(needed <= record.places, 11)?;
     let lines = measured(texts)?;
     let bytes: u64 = lines.iter().map(|line| line.size).sum();
     unless(start as u64 + bytes <= 1 << 32, 9)?;

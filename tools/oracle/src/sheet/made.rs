@@ -16,7 +16,7 @@ const TRIES: usize = 20;
 const NEAR: i128 = 12;
 
 /// Where a number stands in a draft.
-type Place = (usize, usize);
+pub type Place = (usize, usize);
 
 #[derive(Clone)]
 pub struct Made {
@@ -127,13 +127,18 @@ impl Sheet {
                 false => random.between(0, last),
             };
             let target = target.clamp(0, last) as usize;
-            let mut draft = self.lines[line].draft.clone();
-            draft.leaf(at).value = self.lines[target].draft.address as i128;
-            if accepts_without_n5(&draft.line()) {
+            if self.reaches(line, at, target) {
                 return target;
             }
         }
         line
+    }
+
+    /// Whether the line is accepted where the number names the target.
+    pub fn reaches(&self, line: usize, at: Place, target: usize) -> bool {
+        let mut draft = self.lines[line].draft.clone();
+        draft.leaf(at).value = self.lines[target].draft.address as i128;
+        accepts_without_n5(&draft.line())
     }
 
     pub fn text(&self) -> String {

@@ -9,6 +9,7 @@ pub mod line;
 pub mod list;
 pub mod made;
 pub mod manual;
+mod outside;
 pub mod record;
 pub mod replay;
 mod spoil;

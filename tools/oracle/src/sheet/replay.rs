@@ -2,30 +2,20 @@
 
 use std::io;
 
-use super::answer::answer;
-use super::generate::record;
-use super::judge::requests;
-use super::manual;
-use super::record::Record;
-use crate::batch::Lists;
-use crate::compare::{Comparison, Expected};
-use crate::random::Random;
+use super::generate::either;
+use super::{manual, outside};
+use crate::compare::Comparison;
+use crate::stored::{of_feeds, Replay};
 
-/// Compares `count` random sheets of `seed`, after the worked ones.
+/// Compares lists that are not in the form, the worked sheets, and `count`
+/// random ones of `seed`.
 pub fn replay(program: &str, seed: u64, count: usize) -> io::Result<Comparison> {
-    let mut lists = Lists::new(program);
-    for example in manual::examples() {
-        push(&mut lists, &example.record)?;
-    }
-    let mut random = Random::new(seed);
-    for _ in 0..count {
-        push(&mut lists, &record(&mut random))?;
-    }
-    lists.finish()
-}
-
-fn push(lists: &mut Lists, record: &Record) -> io::Result<()> {
-    let mut asked = Vec::new();
-    record.write(&mut asked)?;
-    lists.push(asked, Expected::new(answer(record), requests(record)))
+    let replay = Replay {
+        before: b"12\t1\t1\t1\nSTART\t0\nNOP\n12\t1\t1\nSTART\t0\nNOP\n",
+        outside: outside::lists(),
+        of_bytes: |bytes| of_feeds(bytes, "0\t0\t1"),
+        examples: manual::examples(),
+        case: either,
+    };
+    replay.run(program, seed, count)
 }

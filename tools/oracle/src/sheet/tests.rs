@@ -1,19 +1,23 @@
 use std::collections::{BTreeSet, HashMap};
+use std::sync::LazyLock;
 
 use super::answer::answer;
-use super::cases::{large, lines, order};
-use super::generate::{places, sheet};
+use super::cases::{blocks, large, lines, named, order};
+use super::generate::{either, places, sheet};
 use super::judge::{judge, requests, Refused};
 use super::line::Line;
-use super::list;
-use super::record::{records, Record};
-use super::whole;
+use super::record::{Record, Way, PLACES};
+use super::{list, outside, whole};
 use crate::draft::{Draft, Kind};
 use crate::kinds::{kind_of, KINDS};
 use crate::random::Random;
 use crate::schema::{is_operand, variants, Type, Variant};
+use crate::stored::{checks, of_feeds};
 
 const SEED: u64 = 68020;
+
+/// The stored list.
+static RECORDS: LazyLock<Vec<Record>> = LazyLock::new(|| list::records(SEED));
 
 /// The place of each fault of `order` in the table, and its number.
 const FAULTS: [(u32, u32); 12] = [
@@ -87,11 +91,7 @@ fn made_sheets_are_accepted() {
     let mut random = Random::new(SEED);
     for _ in 0..2_000 {
         let sheet = sheet(&mut random);
-        let record = Record {
-            text: sheet.text().into_bytes(),
-            places: sheet.lines.len(),
-            room: sheet.words as usize,
-        };
+        let record = Record::new(sheet.text(), sheet.lines.len(), sheet.words as usize);
         if record.text.len() <= 65_536 {
             assert_eq!(refused(&record), None, "{}", sheet.text());
         }
@@ -129,30 +129,129 @@ fn the_whole_sheet_is_whole() {
 }
 
 #[test]
-fn the_stored_list_reads_back() {
+fn the_stored_list_reads_back_and_ends_outside_the_form() {
     let mut text = Vec::new();
     list::write(SEED, &mut text).expect("written");
-    assert!(text.len() < 1_000_000);
-    let found = records(&text).expect("a stored list");
-    assert!(found.len() >= 300);
-    assert!(found == list::records(SEED));
-    let lent = |record: &Record| record.places <= 4_096 && record.room <= 45_056;
-    assert!(found.iter().all(lent));
+    assert!(RECORDS.len() >= 300);
+    checks::reads_back(&text, &RECORDS);
+}
+
+#[test]
+fn lists_outside_the_form_end_there() {
+    let (whole, answers) = ("12\t1\t1\nSTART\t0\nNOP\n", "1\t00000000\t4E71\n\n");
+    checks::end_outside::<Record>(outside::lists(), whole, answers);
+    let whole = "12\t1\t1\t1\nSTART\t0\nNOP\n".to_string() + whole;
+    checks::end_outside::<Record>(outside::lists(), &whole, &answers.repeat(2));
+}
+
+#[test]
+fn the_longest_list_is_answered() {
+    let list = |bytes| of_feeds(bytes, "0\t0\t1");
+    checks::longest_is_answered::<Record>(list, "refused\t10\t0\t0\t0\n\n");
+}
+
+#[test]
+fn the_small_scratch_has_a_place_for_64_lines() {
+    let counts = [1, 64, 65, 128, 129, 4_095, 4_096];
+    let places = counts.map(|count| Way::Small.places(count));
+    assert_eq!(places, [1, 1, 2, 2, 3, 64, 64]);
+    assert_eq!(counts.map(|count| Way::Full.places(count)), counts);
+}
+
+#[test]
+fn sheets_that_want_a_place_are_stored_with_it_and_accepted() {
+    let short = blocks::short();
+    let lines: Vec<usize> = short.iter().map(Record::lines).collect();
+    assert_eq!(lines, [1, 63, 64, 65, 127, 128, 129, 4_095, 4_096]);
+    for record in short {
+        check(&record, (11, 0));
+        let exact = record.by(Way::Small, record.places + 1);
+        assert_eq!(refused(&exact), None);
+        assert!(RECORDS.contains(&record) && RECORDS.contains(&exact));
+    }
+}
+
+/// Refusals that come before the scratch is looked at.
+fn before_the_scratch(record: &Record) -> bool {
+    let refused = refused(&record.by(Way::Full, 0));
+    refused.is_some_and(|refused| refused.refusal.number != 11)
+}
+
+#[test]
+fn both_ways_answer_alike_where_enough_is_lent() {
+    let mut random = Random::new(SEED);
+    let random = std::iter::repeat_with(|| either(&mut random)).take(1_000);
+    for record in RECORDS.iter().cloned().chain(random) {
+        let needed = record.way.unwrap_or_default().places(record.lines());
+        let due = match needed <= record.places || before_the_scratch(&record) {
+            true => judge(&record.by(Way::Full, PLACES)),
+            false => judge(&record.by(Way::Full, 0)),
+        };
+        assert_eq!(judge(&record), due);
+    }
+}
+
+#[test]
+fn the_stored_list_has_every_refusal_either_way() {
+    for way in Way::ALL {
+        let records = RECORDS.iter();
+        let found = records.filter(|record| record.way.unwrap_or_default() == way);
+        let found: BTreeSet<u32> = found
+            .map(|record| refused(record).map_or(0, |refused| refused.refusal.number))
+            .collect();
+        assert_eq!(found, BTreeSet::from([0, 1, 2, 3, 7, 8, 9, 10, 11]));
+    }
+}
+
+#[test]
+fn bytes_reach_over_the_end_of_64_lines_and_no_further() {
+    let found = blocks::borders();
+    for four in found.chunks(4) {
+        let values = [&four[2], &four[3]].map(|record| refused(record).expect("refused"));
+        assert_eq!(values.map(|refused| refused.refusal.number), [2, 2]);
+        assert_eq!(values.map(|refused| refused.refusal.value), [128, -130]);
+        assert!(judge(&four[0]).is_ok() && judge(&four[1]).is_ok());
+    }
+}
+
+#[test]
+fn lines_name_lines_from_and_to_every_place_of_64() {
+    let (mut from, mut to) = (BTreeSet::new(), BTreeSet::new());
+    for record in named::all() {
+        let lines = record.text.split(|byte| *byte == b'\n');
+        for (line, text) in lines.enumerate().skip(1) {
+            let names = Line::of_text(text).map_or(vec![], |line| line.names().collect());
+            for name in names {
+                from.insert(line % 64);
+                to.insert(name % 64);
+            }
+        }
+    }
+    assert_eq!((from.len(), to.len()), (64, 64));
+}
+
+#[test]
+fn sheets_whose_lines_name_lines_have_every_count_of_words() {
+    for record in named::all() {
+        let listing = judge(&record).expect("accepted");
+        let words: BTreeSet<usize> = listing.iter().map(|listed| listed.words.len()).collect();
+        assert_eq!(words, (1..=11).collect());
+    }
 }
 
 /// Lines stand at even addresses, and branches name lines.
 #[test]
 fn no_sheet_is_of_n5() {
     let of_n5 = |record: &Record| requests(record).n5 > 0;
-    assert!(!list::records(SEED).iter().any(of_n5));
+    assert!(!RECORDS.iter().any(of_n5));
 }
 
 /// The drafts of the lines of accepted sheets of the stored list.
 fn accepted_drafts() -> Vec<Draft> {
-    let records = list::records(SEED).into_iter();
+    let records = RECORDS.iter();
     let accepted = records.filter(|record| refused(record).is_none());
-    let texts: Vec<String> = accepted
-        .map(|record| String::from_utf8(record.text).expect("accepted sheets are text"))
+    let texts: Vec<&str> = accepted
+        .map(|record| std::str::from_utf8(&record.text).expect("accepted sheets are text"))
         .collect();
     let lines = texts.iter().flat_map(|text| text.lines().skip(1));
     lines

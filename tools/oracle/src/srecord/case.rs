@@ -73,7 +73,9 @@ impl Asked for Case {
 
     fn first(list: &[u8]) -> Option<(Case, &[u8])> {
         let first = stored::first(list)?;
-        let [way, lent] = first.numbers;
+        let [way, lent] = first.numbers[..] else {
+            return None;
+        };
         let way = Way::of_number(way)?;
         let lent = usize::try_from(lent).ok()?;
         if lent > way.most() {

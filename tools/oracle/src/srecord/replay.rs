@@ -5,7 +5,7 @@ use std::io;
 use super::generate::case;
 use super::{manual, outside};
 use crate::compare::Comparison;
-use crate::stored::Replay;
+use crate::stored::{of_feeds, Replay};
 
 /// Compares lists that are not in the form, the worked cases, and `count`
 /// random ones of `seed`.
@@ -13,16 +13,9 @@ pub fn replay(program: &str, seed: u64, count: usize) -> io::Result<Comparison> 
     let replay = Replay {
         before: b"15\t1\t0\nS70500000000FA\n",
         outside: outside::lists(),
-        of_bytes,
+        of_bytes: |bytes| of_feeds(bytes, "1\t0"),
         examples: manual::examples(),
         case,
     };
     replay.run(program, seed, count)
-}
-
-/// A list of so many bytes: a text of LFs.
-fn of_bytes(bytes: usize) -> Vec<u8> {
-    let text = bytes - "1000000\t1\t0\n".len();
-    let header = format!("{text}\t1\t0\n");
-    [header.into_bytes(), vec![b'\n'; text]].concat()
 }

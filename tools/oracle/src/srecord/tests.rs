@@ -1,6 +1,6 @@
 use std::collections::BTreeSet;
 
-use super::answer::{answer, answer_list};
+use super::answer::answer;
 use super::case::{Case, Way, MOST_BYTES, MOST_WORDS};
 use super::cases::{faults, order, written};
 use super::generate::{image, records};
@@ -10,7 +10,7 @@ use super::record::text;
 use super::{list, manual};
 use crate::image::Image;
 use crate::random::Random;
-use crate::stored::{Asked, LONGEST, NOT_IN_FORM};
+use crate::stored::{checks, of_feeds};
 
 const SEED: u64 = 68020;
 
@@ -18,12 +18,6 @@ const SEED: u64 = 68020;
 fn refused(text: &[u8], lent: usize) -> Option<(u32, usize)> {
     let refused = read(text, lent).err();
     refused.map(|refused| (refused.number, refused.line))
-}
-
-fn printed(list: &[u8]) -> String {
-    let mut output = Vec::new();
-    answer_list(list, &mut output).expect("a vector takes all");
-    String::from_utf8(output).expect("answers are text")
 }
 
 /// Checks a text with enough, with little and with nothing lent.
@@ -125,25 +119,13 @@ fn the_largest_image_has_room() {
 #[test]
 fn lists_outside_the_form_end_there() {
     let whole = "15\t1\t0\nS70500000000FA\n";
-    for outside in outside::lists() {
-        assert_eq!(printed(&outside), NOT_IN_FORM, "{}", outside.escape_ascii());
-        let list = [whole.as_bytes(), &outside].concat();
-        assert_eq!(printed(&list), format!("0\n\n{NOT_IN_FORM}"));
-    }
-    assert_eq!(printed(b""), "");
-    assert_eq!(printed(whole.as_bytes()), "0\n\n");
+    checks::end_outside::<Case>(outside::lists(), whole, "0\n\n");
 }
 
 #[test]
 fn the_longest_list_is_answered() {
-    let list = |bytes: usize| {
-        let text = bytes - "1048565\t1\t0\n".len();
-        let header = format!("{text}\t1\t0\n");
-        [header.into_bytes(), vec![b'\n'; text]].concat()
-    };
-    assert_eq!(list(LONGEST).len(), LONGEST);
-    assert_eq!(printed(&list(LONGEST)), "refused\t12\t1\t0\t0\n\n");
-    assert_eq!(printed(&list(LONGEST + 1)), NOT_IN_FORM);
+    let list = |bytes| of_feeds(bytes, "1\t0");
+    checks::longest_is_answered::<Case>(list, "refused\t12\t1\t0\t0\n\n");
 }
 
 #[test]
@@ -153,14 +135,7 @@ fn the_stored_list_reads_back_and_ends_outside_the_form() {
     assert!(text.len() < 600_000, "{}", text.len());
     let cases = list::cases(SEED);
     assert!(cases.len() >= 800, "{}", cases.len());
-    let mut rest = &text[..];
-    for case in &cases {
-        let (found, after) = Case::first(rest).expect("in the form");
-        assert_eq!(&found, case);
-        assert!(answer(case).is_some());
-        rest = after;
-    }
-    assert_eq!(printed(rest), NOT_IN_FORM);
+    checks::reads_back(&text, &cases);
 }
 
 #[test]

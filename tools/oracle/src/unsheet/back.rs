@@ -7,12 +7,7 @@ use crate::sheet::record::{Record, MOST_ROOM, PLACES};
 /// The image of a sheet, where so much is lent that no sheet needs more; none
 /// where it is refused.
 pub fn translated(text: impl Into<Vec<u8>>) -> Option<Image> {
-    let listing = judge(&Record {
-        text: text.into(),
-        places: PLACES,
-        room: MOST_ROOM,
-    });
-    let listing = listing.ok()?;
+    let listing = judge(&Record::new(text, PLACES, MOST_ROOM)).ok()?;
     Some(Image {
         start: listing[0].address,
         words: listing.into_iter().flat_map(|line| line.words).collect(),

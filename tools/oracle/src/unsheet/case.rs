@@ -33,7 +33,9 @@ impl Asked for Case {
 
     fn first(list: &[u8]) -> Option<(Case, &[u8])> {
         let first = stored::first(list)?;
-        let [lent] = first.numbers;
+        let [lent] = first.numbers[..] else {
+            return None;
+        };
         let lent = usize::try_from(lent).ok()?;
         let payload = first.payload.to_vec();
         (lent <= MOST_LENT).then_some((Case { lent, payload }, first.rest))

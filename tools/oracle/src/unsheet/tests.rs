@@ -1,7 +1,7 @@
 use std::collections::{BTreeMap, BTreeSet};
 use std::sync::LazyLock;
 
-use super::answer::{answer, answer_list};
+use super::answer::answer;
 use super::back::{check, translated};
 use super::case::{Case, MOST_LENT};
 use super::cases::{broken, large, order};
@@ -21,18 +21,12 @@ use crate::sheet::judge::judge;
 use crate::sheet::line::Line;
 use crate::sheet::record::{Record, MOST_ROOM, PLACES};
 use crate::sheet::whole;
-use crate::stored::{Asked, LONGEST, NOT_IN_FORM};
+use crate::stored::checks;
 
 const SEED: u64 = 68020;
 
 /// The stored list.
 static CASES: LazyLock<Vec<Case>> = LazyLock::new(|| list::cases(SEED));
-
-fn printed(list: &[u8]) -> String {
-    let mut output = Vec::new();
-    answer_list(list, &mut output).expect("a vector takes all");
-    String::from_utf8(output).expect("answers are text")
-}
 
 fn refused(case: &Case) -> Option<Refused> {
     let image = Image::of_line(&case.payload).expect("an image's line");
@@ -131,37 +125,20 @@ fn as_many_bytes_as_the_text_has_are_enough_and_no_fewer() {
 #[test]
 fn lists_outside_the_form_end_there() {
     let whole = "7\t12\n0\t4E71\n";
-    for outside in outside::lists() {
-        assert_eq!(printed(&outside), NOT_IN_FORM, "{}", outside.escape_ascii());
-        let list = [whole.as_bytes(), &outside].concat();
-        assert_eq!(printed(&list), format!("START\t0\nNOP\n\n{NOT_IN_FORM}"));
-    }
-    assert_eq!(printed(b""), "");
-    assert_eq!(printed(whole.as_bytes()), "START\t0\nNOP\n\n");
+    checks::end_outside::<Case>(outside::lists(), whole, "START\t0\nNOP\n\n");
 }
 
 #[test]
 fn the_longest_list_is_answered() {
-    let list = of_bytes(LONGEST);
-    assert_eq!(list.len(), LONGEST);
-    assert_eq!(printed(&list), "refused\t10\t0\t0\t0\n\n");
-    assert_eq!(printed(&of_bytes(LONGEST + 1)), NOT_IN_FORM);
+    checks::longest_is_answered::<Case>(of_bytes, "refused\t10\t0\t0\t0\n\n");
 }
 
 #[test]
 fn the_stored_list_reads_back_and_ends_outside_the_form() {
     let mut text = Vec::new();
     list::write(SEED, &mut text).expect("written");
-    assert!(text.len() < LONGEST, "{}", text.len());
     assert!(CASES.len() >= 800, "{}", CASES.len());
-    let mut rest = &text[..];
-    for case in CASES.iter() {
-        let (found, after) = Case::first(rest).expect("in the form");
-        assert_eq!(&found, case);
-        assert!(answer(case).is_some());
-        rest = after;
-    }
-    assert_eq!(printed(rest), NOT_IN_FORM);
+    checks::reads_back(&text, &CASES);
 }
 
 #[test]
@@ -173,12 +150,7 @@ fn the_stored_list_has_every_refusal() {
 
 /// The lines of an accepted text in the numeric form, each at its address.
 fn numeric(text: &str) -> Vec<String> {
-    let listing = judge(&Record {
-        text: text.into(),
-        places: PLACES,
-        room: MOST_ROOM,
-    });
-    let listing = listing.expect("accepted");
+    let listing = judge(&Record::new(text, PLACES, MOST_ROOM)).expect("accepted");
     let named = |name: usize| listing[name - 1].address;
     let lines = text.lines().skip(1).zip(&listing);
     lines

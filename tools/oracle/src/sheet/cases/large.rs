@@ -53,12 +53,7 @@ fn branches(more: usize, nearer: usize) -> Record {
         between,
         vec!["BRA\t@1\tWord".to_string(), "NOP".to_string()],
     ];
-    let text = text("4096", &lines.concat());
-    Record {
-        text: text.into_bytes(),
-        places: PLACES,
-        room: MOST_ROOM,
-    }
+    Record::new(text("4096", &lines.concat()), PLACES, MOST_ROOM)
 }
 
 /// So many bytes of instructions in few enough lines and in a short text.

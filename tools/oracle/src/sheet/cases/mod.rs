@@ -1,10 +1,12 @@
 //! The sheets of the stored list that are made by rule, and those of examples/.
 
+pub mod blocks;
 pub mod ends;
 pub mod immediates;
 pub mod instructions;
 pub mod large;
 pub mod lines;
+pub mod named;
 pub mod order;
 pub mod reach;
 pub mod shown;

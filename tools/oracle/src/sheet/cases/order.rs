@@ -70,11 +70,7 @@ impl Faulty {
         if !self.final_feed {
             text.pop();
         }
-        Record {
-            text: text.into_bytes(),
-            places: self.places,
-            room: self.room,
-        }
+        Record::new(text, self.places, self.room)
     }
 }
 

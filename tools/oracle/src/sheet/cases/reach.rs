@@ -86,7 +86,7 @@ fn backward(start: u32, line: &str, away: usize) -> Record {
 }
 
 /// Lines of so many bytes.
-fn filler(bytes: usize) -> Vec<String> {
+pub fn filler(bytes: usize) -> Vec<String> {
     let long = vec![DENSE.to_string(); bytes / 16];
     let short = vec![SHORT.to_string(); bytes % 16 / 2];
     [long, short].concat()

@@ -15,7 +15,7 @@ use crate::sheet::list;
 const RANDOM: [(usize, RangeInclusive<usize>); 2] = [(150, 1..=120), (6, 500..=1_500)];
 
 pub fn all(seed: u64, random: &mut Random) -> Vec<Case> {
-    let stored = list::records(seed).into_iter();
+    let stored = list::full(seed).into_iter();
     let stored = stored.filter_map(|record| translated(record.text));
     let images: Vec<Image> = stored.chain(sampled(random)).collect();
     images.iter().map(case).collect()
