@@ -1,1 +1,2 @@
 // Laws only: general facts about lists, tests and numbers.
+#![tactic(auto)]

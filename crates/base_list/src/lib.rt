@@ -1,4 +1,6 @@
 // Stored lists: cases, each a line of two to four numbers, the first of which says how many bytes follow it.
+#![tactic(auto)]
+
 ghost use Rattle.std.specs.Prelude.{◌≡◌, ◌+◌, ◌^◌, ◌<◌, length};
 ghost use Rattle.base_list.specs.Headers.{no_header, header_of, header_at, limited, header_of_numbers, header_in, short_header_in, long_header_in, Inside, Within};
 ghost use Rattle.base_list.specs.Answers.{no_answer};
@@ -6,7 +8,7 @@ ghost use Rattle.base_list.specs.Answers.{no_answer};
 use base_text::LineNumbers;
 
 // Where the bytes of a case begin and end in the list, and the other numbers of its header, 0 where there is no third or fourth.
-#[derive(Drop)]
+#[derive(Clone, Copy)]
 pub struct Header {
     pub ok: bool,
     pub begin: usize,
@@ -125,7 +127,7 @@ pub fn read_long_header(
 }
 
 // How many bytes of the output are the answer to a case, or that the case is not in the form.
-#[derive(Drop)]
+#[derive(Clone, Copy)]
 pub struct Answer {
     pub ok: bool,
     pub count: usize,

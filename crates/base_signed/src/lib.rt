@@ -1,4 +1,6 @@
 // Two's complement: signed numbers and their bits.
+#![tactic(auto)]
+
 ghost use Rattle.std.specs.Prelude.{◌≡◌, ◌%◌};
 ghost use Rattle.base_spec.specs.Signed.{signed32, signed64, bits_of, difference};
 

@@ -1,4 +1,6 @@
 // Text as bytes: lines and fields, decimal numbers, and their writing into lent places.
+#![tactic(auto)]
+
 ghost use Rattle.std.specs.Prelude.{◌≡◌, [], ◌∷◌, ◌+◌, ◌/◌, ◌%◌, ◌≤◌, ◌<◌, length};
 ghost use Rattle.base_text.specs.Parts.{part_end};
 ghost use Rattle.base_text.specs.Number.{digits_from};
@@ -145,7 +147,7 @@ pub fn read_number(f: &[u8]) -> Number
 }
 
 // The numbers of a line, where all its fields are numbers and at most 24.
-#[derive(Drop)]
+#[derive(Clone, Copy)]
 pub struct LineNumbers {
     pub ok: bool,
     pub count: usize,

@@ -1,1 +1,2 @@
 // Laws alone: 01's sheet and its cases of START, computed.
+#![tactic(auto)]

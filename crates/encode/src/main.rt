@@ -1,4 +1,5 @@
 // Prints the words and the size of each instruction, one a line in numeric form.
+#![tactic(auto)]
 
 ghost use Rattle.std.specs.Prelude.{◌≡◌, length, replicate};
 

@@ -1,12 +1,9 @@
 -- CMPM's refusal: an operand that is no (An)+ has another mode, and the checks after a refusal change nothing. Assumes nothing.
 use Prim.Native.Nat.{ℕ}
 use mathlib.Core.Bool.{Bool, true, false, cond}
-use mathlib.Core.List.{List, [], ◌∷◌}
+use mathlib.Core.List.{[], ◌∷◌}
 use mathlib.Core.Path.{◌≡◌, refl, sym}
 use lib.Dec.{eqb}
-use types.Run.{OneOf, miss}
-use denote.Enum.Declared.{tag_of}
-use Rattle.isa.specs.contracts.Operand.{the_type}
 use Rattle.isa.specs.declared.AddressWidth.{AddressWidth}
 use Rattle.isa.specs.declared.AddressWidth.TheVariants as width
 use Rattle.isa.specs.declared.RegisterOperand.{RegisterOperand}
@@ -20,10 +17,6 @@ use Rattle.encode_state.specs.declared.Encoder.{Encoder}
 use Rattle.encode_state.specs.Encoder.{marked, run}
 use Rattle.encode_state.specs.Laws.{refused_there, run-refused}
 
--- the variants of Operand that a failed test for PostIndirect leaves
-abbrev pub others : List ℕ
-others = 0 ∷ 1 ∷ 2 ∷ 4 ∷ 5 ∷ 6 ∷ 7 ∷ 8 ∷ 9 ∷ 10 ∷ []
-
 not_register : (r : RegisterOperand) → eqb (register_mode r) 3 ≡ false
 not_register (Address n) = refl
 not_register (Data n) = refl
@@ -36,11 +29,11 @@ not_absolute : (w : AddressWidth) → eqb (absolute_mode w) 3 ≡ false
 not_absolute width.Word = refl
 not_absolute width.Long = refl
 
-pub other : (o : Operand) → OneOf others (tag_of the_type o) → eqb (mode_of o) 3 ≡ false
+pub other : (o : Operand) → ((n : ℕ) → o ≡ PostIndirect n → ⊥) → eqb (mode_of o) 3 ≡ false
 other (Immediate v) k = refl
 other (Register r) k = not_register r
 other (Indirect n) k = refl
-other (PostIndirect n) k = absurd (miss others 3 tt k)
+other (PostIndirect n) k = absurd (k n refl)
 other (PreIndirect n) k = refl
 other (IndirectDisplacement z b) k = refl
 other (IndirectIndex b z x) k = refl

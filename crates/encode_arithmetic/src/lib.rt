@@ -1,4 +1,6 @@
 // Integer arithmetic: the immediates, the quick forms, ADD SUB CMP and their kinds, long multiply and divide, EXT, SWAP and TST.
+#![tactic(auto)]
+
 ghost use Rattle.std.specs.Prelude.{◌≡◌, ◌<◌};
 ghost use Rattle.encode_spec.specs.Arithmetic.{immediate_kind, immediate_modes, immediate_reason, immediate_parts, quick_bit, quick_parts, into_data_parts, arithmetic_parts, into_address_parts, bounds_parts, extended_parts, cmpm_parts, signed_bit, high_number, high_bits, mull_parts, divl_parts, tst_parts, ext_opmode, ext_parts, swap_parts};
 ghost use Rattle.isa.specs.declared.Size.TheVariants as width;

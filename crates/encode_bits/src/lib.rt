@@ -1,4 +1,6 @@
 // Bit manipulation, bit fields, and PACK and UNPK.
+#![tactic(auto)]
+
 ghost use Rattle.std.specs.Prelude.{◌≡◌, ◌<◌};
 ghost use Rattle.encode_spec.specs.Item.{check};
 ghost use Rattle.encode_spec.specs.Bits.{dynamic_parts, static_parts, bit_parts, value_number, value_bits, value_holds, larger, bit_field_verdict, bit_field_parts, pack_parts};

@@ -1,4 +1,5 @@
 // Prints what `encode_bytes` returns for each line, and the bytes that were lent to it.
+#![tactic(auto)]
 
 ghost use Rattle.std.specs.Prelude.{◌≡◌, length, replicate};
 

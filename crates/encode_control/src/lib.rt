@@ -1,4 +1,6 @@
 // Branches, conditions, and returns.
+#![tactic(auto)]
+
 ghost use Rattle.std.specs.Prelude.{◌≡◌, ◌<◌, [], ◌∷◌};
 ghost use Rattle.encode_spec.specs.Control.{relative_word, relative_long, condition_operation, short_branch, branch_parts, bcc_parts, dbcc_parts, scc_parts, trap_opmode, trap_items, trapcc_parts, rtd_parts};
 ghost use Rattle.encode_spec.specs.Item.{fixed};

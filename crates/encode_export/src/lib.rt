@@ -1,4 +1,6 @@
 // `encode` for Rust and C: from the numbers of an instruction and an address to words (docs/BENCHMARKS.md).
+#![tactic(auto)]
+
 ghost use Rattle.std.specs.Prelude.{◌≡◌};
 ghost use Rattle.numeric_places.specs.Places.{built_from};
 ghost use Rattle.encode_export.specs.Answer.{answered_as, answer_for};
@@ -10,7 +12,7 @@ use numeric_spec::Built;
 
 // The words and their count, or the refusal; 7 where the numbers are not in the form.
 #[repr(C)]
-#[derive(Drop)]
+#[derive(Clone, Copy)]
 pub struct Answer {
     pub words: [u16; 11],
     pub count: usize,
@@ -21,7 +23,7 @@ pub struct Answer {
 
 // At two addresses.
 #[repr(C)]
-#[derive(Drop)]
+#[derive(Clone, Copy)]
 pub struct Answers {
     pub first: Answer,
     pub second: Answer,

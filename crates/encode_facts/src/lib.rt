@@ -1,1 +1,2 @@
 // Facts about verdicts, items and the addresses of words, for the encoder's code and for laws.
+#![tactic(auto)]

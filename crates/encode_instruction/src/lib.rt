@@ -1,4 +1,6 @@
 // From an instruction to its shape.
+#![tactic(auto)]
+
 ghost use Rattle.std.specs.Prelude.{◌≡◌};
 ghost use Rattle.encode_spec.specs.Instruction.{parts_of};
 ghost use Rattle.encode_state.specs.Encoder.{run_parts};

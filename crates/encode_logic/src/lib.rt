@@ -1,4 +1,6 @@
 // Logical instructions, shifts and rotates.
+#![tactic(auto)]
+
 ghost use Rattle.std.specs.Prelude.{◌≡◌, ◌<◌};
 ghost use Rattle.encode_spec.specs.Logic.{logical_parts, shift_kind, left_bit, count_bits, count_items, shift_register_parts, is_one, shift_memory_parts, shift_parts};
 ghost use Rattle.encode_state.specs.Encoder.{run, run_parts};

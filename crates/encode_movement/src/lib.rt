@@ -1,4 +1,6 @@
 // Data movement.
+#![tactic(auto)]
+
 ghost use Rattle.std.specs.Prelude.{◌≡◌, ◌<◌};
 ghost use Rattle.encode_spec.specs.Movement.{move_parts, movea_parts, movem_reason, movem_parts, movep_parts, moveq_parts, is_address, exg_opmode, exg_parts, link_parts, linkl_parts, unlk_parts};
 ghost use Rattle.encode_spec.specs.Ea.{effective};

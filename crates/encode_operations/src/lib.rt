@@ -1,4 +1,6 @@
 // The operations of each shape, each handed to its group.
+#![tactic(auto)]
+
 ghost use Rattle.std.specs.Prelude.{◌≡◌, ◌<◌};
 ghost use Rattle.encode_spec.specs.Instruction.{register_parts, transfer_parts, pair_parts, word_parts, unsized_register_parts, unsized_one_parts, unsized_pair_parts, one_parts, branches_parts, links_parts, packs_parts, typed_two};
 ghost use Rattle.encode_spec.specs.Ea.{single, data_alterable};

@@ -1,6 +1,6 @@
 -- Program control (the manual, section 3.1.8; section 4 has each format), and TRAPcc.
 use Rattle.std.specs.Prelude.{ℕ, ◌+◌, ◌*◌, ◌/◌, ◌%◌, List, [], ◌∷◌, leb}
-use Rattle.isa.specs.declared.Size.TheVariants.{Byte, Word, Long}
+use Rattle.isa.specs.declared.Size.TheVariants.{Byte}
 use Rattle.isa.specs.declared.RegisterOperand.{RegisterOperand}
 use Rattle.isa.specs.declared.Operand.{Operand}
 use Rattle.isa.specs.declared.Field.{Field}

@@ -1,7 +1,7 @@
 -- Each instruction as its parts. Refusal 1 stands before everything else.
 use Rattle.std.specs.Prelude.{ℕ, ◌+◌, ◌*◌, true, false, List, [], ◌∷◌}
 use Rattle.isa.specs.declared.Size.{Size}
-use Rattle.isa.specs.declared.Size.TheVariants.{Byte, Word, Long}
+use Rattle.isa.specs.declared.Size.TheVariants.{Word}
 use Rattle.isa.specs.declared.Sign.{Sign}
 use Rattle.isa.specs.declared.TargetDirection.{TargetDirection}
 use Rattle.isa.specs.declared.BranchSize.{BranchSize}

@@ -1,5 +1,5 @@
 -- Words put at a place, one by one. Assumes nothing.
-use Rattle.std.proofs.Common.{◌≡◌, ℕ, zero, suc, ◌+◌, ◌<◌, ◌≤◌, Bool, true, false, cond, eqb, ltb, List, [], ◌∷◌, length, get_or, set, sym, refl, ap, ◌∙◌, arith, le-ltb, lt-ltb, eq-eqb, ne_eqb}
+use Rattle.std.proofs.Common.{◌≡◌, ℕ, zero, suc, ◌+◌, ◌<◌, ◌≤◌, Bool, true, false, cond, eqb, ltb, List, [], ◌∷◌, length, get_or, set, refl, ap, ◌∙◌, arith, eq-eqb, ne_eqb}
 use Rattle.base_facts.specs.Tests.{Lt, less, past, lt?}
 use Rattle.encode_state.specs.declared.Encoder.{Encoder}
 use Rattle.encode_state.specs.Encoder.{pushed}

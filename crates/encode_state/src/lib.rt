@@ -1,4 +1,6 @@
 // The encoder's state: the words so far, or the first refusal. Once refused it stays as it is.
+#![tactic(auto)]
+
 ghost use Rattle.std.specs.Prelude.{◌≡◌, ◌+◌, ◌%◌, ◌<◌, [], if◌then◌else◌, nat_eq, nat_lt, slice_index, slice_set};
 ghost use Rattle.encode_state.specs.Encoder.{refused, marked, step, run, next_address, holding};
 ghost use Rattle.encode_spec.specs.Item as item;
@@ -11,7 +13,7 @@ pub use isa_values::code::{
 };
 
 // The words of one instruction at an address. `size` does not check ranges.
-#[derive(Drop)]
+#[derive(Clone, Copy)]
 pub struct Encoder {
     pub words: [u16; 11],
     pub count: usize,

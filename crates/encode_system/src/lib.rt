@@ -1,4 +1,6 @@
 // System control and the multiprocessor instructions.
+#![tactic(auto)]
+
 ghost use Rattle.std.specs.Prelude.{cond, ◌≡◌, ◌<◌};
 ghost use Rattle.encode_spec.specs.System.{status_operation, status_parts, condition_code_operation, condition_code_parts, vector_parts, moveusp_parts, movec_parts, moves_parts, cas_parts, cas2_items, cas2_parts, raw_parts, no_operand_parts};
 ghost use Rattle.encode_state.specs.Encoder.{step, run, run_parts};

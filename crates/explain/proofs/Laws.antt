@@ -1,6 +1,6 @@
 -- Laws of a turn. Assumes nothing.
 use Prim.Native.Nat.{ℕ, ◌+◌, ◌-◌, ◌≤◌}
-use mathlib.Core.Path.{◌≡◌, refl, sym, ap, ◌∙◌}
+use mathlib.Core.Path.{◌≡◌, sym, ap, ◌∙◌}
 use mathlib.Core.Bool.{Bool, true, false}
 use mathlib.Core.List.{List, [], ◌++◌}
 use native.Mathlib.Omega.{arith}
@@ -11,8 +11,7 @@ use borrow.Rule.Slice.PartMut.{put_mid, take_put}
 use Rattle.base_spec.specs.Written.{placed}
 use Rattle.explain_lines.specs.declared.Cut.{Cut}
 use Rattle.explain_lines.specs.Cut.{cut_of, between}
-use Rattle.explain.specs.declared.State.{State}
-use Rattle.explain.specs.Turn.{state_after, kept_after, Turned}
+use Rattle.explain.specs.Turn.{state_after, Turned}
 
 -- the rest of a beginning
 drop_take : (a e : ℕ) (l : List ℕ) → a ≤ e → e ≤ length l → drop a (take e l) ≡ take (e - a) (drop a l)

@@ -1,4 +1,5 @@
 // Passes standard input on, and after each line that is a refusal prints a sentence that explains it.
+#![tactic(auto)]
 
 ghost use Rattle.std.specs.Prelude.{◌≡◌, ◌≤◌, ◌<◌, length, replicate};
 ghost use Rattle.io.specs.Counts.{IsPrefixLen};
@@ -6,6 +7,7 @@ ghost use Rattle.explain_lines.specs.Pieces.{Kept};
 ghost use Rattle.explain.specs.Turn.{Turned};
 
 use explain_lines::Cut;
+use std::io::Read;
 
 // 65,536 bytes, and room for a line and its sentence (73,728).
 fn output_places() -> [u8; 139264]
@@ -14,12 +16,14 @@ fn output_places() -> [u8; 139264]
     [0; 139264]
 }
 
-// What one read gives, 0 at the end of the input.
-fn read_some(text: &mut [u8]) -> usize
+// What one read gives, 0 at the end of the input and where it fails.
+fn read_some<R: Read>(input: &mut R, text: &mut [u8]) -> usize
     ensures { IsPrefixLen result text.new }
 {
-    let got = libc::read(0, text);
-    io::count(got, text)
+    match input.read(text) {
+        Ok(n) => n,
+        Err(_) => 0,
+    }
 }
 
 // The lines with their sentences, in few writes.
@@ -48,7 +52,7 @@ fn print_cut(text: &[u8], c: Cut, out: &mut [u8])
 }
 
 // How much of the buffer is kept, whether it goes on inside a line that is passed on as it is, and whether the input goes on.
-#[derive(Drop)]
+#[derive(Clone, Copy)]
 struct State {
     have: usize,
     begun: bool,
@@ -56,11 +60,11 @@ struct State {
 }
 
 // One read after what is kept, and what is printed of both.
-fn turn(text: &mut [u8], have: usize, begun: bool, out: &mut [u8]) -> State
+fn turn<R: Read>(input: &mut R, text: &mut [u8], have: usize, begun: bool, out: &mut [u8]) -> State
     requires { (65536 ≡ length text.old) × (have < 65536) × (73728 ≤ length out.old) }
     ensures { Turned text.old have begun text.new result × (result.have < 65536) }
 {
-    let n = read_some(&mut text[have..]);
+    let n = read_some(input, &mut text[have..]);
     if n == 0 {
         return State {
             have,
@@ -79,7 +83,8 @@ fn turn(text: &mut [u8], have: usize, begun: bool, out: &mut [u8]) -> State
     }
 }
 
-fn main() {
+fn main(rt: HostRuntime) {
+    let mut input = rt.stdin();
     let mut text = io::large_buffer();
     let mut out = output_places();
     let mut t = State {
@@ -89,7 +94,7 @@ fn main() {
     };
     let mut turns = u64::MAX;
     while t.more & (0 < turns) {
-        t = turn(&mut text, t.have, t.begun, &mut out);
+        t = turn(&mut input, &mut text, t.have, t.begun, &mut out);
         turns -= 1;
     }
     let have = t.have;

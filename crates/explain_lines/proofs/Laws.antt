@@ -1,11 +1,11 @@
 -- Laws of a line that is explained, of the first and the last LF, and of bytes moved to the front. Assumes nothing.
-use Prim.Native.Nat.{ℕ, zero, suc, ◌+◌, ◌-◌, ◌≤◌, ◌<◌}
+use Prim.Native.Nat.{ℕ, suc, ◌+◌, ◌-◌, ◌≤◌, ◌<◌}
 use mathlib.Core.Path.{◌≡◌, refl, sym, ap, ◌∙◌}
 use mathlib.Core.Bool.{Bool, true, false, cond}
 use mathlib.Core.List.{List, [], ◌∷◌, ◌++◌, append_assoc}
 use native.Mathlib.Omega.{arith}
 use native.Mathlib.Numerals.{add-one}
-use lib.Dec.{eqb, ltb, leb}
+use lib.Dec.{eqb, leb}
 use lib.ListN.{length, take, drop, get_or, set, length-take, length-drop, take-append-drop}
 use lib.Seq.{take_all, paste, paste-suc, drop-paste, get_or-drop, take-suc}
 use borrow.Author.Tests.{eq-eqb, ne_eqb, lt-ltb, le-leb, lt-leb}
@@ -16,7 +16,6 @@ use Rattle.explain_spec.specs.declared.Refusal.{Refusal}
 use Rattle.explain_spec.specs.Refusal.{refusal_in}
 use Rattle.explain_spec.specs.Sentence.{sentence_of}
 use Rattle.explain_spec.specs.Explained.{explained_line}
-use Rattle.explain_lines.specs.declared.Cut.{Cut}
 use Rattle.explain_lines.specs.Cut.{ended_of, first_end, cut_from, cut_of, between}
 
 pub line_sentence : (l : List ℕ) (r : Refusal) → r ≡ refusal_in l → length l < 65536 → explained_line l ≡ l ++ (10 ∷ []) ++ sentence_of r

@@ -1,14 +1,11 @@
 -- Laws of a text that is cut. Assumes nothing.
-use Rattle.std.specs.Prelude.{ℕ, zero, suc, ◌+◌, ◌-◌, ◌≤◌, ◌<◌, ◌≡◌, refl, Bool, true, false, cond, List, [], ◌∷◌, ◌++◌, eqb, leb, ltb, length, take, drop}
-use Rattle.std.proofs.Common.{sym, ap, subst, ◌∙◌, append_assoc, append-nil, arith, length-append, length-drop, eq-eqb, ne_eqb, eqb-true, le-ltb}
-use Rattle.std.proofs.lemmas.Bool.{eqb-false}
-use Rattle.base_facts.specs.Tests.{Eq, same, other, eq?, true_not_false}
+use Rattle.std.specs.Prelude.{ℕ, zero, suc, ◌≤◌, ◌<◌, ◌≡◌, refl, Bool, true, false, cond, List, [], ◌∷◌, ◌++◌, eqb, length, take, drop}
+use Rattle.std.proofs.Common.{sym, ap, subst, ◌∙◌, append_assoc, append-nil, arith, length-append, eq-eqb, eqb-true, le-ltb}
+use Rattle.base_facts.specs.Tests.{Eq, same, other, eq?}
 use Rattle.base_spec.specs.Parts.{onto, parts}
 use Rattle.base_spec.specs.Lines.{lines_of, answers_to, answers_of}
 use Rattle.base_text.specs.PartLaws.{parts_from, parts_first}
 use Rattle.base_text.specs.Parts.{before}
-use Rattle.explain_spec.specs.Refusal.{refusal_in}
-use Rattle.explain_spec.specs.Sentence.{sentence_of}
 use Rattle.explain_spec.specs.Explained.{explained_line, explained_parts, explained_from}
 use Rattle.explain_lines.specs.Cut.{ended_of, first_end}
 

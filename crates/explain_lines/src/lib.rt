@@ -1,4 +1,6 @@
 // A text with the sentences of its refusals, written into a lent buffer, and how a text is cut that comes in pieces.
+#![tactic(auto)]
+
 ghost use Rattle.std.specs.Prelude.{◌≡◌, ◌+◌, ◌-◌, ◌≤◌, length};
 ghost use Rattle.base_spec.specs.Written.{placed};
 ghost use Rattle.base_spec.specs.Lines.{answered_of, step_of};
@@ -10,7 +12,7 @@ use base_spec::Step;
 
 // Where a text is cut: the first bytes are passed on as they are, the lines up to `ended` explained, the bytes up to `kept`
 // passed on as they are, and the rest is kept. `begun`: it goes on inside a line that is passed on as it is.
-#[derive(Drop)]
+#[derive(Clone, Copy)]
 pub struct Cut {
     pub passed: usize,
     pub ended: usize,

@@ -1,4 +1,6 @@
 // The refusal that a line prints.
+#![tactic(auto)]
+
 ghost use Rattle.std.specs.Prelude.{◌≡◌};
 ghost use Rattle.base_text.specs.PartLaws.{parts_from};
 ghost use Rattle.base_spec.specs.Numbers as numbers;

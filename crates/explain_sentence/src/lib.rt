@@ -1,4 +1,6 @@
 // The sentence of a refusal, written into a lent buffer.
+#![tactic(auto)]
+
 ghost use Rattle.std.specs.Prelude.{◌≡◌, true, not, ◌&&◌, ◌+◌, ◌*◌, ◌≤◌, length};
 ghost use Rattle.base_text.specs.Wrote.{Wrote};
 ghost use Rattle.sheet_spec.specs.Line.{is_none};

@@ -1,5 +1,5 @@
 -- A text with the sentences of its refusals: every line is passed on, and a refusal's sentence follows it.
-use Rattle.std.specs.Prelude.{ℕ, Bool, true, false, cond, ◌≡◌, List, [], ◌∷◌, ◌++◌, leb, ltb, length}
+use Rattle.std.specs.Prelude.{ℕ, Bool, false, cond, ◌≡◌, List, [], ◌∷◌, ◌++◌, leb, ltb, length}
 use Rattle.base_spec.specs.declared.Step.{Step}
 use Rattle.base_spec.specs.Parts.{parts}
 use Rattle.base_spec.specs.Lines.{answered_of, step_of}

@@ -1,4 +1,5 @@
 // Prints the image of the S-records on standard input as an image line, or their refusal.
+#![tactic(auto)]
 
 ghost use Rattle.std.specs.Prelude.{◌≡◌, ◌≤◌, length, replicate};
 ghost use Rattle.srecord_spec.specs.Printed.{loaded_text, image_printed};

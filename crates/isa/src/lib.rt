@@ -1,7 +1,8 @@
 // The instructions of the MC68020, as the Rust's encoded.rs has them. Instructions of one shape share a variant.
+#![tactic(auto)]
 
 // The width an instruction works at.
-#[derive(Drop)]
+#[derive(Clone, Copy)]
 pub enum Size {
     Byte,
     Word,
@@ -9,28 +10,28 @@ pub enum Size {
 }
 
 // Which way a transfer between registers and memory goes.
-#[derive(Drop)]
+#[derive(Clone, Copy)]
 pub enum TargetDirection {
     ToMemory,
     FromMemory,
 }
 
 // One of the sixteen general registers.
-#[derive(Drop)]
+#[derive(Clone, Copy)]
 pub enum RegisterOperand {
     Address(u8),
     Data(u8),
 }
 
 // An index register and the width it is read at.
-#[derive(Drop)]
+#[derive(Clone, Copy)]
 pub struct IndexRegister {
     pub register: RegisterOperand,
     pub size: Size,
 }
 
 // How wide an absolute address is encoded.
-#[derive(Drop)]
+#[derive(Clone, Copy)]
 pub enum AddressWidth {
     Word,
     Long,
@@ -38,7 +39,7 @@ pub enum AddressWidth {
 
 // An addressing mode with its registers and its value. In Extended, base is an IndexBase (A0 to A7 as 0 to 7, the
 // program counter as 8) and word an ExtensionWord.
-#[derive(Drop)]
+#[derive(Clone, Copy)]
 pub enum Operand {
     Immediate(u32),
     Register(RegisterOperand),
@@ -74,7 +75,7 @@ pub enum Operand {
 }
 
 // How wide a displacement of the full extension word is.
-#[derive(Drop)]
+#[derive(Clone, Copy)]
 pub enum DisplacementSize {
     Null,
     Word,
@@ -82,7 +83,7 @@ pub enum DisplacementSize {
 }
 
 // Whether and how an Extended operand reads its address from memory.
-#[derive(Drop)]
+#[derive(Clone, Copy)]
 pub enum Indirection {
     None,
     Preindexed,
@@ -90,7 +91,7 @@ pub enum Indirection {
 }
 
 // How a branch encodes its displacement.
-#[derive(Drop)]
+#[derive(Clone, Copy)]
 pub enum BranchSize {
     Short,
     Word,
@@ -98,7 +99,7 @@ pub enum BranchSize {
 }
 
 // The condition of a Bcc, DBcc, Scc or TRAPcc, in the order of its code.
-#[derive(Drop)]
+#[derive(Clone, Copy)]
 pub enum Condition {
     True,
     False,
@@ -119,35 +120,35 @@ pub enum Condition {
 }
 
 // Which way a shift or rotate moves its bits.
-#[derive(Drop)]
+#[derive(Clone, Copy)]
 pub enum ShiftDirection {
     Right,
     Left,
 }
 
 // How a multiply or divide reads its operands.
-#[derive(Drop)]
+#[derive(Clone, Copy)]
 pub enum Sign {
     Signed,
     Unsigned,
 }
 
 // The offset or the width of a bit field: a number, or a data register that holds it.
-#[derive(Drop)]
+#[derive(Clone, Copy)]
 pub enum FieldValue {
     Immediate(u8),
     Register(u8),
 }
 
 // The offset and the width of a bit field.
-#[derive(Drop)]
+#[derive(Clone, Copy)]
 pub struct BitField {
     pub offset: FieldValue,
     pub width: FieldValue,
 }
 
 // The eight bit-field instructions, in the order of their code.
-#[derive(Drop)]
+#[derive(Clone, Copy)]
 pub enum BitFieldOperation {
     Test,
     ExtractUnsigned,
@@ -160,7 +161,7 @@ pub enum BitFieldOperation {
 }
 
 // The operand of TRAPcc.
-#[derive(Drop)]
+#[derive(Clone, Copy)]
 pub enum TrapOperand {
     None,
     Word(u16),
@@ -168,14 +169,14 @@ pub enum TrapOperand {
 }
 
 // A register number that may be missing.
-#[derive(Drop)]
+#[derive(Clone, Copy)]
 pub enum RegisterChoice {
     None,
     Some(u8),
 }
 
 // The operations of each shape.
-#[derive(Drop)]
+#[derive(Clone, Copy)]
 pub enum RegisterOperation {
     ADDA,
     SUBA,
@@ -186,13 +187,13 @@ pub enum RegisterOperation {
     CMP2,
 }
 
-#[derive(Drop)]
+#[derive(Clone, Copy)]
 pub enum TransferOperation {
     MOVEP,
     MOVES,
 }
 
-#[derive(Drop)]
+#[derive(Clone, Copy)]
 pub enum PairOperation {
     MOVE,
     ADD,
@@ -205,13 +206,13 @@ pub enum PairOperation {
     EOR,
 }
 
-#[derive(Drop)]
+#[derive(Clone, Copy)]
 pub enum QuickOperation {
     ADDQ,
     SUBQ,
 }
 
-#[derive(Drop)]
+#[derive(Clone, Copy)]
 pub enum ImmediateOperation {
     ADDI,
     SUBI,
@@ -221,20 +222,20 @@ pub enum ImmediateOperation {
     CMPI,
 }
 
-#[derive(Drop)]
+#[derive(Clone, Copy)]
 pub enum WordOperation {
     DIVx,
     MULx,
 }
 
-#[derive(Drop)]
+#[derive(Clone, Copy)]
 pub enum UnsizedRegisterOperation {
     LEA,
     CHK,
     CHKL,
 }
 
-#[derive(Drop)]
+#[derive(Clone, Copy)]
 pub enum UnsizedOneOperation {
     PEA,
     NBCD,
@@ -247,7 +248,7 @@ pub enum UnsizedOneOperation {
     MOVEfromSR,
 }
 
-#[derive(Drop)]
+#[derive(Clone, Copy)]
 pub enum UnsizedPairOperation {
     ABCD,
     SBCD,
@@ -257,7 +258,7 @@ pub enum UnsizedPairOperation {
     BCHG,
 }
 
-#[derive(Drop)]
+#[derive(Clone, Copy)]
 pub enum OneOperation {
     CLR,
     NEG,
@@ -266,7 +267,7 @@ pub enum OneOperation {
     TST,
 }
 
-#[derive(Drop)]
+#[derive(Clone, Copy)]
 pub enum ShiftOperation {
     ASd,
     ROd,
@@ -274,25 +275,25 @@ pub enum ShiftOperation {
     ROXd,
 }
 
-#[derive(Drop)]
+#[derive(Clone, Copy)]
 pub enum PackOperation {
     PACK,
     UNPK,
 }
 
-#[derive(Drop)]
+#[derive(Clone, Copy)]
 pub enum BranchOperation {
     BRA,
     BSR,
 }
 
-#[derive(Drop)]
+#[derive(Clone, Copy)]
 pub enum LinkOperation {
     LINK,
     LINKL,
 }
 
-#[derive(Drop)]
+#[derive(Clone, Copy)]
 pub enum StatusOperation {
     ANDItoSR,
     ORItoSR,
@@ -300,27 +301,27 @@ pub enum StatusOperation {
     STOP,
 }
 
-#[derive(Drop)]
+#[derive(Clone, Copy)]
 pub enum ConditionCodeOperation {
     ANDItoCCR,
     ORItoCCR,
     EORItoCCR,
 }
 
-#[derive(Drop)]
+#[derive(Clone, Copy)]
 pub enum VectorOperation {
     TRAP,
     BKPT,
 }
 
-#[derive(Drop)]
+#[derive(Clone, Copy)]
 pub enum RawOperation {
     LINEA,
     LINEF,
     IllegalWord,
 }
 
-#[derive(Drop)]
+#[derive(Clone, Copy)]
 pub enum NoOperandOperation {
     RTE,
     RESET,
@@ -333,7 +334,7 @@ pub enum NoOperandOperation {
 }
 
 // One instruction.
-#[derive(Drop)]
+#[derive(Clone, Copy)]
 pub enum Instruction {
     IntoRegister(RegisterOperation, Operand, RegisterOperand, Size),
     MOVEM {
@@ -422,7 +423,7 @@ pub enum Instruction {
 }
 
 // The fields that hold a number, in the order of their numbers 1 to 20.
-#[derive(Drop)]
+#[derive(Clone, Copy)]
 pub enum Field {
     ShortBranch,
     WordBranch,
@@ -447,14 +448,14 @@ pub enum Field {
 }
 
 // A lowest and a highest value.
-#[derive(Drop)]
+#[derive(Clone, Copy)]
 pub struct Range {
     pub low: i64,
     pub high: i64,
 }
 
 // The words of an instruction, or the refusal: number, detail and value.
-#[derive(Drop)]
+#[derive(Clone, Copy)]
 pub struct Encoded {
     pub words: [u16; 11],
     pub count: usize,
@@ -464,7 +465,7 @@ pub struct Encoded {
 }
 
 // The size of an instruction in bytes, or the refusal.
-#[derive(Drop)]
+#[derive(Clone, Copy)]
 pub struct Measured {
     pub size: u32,
     pub number: u8,

@@ -1,4 +1,6 @@
 // What an operand is: its mode, its fields, and what it holds.
+#![tactic(auto)]
+
 ghost use Rattle.std.specs.Prelude.{◌≡◌, ◌<◌, ◌&&◌};
 ghost use Rattle.encode_spec.specs.Ea.{register_mode, absolute_mode, extended_mode, mode_of, permits, byte_of_address, extended_mode_field, mode_field, extended_register_field, absolute_register_field, register_field, ea_field, from_pc, is_typed, is_register, is_immediate, register_in, immediate_in, register_number, both_of, paired, memory_bit};
 ghost use Rattle.encode_spec.specs.Movement.{movem_modes};

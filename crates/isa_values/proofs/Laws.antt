@@ -1,7 +1,6 @@
 -- Laws of powers and signed numbers, and that no field but Immediate has a size. Assumes nothing.
 use Prim.Native.Nat.{ℕ, suc, ◌-◌, ◌*◌, ◌%◌, ◌^◌, ◌≤◌, ◌<◌}
 use mathlib.Core.Path.{◌≡◌, refl, sym, ◌∙◌}
-use mathlib.Core.List.{List, [], ◌∷◌}
 use mathlib.Core.Option.{none}
 use lib.IntN.{ℤ, pos, negsuc}
 use lib.Dec.{eqb, lit<}
@@ -11,9 +10,7 @@ use mir.Syntax.{w64}
 use native.Mathlib.Nat.{one-mul}
 use native.Mathlib.Omega.{arith}
 use borrow.Author.Tests.{ne_eqb}
-use types.Run.{OneOf, miss}
-use denote.Enum.Declared.{tag_of}
-use Rattle.isa.specs.contracts.Field.{the_type}
+use Rattle.isa.specs.declared.Size.{Size}
 use Rattle.isa.specs.declared.Field.{Field}
 use Rattle.isa.specs.declared.Field.TheVariants as field
 use Rattle.base_facts.specs.Tests.{Eq, eq?}
@@ -37,13 +34,8 @@ minus-one-bits (negsuc n) h = go (eq? n 0)
     go (Eq.same p e) = rw p
     go (Eq.other p e) = let q : n < 2 ^ 63 = h.sfits in ne_eqb (2 ^ 64 - suc n) (2 ^ 64 - 1) (λ d. p (omega (arith, d, q))) ∙ sym e
 
--- the tags of the fields other than Immediate
-abbrev pub others : List ℕ
-others =
-    0 ∷ 1 ∷ 2 ∷ 3 ∷ 4 ∷ 5 ∷ 6 ∷ 7 ∷ 9 ∷ 10 ∷ 11 ∷ 12 ∷ 13 ∷ 14 ∷ 15 ∷ 16 ∷ 17 ∷ 18 ∷ 19 ∷ []
-
--- they have no size
-pub no_size : (f : Field) → OneOf others (tag_of the_type f) → immediate_size f ≡ none
+-- a field other than Immediate has no size
+pub no_size : (f : Field) → ((s : Size) → f ≡ field.Immediate s → ⊥) → immediate_size f ≡ none
 no_size field.ShortBranch k = refl
 no_size field.WordBranch k = refl
 no_size field.PcDisplacement k = refl
@@ -52,7 +44,7 @@ no_size field.Displacement k = refl
 no_size field.IndexDisplacement k = refl
 no_size field.ShortAddress k = refl
 no_size field.LongAddress k = refl
-no_size (field.Immediate s) k = absurd (miss others 8 tt k)
+no_size (field.Immediate s) k = absurd (k s refl)
 no_size field.Count k = refl
 no_size field.TrapVector k = refl
 no_size field.BitNumber k = refl

@@ -8,7 +8,7 @@ use crate::displacement_size;
 use isa::{DisplacementSize, IndexRegister, Indirection, RegisterOperand, Size};
 
 // The word as it is encoded.
-#[derive(Drop)]
+#[derive(Clone, Copy)]
 pub struct ExtensionWord(pub u16);
 
 // The bit of the full format, and its BS and IS.
@@ -22,7 +22,7 @@ pub const INDEX_SUPPRESSED: u16 = 0x0040;
 pub const EXTENSION_WORD_OFFSET: i32 = 2;
 
 // An index register that may be missing.
-#[derive(Drop)]
+#[derive(Clone, Copy)]
 pub enum IndexChoice {
     None,
     Some(IndexRegister),

@@ -6,7 +6,7 @@ ghost use Rattle.isa_values.specs.IndexBase.{address_register};
 use isa::RegisterChoice;
 
 // A0 to A7 as 0 to 7, the program counter as 8.
-#[derive(Drop)]
+#[derive(Clone, Copy)]
 pub struct IndexBase(pub u8);
 
 // The program counter.

@@ -1,5 +1,5 @@
 // The processors, oldest first.
-#[derive(Drop)]
+#[derive(Clone, Copy)]
 pub enum Processor {
     M68000,
     M68010,
@@ -7,7 +7,7 @@ pub enum Processor {
 }
 
 // A processor, or none.
-#[derive(Drop)]
+#[derive(Clone, Copy)]
 pub enum ProcessorChoice {
     None,
     Some(Processor),

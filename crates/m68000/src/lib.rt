@@ -1,4 +1,6 @@
 // The entry point of the second reader, for boards with an MC68000: from words and an address to an instruction of the MC68000.
+#![tactic(auto)]
+
 ghost use Rattle.std.specs.Prelude.{◌≡◌};
 ghost use Rattle.m68000_spec.specs.Read68000.{read_68000_of};
 

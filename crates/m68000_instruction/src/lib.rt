@@ -1,4 +1,6 @@
 // Whether an instruction in plain form is of the MC68000, and so what is answered of a reading.
+#![tactic(auto)]
+
 ghost use Rattle.std.specs.Prelude.{◌≡◌};
 ghost use Rattle.m68000_spec.specs.Of68000.{into_register_of_68000, transfer_of_68000, immediate_into_of_68000, unsized_into_register_of_68000, unsized_one_of_68000, ext_of_68000, one_operand_of_68000, branch_of_68000, link_of_68000, vector_of_68000, operand_of_68000, of68000};
 ghost use Rattle.m68000_spec.specs.Read68000.{restricted};

@@ -1,5 +1,5 @@
 -- What is never shown: a full extension word, a scale above 1, a long branch.
-use Rattle.std.specs.Prelude.{ℕ, ◌+◌, ◌*◌, ◌/◌, ◌%◌, ◌≡◌, refl, Bool, true, false, not, ◌&&◌, ◌||◌, cond, List, [], ◌∷◌, ◌++◌, eqb, ℤ, pos}
+use Rattle.std.specs.Prelude.{ℕ, ◌*◌, ◌/◌, ◌%◌, ◌≡◌, refl, Bool, true, false, not, ◌&&◌, ◌||◌, cond, List, [], ◌∷◌, ◌++◌, eqb, ℤ, pos}
 use Rattle.std.proofs.Common.{sym, ap, ◌∙◌, inl, inr}
 use Rattle.std.proofs.lemmas.Bool.{false≢true}
 use Rattle.isa.specs.declared.Size.{Size}
@@ -32,6 +32,7 @@ use Rattle.m68000_laws.specs.Operands.{Among, among}
 
 -- ---- what is shown has no Extended operand
 among-all : (os : List Operand) (o : Operand) → Among o os → all_of_68000 os ≡ true → operand_of_68000 o ≡ true
+among-all [] o m t = elim m [ ]
 among-all (x ∷ xs) o (inl e) t = rw e (and-true (operand_of_68000 x) (all_of_68000 xs) t).0
 among-all (x ∷ xs) o (inr m) t = among-all xs o m (and-true (operand_of_68000 x) (all_of_68000 xs) t).1
 
@@ -101,6 +102,8 @@ module _ (base w : ℕ) (z outer : ℤ) (h : is_full_or_scaled w ≡ true) where
       go false false e = refl
 
   among-refused : (os ps : List Operand) → Among (Extended base w z outer) os → Plained os ps → all_of_68000 ps ≡ false
+  among-refused [] ps m k = elim m [ ]
+  among-refused (o ∷ os) [] m k = elim k [ ]
   among-refused (o ∷ os) (p ∷ ps) (inl e) ((s, q), k) =
       let f : operand_of_68000 p ≡ false = ap operand_of_68000 (q ∙ ap (plain_operand s) (sym e)) ∙ extended-plain s in
       rw f

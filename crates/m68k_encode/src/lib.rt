@@ -1,4 +1,6 @@
 // The entry points of the encoder: from an instruction and an address to words, to bytes and to a size.
+#![tactic(auto)]
+
 ghost use Rattle.std.specs.Prelude.{◌≡◌, true, false, ◌++◌, ◌*◌, ◌/◌, ◌%◌, ◌≤◌, ◌<◌, length, take, drop};
 ghost use Rattle.encode_spec.specs.Encode.{encoded_as, refusal_of, words_of, encode_of, size_of, bytes_of, lent_of, bytes_in};
 ghost use Rattle.encode_state.specs.Laws.{finished};

@@ -132,34 +132,107 @@ Sizes c t x = (size_of (c (PcDisplacement t)), size_of (c (PcIndex t x)))
 
 steady : {c : Operand → Instruction} → Hole c → (t : ℕ) (x : IndexRegister) → Sizes c 0 x ≡ Sizes c t x
 unfolding computed
-steady (into_register_lem {op}) t x = elim op [ ADDA ↦ refl | SUBA ↦ refl | CMPA ↦ refl | MOVEA ↦ refl | CMP ↦ refl | CHK2 ↦ refl | CMP2 ↦ refl ]
+steady (into_register_lem {op = ADDA}) t x = refl
+steady (into_register_lem {op = SUBA}) t x = refl
+steady (into_register_lem {op = CMPA}) t x = refl
+steady (into_register_lem {op = MOVEA}) t x = refl
+steady (into_register_lem {op = CMP}) t x = refl
+steady (into_register_lem {op = CHK2}) t x = refl
+steady (into_register_lem {op = CMP2}) t x = refl
 steady movem t x = refl
-steady (transfer {op}) t x = elim op [ MOVEP ↦ refl | MOVES ↦ refl ]
-steady (source {op} {d}) t x =
+steady (transfer {op = MOVEP}) t x = refl
+steady (transfer {op = MOVES}) t x = refl
+steady (source {op = MOVE} {d}) t x = refl
+steady (source {op = ADD} {d}) t x =
     let F : List Part → Measured = λ ps. weight (check fine ∷ typed d ∷ laid ps 0) in
     let r = is_register d in
-    elim op [ MOVE ↦ refl | ADD ↦ either r F refl refl | SUB ↦ either r F refl refl | ADDX ↦ refl | SUBX ↦ refl | CMPM ↦ refl | OR ↦ either r F refl refl | AND ↦ either r F refl refl | EOR ↦ refl ]
-steady (destination {op} {o} {s}) t x =
+    either r F refl refl
+steady (source {op = SUB} {d}) t x =
+    let F : List Part → Measured = λ ps. weight (check fine ∷ typed d ∷ laid ps 0) in
+    let r = is_register d in
+    either r F refl refl
+steady (source {op = ADDX} {d}) t x = refl
+steady (source {op = SUBX} {d}) t x = refl
+steady (source {op = CMPM} {d}) t x = refl
+steady (source {op = OR} {d}) t x =
+    let F : List Part → Measured = λ ps. weight (check fine ∷ typed d ∷ laid ps 0) in
+    let r = is_register d in
+    either r F refl refl
+steady (source {op = AND} {d}) t x =
+    let F : List Part → Measured = λ ps. weight (check fine ∷ typed d ∷ laid ps 0) in
+    let r = is_register d in
+    either r F refl refl
+steady (source {op = EOR} {d}) t x = refl
+steady (destination {op = MOVE} {o} {s}) t x =
     let xs : ℕ → List Item = λ field. typed o ∷ check fine ∷ operation (move_code s) field 7 (ea_field o) ∷ allow (not (byte_of_address s o)) 7 ∷ effective o s every_column 8 2 in
-    elim op [ MOVE ↦ ap₂ (λ p q. (p, q)) (behind (xs 2) _ _ refl refl) (behind (xs 3) _ _ refl refl) | ADD ↦ refl | SUB ↦ refl | ADDX ↦ refl | SUBX ↦ refl | CMPM ↦ refl | OR ↦ refl | AND ↦ refl | EOR ↦ refl ]
+    ap₂ (λ p q. (p, q)) (behind (xs 2) _ _ refl refl) (behind (xs 3) _ _ refl refl)
+steady (destination {op = ADD} {o} {s}) t x = refl
+steady (destination {op = SUB} {o} {s}) t x = refl
+steady (destination {op = ADDX} {o} {s}) t x = refl
+steady (destination {op = SUBX} {o} {s}) t x = refl
+steady (destination {op = CMPM} {o} {s}) t x = refl
+steady (destination {op = OR} {o} {s}) t x = refl
+steady (destination {op = AND} {o} {s}) t x = refl
+steady (destination {op = EOR} {o} {s}) t x = refl
 steady quick t x = refl
-steady (immediate_into_lem {op} {v} {s}) t x = elim s [ size.Byte ↦ refl | size.Word ↦ refl | size.Long ↦ refl ]
-steady (word_into_data_lem {op}) t x = elim op [ DIVx ↦ refl | MULx ↦ refl ]
-steady (unsized_into_register_lem {op}) t x = elim op [ LEA ↦ refl | CHK ↦ refl | CHKL ↦ refl ]
-steady (unsized-one {op}) t x = elim op [ PEA ↦ refl | NBCD ↦ refl | JSR ↦ refl | JMP ↦ refl | TAS ↦ refl | MOVEtoCCR ↦ refl | MOVEfromCCR ↦ refl | MOVEtoSR ↦ refl | MOVEfromSR ↦ refl ]
-steady (unsized_source {op}) t x = elim op [ ABCD ↦ refl | SBCD ↦ refl | BTST ↦ refl | BCLR ↦ refl | BSET ↦ refl | BCHG ↦ refl ]
-steady (unsized_destination {op} {o}) t x =
+steady (immediate_into_lem {op} {v} {s = size.Byte}) t x = refl
+steady (immediate_into_lem {op} {v} {s = size.Word}) t x = refl
+steady (immediate_into_lem {op} {v} {s = size.Long}) t x = refl
+steady (word_into_data_lem {op = DIVx}) t x = refl
+steady (word_into_data_lem {op = MULx}) t x = refl
+steady (unsized_into_register_lem {op = LEA}) t x = refl
+steady (unsized_into_register_lem {op = CHK}) t x = refl
+steady (unsized_into_register_lem {op = CHKL}) t x = refl
+steady (unsized-one {op = PEA}) t x = refl
+steady (unsized-one {op = NBCD}) t x = refl
+steady (unsized-one {op = JSR}) t x = refl
+steady (unsized-one {op = JMP}) t x = refl
+steady (unsized-one {op = TAS}) t x = refl
+steady (unsized-one {op = MOVEtoCCR}) t x = refl
+steady (unsized-one {op = MOVEfromCCR}) t x = refl
+steady (unsized-one {op = MOVEtoSR}) t x = refl
+steady (unsized-one {op = MOVEfromSR}) t x = refl
+steady (unsized_source {op = ABCD}) t x = refl
+steady (unsized_source {op = SBCD}) t x = refl
+steady (unsized_source {op = BTST}) t x = refl
+steady (unsized_source {op = BCLR}) t x = refl
+steady (unsized_source {op = BSET}) t x = refl
+steady (unsized_source {op = BCHG}) t x = refl
+steady (unsized_destination {op = ABCD} {o}) t x = refl
+steady (unsized_destination {op = SBCD} {o}) t x = refl
+steady (unsized_destination {op = BTST} {o}) t x =
     let F : List Part → Measured = λ ps. weight (typed o ∷ check fine ∷ laid ps 0) in
     let r = is_register o in
     let i = is_immediate o in
-    elim op [ ABCD ↦ refl | SBCD ↦ refl | BTST ↦ either r F refl (either i F refl refl) | BCLR ↦ either r F refl (either i F refl refl) | BSET ↦ either r F refl (either i F refl refl) | BCHG ↦ either r F refl (either i F refl refl) ]
-steady (one-operand {op}) t x = elim op [ CLR ↦ refl | NEG ↦ refl | NEGX ↦ refl | NOT ↦ refl | TST ↦ refl ]
+    either r F refl (either i F refl refl)
+steady (unsized_destination {op = BCLR} {o}) t x =
+    let F : List Part → Measured = λ ps. weight (typed o ∷ check fine ∷ laid ps 0) in
+    let r = is_register o in
+    let i = is_immediate o in
+    either r F refl (either i F refl refl)
+steady (unsized_destination {op = BSET} {o}) t x =
+    let F : List Part → Measured = λ ps. weight (typed o ∷ check fine ∷ laid ps 0) in
+    let r = is_register o in
+    let i = is_immediate o in
+    either r F refl (either i F refl refl)
+steady (unsized_destination {op = BCHG} {o}) t x =
+    let F : List Part → Measured = λ ps. weight (typed o ∷ check fine ∷ laid ps 0) in
+    let r = is_register o in
+    let i = is_immediate o in
+    either r F refl (either i F refl refl)
+steady (one-operand {op = CLR}) t x = refl
+steady (one-operand {op = NEG}) t x = refl
+steady (one-operand {op = NEGX}) t x = refl
+steady (one-operand {op = NOT}) t x = refl
+steady (one-operand {op = TST}) t x = refl
 steady scc t x = refl
 steady (count {op} {d}) t x = either (is_register d) (λ ps. weight (check fine ∷ typed d ∷ laid ps 0)) refl refl
 steady shifted t x = refl
 steady mull t x = refl
-steady (packed {op}) t x = elim op [ PACK ↦ refl | UNPK ↦ refl ]
-steady (unpacked {op}) t x = elim op [ PACK ↦ refl | UNPK ↦ refl ]
+steady (packed {op = PACK}) t x = refl
+steady (packed {op = UNPK}) t x = refl
+steady (unpacked {op = PACK}) t x = refl
+steady (unpacked {op = UNPK}) t x = refl
 steady cas t x = refl
 steady bf t x = refl
 steady divl t x = refl
@@ -179,6 +252,13 @@ untargeted-size h (Absolute a w) = refl
 
 pub aim_size : {c : ℕ → Instruction} → Aim c → (t : ℕ) → size_of (c 0) ≡ size_of (c t)
 unfolding computed
-aim_size (bcc {c} {s}) t = elim s [ reach.Short ↦ refl | reach.Word ↦ refl | reach.Long ↦ refl ]
+aim_size (bcc {c} {s = reach.Short}) t = refl
+aim_size (bcc {c} {s = reach.Word}) t = refl
+aim_size (bcc {c} {s = reach.Long}) t = refl
 aim_size dbcc t = refl
-aim_size (branch {op} {s}) t = elim op [ BRA ↦ elim s [ reach.Short ↦ refl | reach.Word ↦ refl | reach.Long ↦ refl ] | BSR ↦ elim s [ reach.Short ↦ refl | reach.Word ↦ refl | reach.Long ↦ refl ] ]
+aim_size (branch {op = BRA} {s = reach.Short}) t = refl
+aim_size (branch {op = BRA} {s = reach.Word}) t = refl
+aim_size (branch {op = BRA} {s = reach.Long}) t = refl
+aim_size (branch {op = BSR} {s = reach.Short}) t = refl
+aim_size (branch {op = BSR} {s = reach.Word}) t = refl
+aim_size (branch {op = BSR} {s = reach.Long}) t = refl

@@ -1,4 +1,6 @@
 // The entry point of the reader: from words and an address to an instruction.
+#![tactic(auto)]
+
 ghost use Rattle.std.specs.Prelude.{◌≡◌};
 ghost use Rattle.read_spec.specs.Read.{read_of};
 

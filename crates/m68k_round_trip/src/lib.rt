@@ -1,4 +1,6 @@
 // The round trip on the code itself.
+#![tactic(auto)]
+
 ghost use Rattle.std.specs.Prelude.{◌≡◌};
 ghost use Rattle.read_spec.specs.ReadingRefusal.{refused_run};
 ghost use Rattle.read_spec.specs.Read.{read_of};

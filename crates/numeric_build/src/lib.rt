@@ -1,4 +1,6 @@
 // From numbers to an instruction: the variant's place in encoded.rs's Instruction, then its fields in declared order.
+#![tactic(auto)]
+
 ghost use Rattle.std.specs.Prelude.{◌≡◌, ◌<◌, get_or};
 ghost use Rattle.numeric_fields.specs.Number.{numbers_in};
 ghost use Rattle.numeric_fields.specs.Taken.{Whole};
@@ -15,7 +17,7 @@ pub use numeric_spec::Built;
 pub mod row; // the fields of a line
 
 // A line: whether it is in the form to its end, its shape and its operation by number, and its fields.
-#[derive(Drop)]
+#[derive(Clone, Copy)]
 pub struct Line {
     pub ok: bool,
     pub shape: u8,

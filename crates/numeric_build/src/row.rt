@@ -12,7 +12,7 @@ use numeric_fields::part::{
 use numeric_shapes::{Bytes, Operands, Options, Places, Registers, Sizes, Slots};
 
 // The fields read so far, whether they are in the form, and the place after them.
-#[derive(Drop)]
+#[derive(Clone, Copy)]
 pub struct Filled {
     pub ok: bool,
     pub next: usize,

@@ -1,4 +1,6 @@
 // From an instruction to its numbers, the other way of `build`.
+#![tactic(auto)]
+
 ghost use Rattle.std.specs.Prelude.{◌≤◌, ◌≡◌};
 ghost use Rattle.numeric_places.specs.Places.{numbers_from};
 ghost use Rattle.numeric_spec.specs.Form.{form_of};

@@ -1,34 +1,36 @@
 // The instruction that fields make. Instructions of one shape share a variant of isa's Instruction.
+#![tactic(auto)]
+
 use isa::{BitField, Operand, RegisterChoice, RegisterOperand, Size, TrapOperand};
 
 pub mod made; // the instruction
 
-#[derive(Drop)]
+#[derive(Clone, Copy)]
 pub struct Operands {
     pub earlier: Operand,
     pub last: Operand,
 }
 
-#[derive(Drop)]
+#[derive(Clone, Copy)]
 pub struct Registers {
     pub earlier: RegisterOperand,
     pub last: RegisterOperand,
 }
 
-#[derive(Drop)]
+#[derive(Clone, Copy)]
 pub struct Sizes {
     pub earlier: Size,
     pub last: Size,
 }
 
 // Variants' places, of enums without fields and of flags.
-#[derive(Drop)]
+#[derive(Clone, Copy)]
 pub struct Places {
     pub earlier: u64,
     pub last: u64,
 }
 
-#[derive(Drop)]
+#[derive(Clone, Copy)]
 pub struct Bytes {
     pub first: u8,
     pub second: u8,
@@ -37,14 +39,14 @@ pub struct Bytes {
 }
 
 // What an instruction may leave out.
-#[derive(Drop)]
+#[derive(Clone, Copy)]
 pub struct Options {
     pub trap: TrapOperand,
     pub choice: RegisterChoice,
 }
 
 // The fields of an instruction, kind by kind: of each as many as an instruction has, those that were read last.
-#[derive(Drop)]
+#[derive(Clone, Copy)]
 pub struct Slots {
     pub operands: Operands,
     pub registers: Registers,

@@ -1,4 +1,6 @@
 // What listings, image lines and refusals are made of, written into a lent buffer.
+#![tactic(auto)]
+
 ghost use Rattle.std.specs.Prelude.{◌≡◌, ◌+◌, ◌*◌, ◌≤◌, length};
 ghost use Rattle.base_text.specs.Wrote.{Wrote};
 ghost use Rattle.print_spec.specs.Printed.{listed_words, line_refusal, too_long_input};

@@ -1,4 +1,5 @@
 // Prints the instruction that each run of words reads as, in numeric form, and its length, for boards with an MC68000.
+#![tactic(auto)]
 
 ghost use Rattle.std.specs.Prelude.{◌≡◌, length, replicate};
 

@@ -1,1 +1,2 @@
 // Laws alone: what `read` prints for a line speaks of all its words.
+#![tactic(auto)]

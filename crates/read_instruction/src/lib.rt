@@ -1,4 +1,6 @@
 // The reader: from words and an address to the instruction that they begin with.
+#![tactic(auto)]
+
 ghost use Rattle.std.specs.Prelude.{◌≡◌, ◌<◌};
 ghost use Rattle.read_spec.specs.Read.{read_of};
 ghost use Rattle.read_instruction.specs.ReadAt.{ReadsAs, FollowsAs};

@@ -12,7 +12,7 @@ use Rattle.isa.specs.declared.Operand.{Operand}
 use Rattle.isa.specs.declared.Operand.TheVariants.{Immediate, Register, Indirect, PostIndirect, PreIndirect, IndirectDisplacement, IndirectIndex, PcDisplacement, PcIndex, Extended, Absolute}
 use Rattle.isa_spec.specs.ExtensionWord.{is_full, base_size, outer_size}
 use Rattle.isa_spec.specs.Field.{holds}
-use Rattle.encode_spec.specs.Item.{Item, fine, ranged, words_in}
+use Rattle.encode_spec.specs.Item.{Item, ranged, words_in}
 use Rattle.encode_spec.specs.Ea.{ea_items, displacement_items, base_displacement, full_items, scaled_items, immediate_words}
 use Rattle.read_spec.specs.declared.Specifier.{Specifier}
 use Rattle.read_spec.specs.declared.Specifier.TheVariants as specifier

@@ -1,1 +1,2 @@
 // Laws alone: the reader against the encoder, instruction by instruction.
+#![tactic(auto)]

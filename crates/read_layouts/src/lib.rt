@@ -1,5 +1,7 @@
 // What an operation word is, and what follows it (the manual, sections 4 and 6, each instruction's format; section 8).
 // line, x, opmode and ea are bits 15 to 12, 11 to 9, 8 to 6 and 5 to 0 of the operation word.
+#![tactic(auto)]
+
 ghost use Rattle.std.specs.Prelude.{cond, ◌≡◌, ◌<◌};
 ghost use Rattle.isa.specs.declared.Size.TheVariants.{Long, Word};
 ghost use Rattle.isa_spec.specs.Code.{unsized_size};

@@ -1,5 +1,7 @@
 // The reader of what follows an operation word. Where the words' address does not matter, a contract holds at each
 // address a.
+#![tactic(auto)]
+
 ghost use Rattle.std.specs.Prelude.{◌≡◌};
 ghost use Rattle.read_places.specs.RunAt.{run_at};
 ghost use Rattle.read_spec.specs.Layout.{accepts, tail_tree};
@@ -16,28 +18,28 @@ pub mod index; // extension words
 pub mod operand; // effective addresses
 
 // What is read from a place on, and the place after it; or the words end; or nothing reads.
-#[derive(Drop)]
+#[derive(Clone, Copy)]
 pub enum NumberRead {
     Got(u32, usize),
     Short,
     Nothing,
 }
 
-#[derive(Drop)]
+#[derive(Clone, Copy)]
 pub enum DisplacementRead {
     Got(i32, usize),
     Short,
     Nothing,
 }
 
-#[derive(Drop)]
+#[derive(Clone, Copy)]
 pub enum OperandRead {
     Got(Operand, usize),
     Short,
     Nothing,
 }
 
-#[derive(Drop)]
+#[derive(Clone, Copy)]
 pub enum TailRead {
     Got(Tail, usize),
     Short,

@@ -1,4 +1,6 @@
 // From a line to a run: its address in decimal, then its words in hexadecimal, parted by tabs.
+#![tactic(auto)]
+
 ghost use Rattle.std.specs.Prelude.{◌≡◌};
 ghost use Rattle.print_spec.specs.Run.{hex_value};
 ghost use Rattle.read_runs.specs.Kept.{no_run, run_of};
@@ -7,7 +9,7 @@ ghost use Rattle.read_runs.specs.Step.{four_digits, word_of, start_at, start_of,
 use base_spec::Number;
 
 // The first 16 words of a run, and how many they are; the other places are 0.
-#[derive(Drop)]
+#[derive(Clone, Copy)]
 pub struct Run {
     pub ok: bool,
     pub address: u32,
@@ -15,7 +17,7 @@ pub struct Run {
     pub words: [u16; 16],
 }
 
-#[derive(Drop)]
+#[derive(Clone, Copy)]
 pub enum Word {
     Is(u16),
     No,

@@ -14,7 +14,7 @@ use Rattle.isa.specs.declared.Operand.TheVariants.{Immediate, Register, Indirect
 use Rattle.isa.specs.declared.RegisterOperation.TheVariants.{MOVEA, CMP}
 use Rattle.isa.specs.declared.TransferOperation.TheVariants.{MOVEP, MOVES}
 use Rattle.isa.specs.declared.PairOperation.TheVariants.{MOVE, CMPM, OR, AND, EOR}
-use Rattle.isa.specs.declared.UnsizedRegisterOperation.TheVariants.{LEA, CHK}
+use Rattle.isa.specs.declared.UnsizedRegisterOperation.TheVariants.{LEA}
 use Rattle.isa.specs.declared.UnsizedOneOperation.TheVariants.{PEA, NBCD}
 use Rattle.isa.specs.declared.BranchOperation.TheVariants.{BRA, BSR}
 use Rattle.isa.specs.declared.LinkOperation.TheVariants.{LINK, LINKL}

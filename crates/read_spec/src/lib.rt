@@ -1,8 +1,10 @@
 // The types of the reader.
+#![tactic(auto)]
+
 use isa::{Instruction, Operand, Size};
 
 // What stands between an operation word and the words of its operands: nothing, one word or two.
-#[derive(Drop)]
+#[derive(Clone, Copy)]
 pub enum Specifier {
     Nothing,
     Word,
@@ -18,7 +20,7 @@ pub enum Specifier {
 
 // What follows an operation word: whether it is one at all, its specifier, and two effective addresses in six bits
 // with the modes that each may be in.
-#[derive(Drop)]
+#[derive(Clone, Copy)]
 pub struct Layout {
     pub accepted: bool,
     pub specifier: Specifier,
@@ -30,7 +32,7 @@ pub struct Layout {
 }
 
 // What is read after the operation word.
-#[derive(Drop)]
+#[derive(Clone, Copy)]
 pub struct Tail {
     pub value: u32,
     pub source: Operand,
@@ -38,7 +40,7 @@ pub struct Tail {
 }
 
 // The groups of operation words that the upper ten bits tell apart.
-#[derive(Drop)]
+#[derive(Clone, Copy)]
 pub enum Group {
     Unused,
     ImmediateInto,
@@ -78,7 +80,7 @@ pub enum Group {
 }
 
 // What a run of words reads as: an instruction and its length in bytes, or a refusal.
-#[derive(Drop)]
+#[derive(Clone, Copy)]
 pub enum Reading {
     Read(Instruction, u32),
     Short,

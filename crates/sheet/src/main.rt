@@ -1,4 +1,5 @@
 // Prints the listing of the sheet on standard input, or its refusal.
+#![tactic(auto)]
 
 ghost use Rattle.std.specs.Prelude.{◌≡◌, ◌≤◌, length, replicate};
 ghost use Rattle.sheet_spec.specs.Translate.{full};

@@ -1,4 +1,6 @@
 // The passes over the lines of a sheet with one place for each block, 64 lines or as many as are left: a line's address is found from its block's place and the sizes of the lines before it in the block.
+#![tactic(auto)]
+
 ghost use Rattle.std.specs.Prelude.{◌≡◌, ◌/◌, ◌%◌, ◌<◌, ◌≤◌, map, length, take, if◌then◌else◌, nat_eq, slice_set};
 ghost use Rattle.sheet_spec.specs.Line.{line_of};
 ghost use Rattle.sheet_spec.specs.Made.{built_as};

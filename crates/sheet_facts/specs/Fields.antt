@@ -13,7 +13,7 @@ use Rattle.sheet_spec.specs.Line.{Token, literal, label, invalid, as_number, as_
 use Rattle.sheet_spec.specs.Line as line
 use Rattle.sheet_spec.specs.Spell.{sign_text, name_text, Written, Labelled, Either, Variant, Suits}
 use Rattle.sheet_spec.specs.Spell as spell
-use Rattle.sheet_facts.specs.Names.{Place, place_is}
+use Rattle.sheet_facts.specs.Names.{place_is}
 use Rattle.base_facts.specs.Tests.{and-true}
 
 -- ---- the kinds: a number, a line's name, either, or a variant's name

@@ -1,5 +1,5 @@
 -- Laws of a variant's name found by its key or by its length. Assumes nothing.
-use Prim.Native.Nat.{ℕ, zero, suc, ◌+◌, ◌*◌, ◌-◌, ◌≤◌, ◌<◌}
+use Prim.Native.Nat.{ℕ, zero, suc, ◌+◌, ◌*◌, ◌≤◌, ◌<◌}
 use mathlib.Core.Path.{◌≡◌, refl, sym, ap, subst, ◌∙◌}
 use mathlib.Core.Bool.{Bool, true, false, cond, not, ◌&&◌, ◌||◌, false≢true}
 use mathlib.Core.List.{List, [], ◌∷◌, map}
@@ -12,7 +12,6 @@ use Rattle.sheet_spec.specs.declared.Kind.{Kind}
 use Rattle.sheet_spec.specs.declared.Kind.TheVariants as kind
 use Rattle.sheet_spec.specs.Names.{bytes, names_of}
 use Rattle.sheet_spec.specs.Line.{literal, invalid, equal, is_none, place_from, as_variant}
-use Rattle.sheet_tokens.specs.declared.Value.{Value}
 use Rattle.sheet_tokens.specs.declared.Value.TheVariants as value
 use Rattle.sheet_tokens.specs.Values.{value_of}
 use Rattle.sheet_facts.specs.Facts.{equal_is, equal_refl}
@@ -282,12 +281,3 @@ no_length_from ks k f (n ∷ ns) t a = go (leb (length n) 8) u.0 (no_length_from
 pub no_length : (kind : Kind) (ks : List ℕ) (f : List ℕ) → covers ks (map bytes (names_of kind)) ≡ true → RestFrom (Unit {0}) ks (length f) → 99 ≡ long_place kind f
 unfolding long_place
 no_length kind ks f t r = sym (no_length_from ks 0 f (map bytes (names_of kind)) t (rest_apart (Unit {0}) ks (length f) r).1)
-
--- a number from m on that is none of the next n
-abbrev pub Past : ℕ → ℕ → ℕ → Type 0
-Past m zero k = Unit {0}
-Past m (suc n) k = Past m n k × (k ≡ m + n → ⊥)
-
-pub past_le : (m n k : ℕ) → m ≤ k → Past m n k → m + n ≤ k
-past_le m zero k h r = omega arith
-past_le m (suc n) k h r = omega (arith, past_le m n k h r.0, r.1)

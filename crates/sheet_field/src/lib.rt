@@ -1,4 +1,6 @@
 // What one field of a sheet's line says, by its kind.
+#![tactic(auto)]
+
 ghost use Rattle.std.specs.Prelude.{◌≡◌};
 ghost use Rattle.base_spec.specs.Number.{number_of};
 ghost use Rattle.sheet_spec.specs.Line.{as_number, as_label, as_variant, token};

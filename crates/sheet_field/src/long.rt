@@ -1,4 +1,6 @@
 // The places of names of more than eight bytes, each by its length.
+#![tactic(auto, unfolding(crate::specs::Place::long_place, crate::specs::Place::of_length))]
+
 ghost use Rattle.std.specs.Prelude.{◌≡◌, cond};
 ghost use Rattle.sheet_spec.specs.Line as line;
 ghost use Rattle.sheet_field.specs.Place.{long_place, of_length};

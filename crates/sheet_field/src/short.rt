@@ -1,4 +1,6 @@
 // The places of names of at most eight bytes, each by its key: its bytes as one number, the first in the lowest.
+#![tactic(auto, unfolding(crate::specs::Place::short_place))]
+
 ghost use Rattle.std.specs.Prelude.{◌≡◌, ◌+◌, ◌≤◌, ◌<◌, length, get_or};
 ghost use Rattle.sheet_field.specs.Place.{key_of, two_at, four_at, short_place};
 

@@ -1,4 +1,6 @@
 // The kinds to come in a line as one number: five bits each, the next in the lowest; 0 where there are none.
+#![tactic(auto)]
+
 ghost use Rattle.std.specs.Prelude.{◌≡◌, ◌%◌, ◌^◌, ◌<◌};
 ghost use Rattle.sheet_spec.specs.Grammar.{kinds_of};
 ghost use Rattle.sheet_kinds.specs.Packed.{packed, kind_at};

@@ -1,4 +1,6 @@
 // What a field's value says of a label: the address that it is made, and whether it names a line.
+#![tactic(auto)]
+
 ghost use Rattle.std.specs.Prelude.{◌≡◌};
 ghost use Rattle.sheet_labels.specs.Labels.{address_in, own_number, below_zero, says_label, names_line};
 

@@ -1,4 +1,6 @@
 // What a sheet's line says: its fields, each by the kind that is next after those before it, and the instruction that they make.
+#![tactic(auto)]
+
 ghost use Rattle.std.specs.Prelude.{◌≡◌, ◌≤◌, ◌<◌, cond, [], length};
 ghost use Rattle.sheet_spec.specs.Line.{line_of};
 ghost use Rattle.sheet_labels.specs.Labels.{address_in, aimed_to};
@@ -10,7 +12,7 @@ use numeric_spec::Built;
 use sheet_tokens::Value;
 
 // What a line makes, whether it has a label, and whether each label names a line.
-#[derive(Drop)]
+#[derive(Clone, Copy)]
 pub struct LineMade {
     pub built: Built,
     pub labelled: bool,
@@ -18,7 +20,7 @@ pub struct LineMade {
 }
 
 // What a line's fields say beside their numbers: how many they are, whether there is a label, and whether each label names a line. Not ok where the line is not in the form.
-#[derive(Drop)]
+#[derive(Clone, Copy)]
 pub struct LineRead {
     pub ok: bool,
     pub count: usize,

@@ -1,4 +1,6 @@
 // The translator's passes over the lines of a sheet, one loop each.
+#![tactic(auto)]
+
 ghost use Rattle.std.specs.Prelude.{◌≡◌, ◌+◌, ◌<◌, ◌≤◌, true, length};
 ghost use Rattle.sheet_spec.specs.Line.{line_of};
 ghost use Rattle.sheet_spec.specs.Made.{turned_back, judged};
@@ -11,14 +13,14 @@ use isa::{Encoded, Instruction, Measured};
 use numeric_spec::Built;
 
 // What `size` says of a line, and whether the line, unless it has a label, is accepted by `encode`.
-#[derive(Drop)]
+#[derive(Clone, Copy)]
 struct LineJudged {
     measured: Measured,
     settled: bool,
 }
 
 // The first refusal with its line, or the words that were counted.
-#[derive(Drop)]
+#[derive(Clone, Copy)]
 pub struct Passed {
     pub number: u8,
     pub line: usize,
@@ -28,7 +30,7 @@ pub struct Passed {
 }
 
 // The words that were counted, and whether each line without a label is accepted at its address; or the first refusal.
-#[derive(Drop)]
+#[derive(Clone, Copy)]
 pub struct Sized {
     pub passed: Passed,
     pub settled: bool,

@@ -1,4 +1,6 @@
 // What the program `sheet` prints: a sheet's listing or its refusal, written into a lent buffer.
+#![tactic(auto)]
+
 ghost use Rattle.std.specs.Prelude.{◌≡◌, ◌+◌, ◌*◌, ◌-◌, ◌/◌, ◌≤◌, length};
 ghost use Rattle.base_text.specs.Wrote.{Wrote};
 ghost use Rattle.sheet_spec.specs.Translate.{full};

@@ -1,4 +1,6 @@
 // Whether two sheets are the same.
+#![tactic(auto)]
+
 ghost use Rattle.std.specs.Prelude.{◌≡◌, length, replicate};
 ghost use Rattle.sheet_spec.specs.Line.{equal};
 ghost use Rattle.sheet_spec.specs.Translate.{full, image_of, scratch_of};

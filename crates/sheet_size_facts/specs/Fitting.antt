@@ -19,9 +19,25 @@ plain_number_lem (signed (pos n)) = (refl, λ h. h)
 plain_number_lem (signed (negsuc n)) = (refl, λ h. h)
 
 field_number_lem : (k : Kind) (m : Mark) (e : Entry) → Numbered e (field k m e)
-field_number_lem k m e =
-    let p = plain_number_lem e in
-    elim k [ kind.Number ↦ p | kind.Target ↦ elim m [ numbered n ↦ (refl, λ h. refl) | labelled n ↦ (refl, λ h. refl) ] | kind.Place ↦ elim m [ numbered n ↦ p | labelled n ↦ (refl, λ h. refl) ] | kind.Size ↦ p | kind.TargetDirection ↦ p | kind.RegisterOperand ↦ p | kind.AddressWidth ↦ p | kind.Condition ↦ p | kind.BranchSize ↦ p | kind.ShiftDirection ↦ p | kind.Sign ↦ p | kind.BitFieldOperation ↦ p | kind.FieldValue ↦ p | kind.TrapOperand ↦ p | kind.RegisterChoice ↦ p | kind.Operand ↦ p | kind.Instruction ↦ p ]
+field_number_lem kind.Number m e = plain_number_lem e
+field_number_lem kind.Target (numbered n) e = (refl, λ h. refl)
+field_number_lem kind.Target (labelled n) e = (refl, λ h. refl)
+field_number_lem kind.Place (numbered n) e = plain_number_lem e
+field_number_lem kind.Place (labelled n) e = (refl, λ h. refl)
+field_number_lem kind.Size m e = plain_number_lem e
+field_number_lem kind.TargetDirection m e = plain_number_lem e
+field_number_lem kind.RegisterOperand m e = plain_number_lem e
+field_number_lem kind.AddressWidth m e = plain_number_lem e
+field_number_lem kind.Condition m e = plain_number_lem e
+field_number_lem kind.BranchSize m e = plain_number_lem e
+field_number_lem kind.ShiftDirection m e = plain_number_lem e
+field_number_lem kind.Sign m e = plain_number_lem e
+field_number_lem kind.BitFieldOperation m e = plain_number_lem e
+field_number_lem kind.FieldValue m e = plain_number_lem e
+field_number_lem kind.TrapOperand m e = plain_number_lem e
+field_number_lem kind.RegisterChoice m e = plain_number_lem e
+field_number_lem kind.Operand m e = plain_number_lem e
+field_number_lem kind.Instruction m e = plain_number_lem e
 
 pub fields_numbers : (m : ℕ → Mark) (ks : List Kind) (es : List Entry) → Inside es → (map (number_as (λ n. some 0)) (saying m ks es) ≡ map entry_number (unaimed m ks es)) × Inside (unaimed m ks es)
 fields_numbers m ks [] h = (refl, tt)

@@ -128,7 +128,7 @@ line_made d p g h = go (made (given d (λ k. 0)) p) refl h
 pub line_size : (d : ℕ → Bool) (g : ℕ → ℕ) → Bounded d g → (vs : List Token) (u i : Instruction) → Line (every (λ k. 0)) vs u → Line (given d g) vs i
     → sized_as (made (given d (λ k. 0)) (says vs)) ≡ size_of i
 line_size d g b vs u i l m =
-    let none : (t : Bool) → ◌≡◌ {A = ℕ} (get_or (cond t (some 0) none) 0) 0 = λ t. elim t [ true ↦ refl | false ↦ refl ] in
+    let none : (t : Bool) → ◌≡◌ {A = ℕ} (get_or (cond t (some 0) none) 0) 0 = elim [ true ↦ refl | false ↦ refl ] in
     let z : Line (given d (λ k. 0)) vs u = record {
       grammar = l.grammar;
       labels = names-all d (λ k. 0) g vs ∙ m.labels;

@@ -89,57 +89,60 @@ module _ {d : ℕ → Bool} {i : Instruction} (r : Row d i) where
   made_row alike goes kept = subst Made r.is (made alike goes kept)
 
   -- without a target
-  still : (Ordinary (r.con r.z) → (w : r.Z) → ◌≡◌ {A = Next × Bool × Bool} (next_of (plain.plain (r.con w)), is_ordinary (r.con w), quiet (next_of (r.con w))) (next_of (r.con w), true, true)) → Kept → Made i
+  abbrev Still : Type 0
+  Still = Ordinary (r.con r.z) → (w : r.Z) → ◌≡◌ {A = Next × Bool × Bool} (next_of (plain.plain (r.con w)), is_ordinary (r.con w), quiet (next_of (r.con w))) (next_of (r.con w), true, true)
+
+  still : Still → Kept → Made i
   still law = made_row (λ l w. (ap (λ t. t.0) (law l w), ap (λ t. t.1) (law l w))) (λ l y a. quietly (λ f. ap (λ t. t.2) (law l (y f))))
 
 pub instruction_turned : {d : ℕ → Bool} (i : Instruction) (vs : List Token) → Input d (kind.Instruction ∷ []) vs (entries i ++ []) → Inside (entries i) → Turned d Instruction entries (Follows d i) [] vs []
-instruction_turned (IntoRegister op o r s) =
+instruction_turned {d} (IntoRegister op o r s) =
     still (row (IntoRegister op o r s))
-    (λ l w. elim op [ ADDA ↦ refl | SUBA ↦ refl | CMPA ↦ refl | MOVEA ↦ refl | CMP ↦ refl | CHK2 ↦ refl | CMP2 ↦ refl ]) (λ w. untargeted-size sizes.into_register_lem _)
+    (elim op as (λ k. Still (row {d = d} (IntoRegister k o r s))) [ ADDA ↦ λ l w. refl | SUBA ↦ λ l w. refl | CMPA ↦ λ l w. refl | MOVEA ↦ λ l w. refl | CMP ↦ λ l w. refl | CHK2 ↦ λ l w. refl | CMP2 ↦ λ l w. refl ]) (λ w. untargeted-size sizes.into_register_lem _)
 instruction_turned (MOVEM d s v o) = still (row (MOVEM d s v o)) (λ l w. refl) (λ w. untargeted-size sizes.movem _)
-instruction_turned (Transfer op d s r o) = still (row (Transfer op d s r o)) (λ l w. elim op [ MOVEP ↦ refl | MOVES ↦ refl ]) (λ w. untargeted-size sizes.transfer _)
-instruction_turned (Pair op o d s) =
+instruction_turned {d = known} (Transfer op d s r o) = still (row (Transfer op d s r o)) (elim op as (λ k. Still (row {d = known} (Transfer k d s r o))) [ MOVEP ↦ λ l w. refl | MOVES ↦ λ l w. refl ]) (λ w. untargeted-size sizes.transfer _)
+instruction_turned {d = known} (Pair op o d s) =
     still (row (Pair op o d s))
-    (λ l w. elim op [ MOVE ↦ refl | ADD ↦ refl | SUB ↦ refl | ADDX ↦ refl | SUBX ↦ refl | CMPM ↦ refl | OR ↦ refl | AND ↦ refl | EOR ↦ refl ]) (λ w. untargeted-size sizes.source _ ∙ untargeted-size sizes.destination _)
-instruction_turned (Quick op v o s) = still (row (Quick op v o s)) (λ l w. elim op [ ADDQ ↦ refl | SUBQ ↦ refl ]) (λ w. untargeted-size sizes.quick _)
+    (elim op as (λ k. Still (row {d = known} (Pair k o d s))) [ MOVE ↦ λ l w. refl | ADD ↦ λ l w. refl | SUB ↦ λ l w. refl | ADDX ↦ λ l w. refl | SUBX ↦ λ l w. refl | CMPM ↦ λ l w. refl | OR ↦ λ l w. refl | AND ↦ λ l w. refl | EOR ↦ λ l w. refl ]) (λ w. untargeted-size sizes.source _ ∙ untargeted-size sizes.destination _)
+instruction_turned {d} (Quick op v o s) = still (row (Quick op v o s)) (elim op as (λ k. Still (row {d = d} (Quick k v o s))) [ ADDQ ↦ λ l w. refl | SUBQ ↦ λ l w. refl ]) (λ w. untargeted-size sizes.quick _)
 instruction_turned (MOVEQ v r) = still (row (MOVEQ v r)) (λ l w. refl) (λ w. refl)
-instruction_turned (ImmediateInto op v o s) =
+instruction_turned {d} (ImmediateInto op v o s) =
     still (row (ImmediateInto op v o s))
-    (λ l w. elim op [ ADDI ↦ refl | SUBI ↦ refl | ANDI ↦ refl | ORI ↦ refl | EORI ↦ refl | CMPI ↦ refl ]) (λ w. untargeted-size sizes.immediate_into_lem _)
-instruction_turned (WordIntoData op o r g) = still (row (WordIntoData op o r g)) (λ l w. elim op [ DIVx ↦ refl | MULx ↦ refl ]) (λ w. untargeted-size sizes.word_into_data_lem _)
+    (elim op as (λ k. Still (row {d = d} (ImmediateInto k v o s))) [ ADDI ↦ λ l w. refl | SUBI ↦ λ l w. refl | ANDI ↦ λ l w. refl | ORI ↦ λ l w. refl | EORI ↦ λ l w. refl | CMPI ↦ λ l w. refl ]) (λ w. untargeted-size sizes.immediate_into_lem _)
+instruction_turned {d} (WordIntoData op o r g) = still (row (WordIntoData op o r g)) (elim op as (λ k. Still (row {d = d} (WordIntoData k o r g))) [ DIVx ↦ λ l w. refl | MULx ↦ λ l w. refl ]) (λ w. untargeted-size sizes.word_into_data_lem _)
 instruction_turned (SWAP r) = still (row (SWAP r)) (λ l w. refl) (λ w. refl)
 instruction_turned (EXG x y) = still (row (EXG x y)) (λ l w. refl) (λ w. refl)
-instruction_turned (UnsizedIntoRegister op o r) = still (row (UnsizedIntoRegister op o r)) (λ l w. elim op [ LEA ↦ refl | CHK ↦ refl | CHKL ↦ refl ]) (λ w. untargeted-size sizes.unsized_into_register_lem _)
-instruction_turned (UnsizedOne op o) =
+instruction_turned {d} (UnsizedIntoRegister op o r) = still (row (UnsizedIntoRegister op o r)) (elim op as (λ k. Still (row {d = d} (UnsizedIntoRegister k o r))) [ LEA ↦ λ l w. refl | CHK ↦ λ l w. refl | CHKL ↦ λ l w. refl ]) (λ w. untargeted-size sizes.unsized_into_register_lem _)
+instruction_turned {d} (UnsizedOne op o) =
     still (row (UnsizedOne op o))
-    (λ l w. elim op [ PEA ↦ refl | NBCD ↦ refl | JSR ↦ refl | JMP ↦ refl | TAS ↦ refl | MOVEtoCCR ↦ refl | MOVEfromCCR ↦ refl | MOVEtoSR ↦ refl | MOVEfromSR ↦ refl ]) (λ w. untargeted-size sizes.unsized-one _)
-instruction_turned (UnsizedPair op o d) =
+    (elim op as (λ k. Still (row {d = d} (UnsizedOne k o))) [ PEA ↦ λ l w. refl | NBCD ↦ λ l w. refl | JSR ↦ λ l w. refl | JMP ↦ λ l w. refl | TAS ↦ λ l w. refl | MOVEtoCCR ↦ λ l w. refl | MOVEfromCCR ↦ λ l w. refl | MOVEtoSR ↦ λ l w. refl | MOVEfromSR ↦ λ l w. refl ]) (λ w. untargeted-size sizes.unsized-one _)
+instruction_turned {d = known} (UnsizedPair op o d) =
     still (row (UnsizedPair op o d))
-    (λ l w. elim op [ ABCD ↦ refl | SBCD ↦ refl | BTST ↦ refl | BCLR ↦ refl | BSET ↦ refl | BCHG ↦ refl ]) (λ w. untargeted-size sizes.unsized_source _ ∙ untargeted-size sizes.unsized_destination _)
+    (elim op as (λ k. Still (row {d = known} (UnsizedPair k o d))) [ ABCD ↦ λ l w. refl | SBCD ↦ λ l w. refl | BTST ↦ λ l w. refl | BCLR ↦ λ l w. refl | BSET ↦ λ l w. refl | BCHG ↦ λ l w. refl ]) (λ w. untargeted-size sizes.unsized_source _ ∙ untargeted-size sizes.unsized_destination _)
 instruction_turned (EXT r s v) = still (row (EXT r s v)) (λ l w. refl) (λ w. refl)
-instruction_turned (OneOperand op o s) = still (row (OneOperand op o s)) (λ l w. elim op [ CLR ↦ refl | NEG ↦ refl | NEGX ↦ refl | NOT ↦ refl | TST ↦ refl ]) (λ w. untargeted-size sizes.one-operand _)
+instruction_turned {d} (OneOperand op o s) = still (row (OneOperand op o s)) (elim op as (λ k. Still (row {d = d} (OneOperand k o s))) [ CLR ↦ λ l w. refl | NEG ↦ λ l w. refl | NEGX ↦ λ l w. refl | NOT ↦ λ l w. refl | TST ↦ λ l w. refl ]) (λ w. untargeted-size sizes.one-operand _)
 instruction_turned (Bcc t c s) = made_row (row (Bcc t c s)) (λ l w. (refl, refl)) (λ l y a. aimed a.0.0) (λ w. aim_size sizes.bcc _)
 instruction_turned (Scc o c) = still (row (Scc o c)) (λ l w. refl) (λ w. untargeted-size sizes.scc _)
 instruction_turned (DBcc r t c) = made_row (row (DBcc r t c)) (λ l w. (refl, refl)) (λ l y a. aimed a.0.1) (λ w. aim_size sizes.dbcc _)
-instruction_turned (Branch op t s) = made_row (row (Branch op t s)) (λ l w. (elim op [ BRA ↦ refl | BSR ↦ refl ], refl)) (λ l y a. aimed a.0) (λ w. aim_size sizes.branch _)
-instruction_turned (Link op r v) = still (row (Link op r v)) (λ l w. elim op [ LINK ↦ refl | LINKL ↦ refl ]) (λ w. refl)
+instruction_turned {d} (Branch op t s) = made_row (row (Branch op t s)) (elim op as (λ k. Alike (row {d = d} (Branch k t s))) [ BRA ↦ λ l w. (refl, refl) | BSR ↦ λ l w. (refl, refl) ]) (λ l y a. aimed a.0) (λ w. aim_size sizes.branch _)
+instruction_turned {d} (Link op r v) = still (row (Link op r v)) (elim op as (λ k. Still (row {d = d} (Link k r v))) [ LINK ↦ λ l w. refl | LINKL ↦ λ l w. refl ]) (λ w. refl)
 instruction_turned (UNLK r) = still (row (UNLK r)) (λ l w. refl) (λ w. refl)
-instruction_turned (Shift op o d g s) =
+instruction_turned {d = known} (Shift op o d g s) =
     still (row (Shift op o d g s))
-    (λ l w. elim op [ ASd ↦ refl | ROd ↦ refl | LSd ↦ refl | ROXd ↦ refl ]) (λ w. untargeted-size sizes.count _ ∙ untargeted-size sizes.shifted _)
-instruction_turned (Vector op v) = still (row (Vector op v)) (λ l w. elim op [ TRAP ↦ refl | BKPT ↦ refl ]) (λ w. refl)
-instruction_turned (Status op v) = still (row (Status op v)) (λ l w. elim op [ ANDItoSR ↦ refl | ORItoSR ↦ refl | EORItoSR ↦ refl | STOP ↦ refl ]) (λ w. refl)
-instruction_turned (ConditionCode op v) = still (row (ConditionCode op v)) (λ l w. elim op [ ANDItoCCR ↦ refl | ORItoCCR ↦ refl | EORItoCCR ↦ refl ]) (λ w. refl)
+    (elim op as (λ k. Still (row {d = known} (Shift k o d g s))) [ ASd ↦ λ l w. refl | ROd ↦ λ l w. refl | LSd ↦ λ l w. refl | ROXd ↦ λ l w. refl ]) (λ w. untargeted-size sizes.count _ ∙ untargeted-size sizes.shifted _)
+instruction_turned {d} (Vector op v) = still (row (Vector op v)) (elim op as (λ k. Still (row {d = d} (Vector k v))) [ TRAP ↦ λ l w. refl | BKPT ↦ λ l w. refl ]) (λ w. refl)
+instruction_turned {d} (Status op v) = still (row (Status op v)) (elim op as (λ k. Still (row {d = d} (Status k v))) [ ANDItoSR ↦ λ l w. refl | ORItoSR ↦ λ l w. refl | EORItoSR ↦ λ l w. refl | STOP ↦ λ l w. refl ]) (λ w. refl)
+instruction_turned {d} (ConditionCode op v) = still (row (ConditionCode op v)) (elim op as (λ k. Still (row {d = d} (ConditionCode k v))) [ ANDItoCCR ↦ λ l w. refl | ORItoCCR ↦ λ l w. refl | EORItoCCR ↦ λ l w. refl ]) (λ w. refl)
 instruction_turned (MOVEUSP b r) = still (row (MOVEUSP b r)) (λ l w. refl) (λ w. refl)
-instruction_turned (Raw op v) = still (row (Raw op v)) (elim op [ LINEA ↦ λ l w. refl | LINEF ↦ λ l w. refl | IllegalWord ↦ λ l w. absurd (l.0 v refl) ]) (λ w. refl)
-instruction_turned (NoOperand op) =
+instruction_turned {d} (Raw op v) = still (row (Raw op v)) (elim op as (λ k. Still (row {d = d} (Raw k v))) [ LINEA ↦ λ l w. refl | LINEF ↦ λ l w. refl | IllegalWord ↦ λ l w. absurd (l.0 v refl) ]) (λ w. refl)
+instruction_turned {d} (NoOperand op) =
     still (row (NoOperand op))
-    (elim op [ RTE ↦ λ l w. refl | RESET ↦ λ l w. refl | RTR ↦ λ l w. refl | TRAPV ↦ λ l w. refl | ILLEGAL ↦ λ l w. refl | RTS ↦ λ l w. refl | NOP ↦ λ l w. refl | SIMHALT ↦ λ l w. absurd (l.1 refl) ]) (λ w. refl)
+    (elim op as (λ k. Still (row {d = d} (NoOperand k))) [ RTE ↦ λ l w. refl | RESET ↦ λ l w. refl | RTR ↦ λ l w. refl | TRAPV ↦ λ l w. refl | ILLEGAL ↦ λ l w. refl | RTS ↦ λ l w. refl | NOP ↦ λ l w. refl | SIMHALT ↦ λ l w. absurd (l.1 refl) ]) (λ w. refl)
 instruction_turned (RTD v) = still (row (RTD v)) (λ l w. refl) (λ w. refl)
 instruction_turned (MOVEC b v r) = still (row (MOVEC b v r)) (λ l w. refl) (λ w. refl)
 instruction_turned (TRAPcc c x) = still (row (TRAPcc c x)) (λ l w. refl) (λ w. refl)
 instruction_turned (MULL o v c g) = still (row (MULL o v c g)) (λ l w. refl) (λ w. untargeted-size sizes.mull _)
-instruction_turned (Pack op o d v) = still (row (Pack op o d v)) (λ l w. elim op [ PACK ↦ refl | UNPK ↦ refl ]) (λ w. untargeted-size sizes.packed _ ∙ untargeted-size sizes.unpacked _)
+instruction_turned {d = known} (Pack op o d v) = still (row (Pack op o d v)) (elim op as (λ k. Still (row {d = known} (Pack k o d v))) [ PACK ↦ λ l w. refl | UNPK ↦ λ l w. refl ]) (λ w. untargeted-size sizes.packed _ ∙ untargeted-size sizes.unpacked _)
 instruction_turned (CAS c v o s) = still (row (CAS c v o s)) (λ l w. refl) (λ w. untargeted-size sizes.cas _)
 instruction_turned (CAS2 c d u v p q s) = still (row (CAS2 c d u v p q s)) (λ l w. refl) (λ w. refl)
 instruction_turned (BF op o b r) = still (row (BF op o b r)) (λ l w. refl) (λ w. untargeted-size sizes.bf _)

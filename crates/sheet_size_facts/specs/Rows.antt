@@ -90,22 +90,22 @@ action = choice kind.BitFieldOperation (λ m. refl) (λ v q. q) 7 bit_field_oper
 abbrev register : {d : ℕ → Bool} → Sort d RegisterOperand
 register =
     let e : Enum RegisterOperand = record { form = register_form; kind = kind.RegisterOperand; suits = λ v q. q; names = λ m. (λ h. h, λ k top. refl); top = 1; untargeted = λ x. x } in
-    enum e (λ x. elim x [ Address m ↦ variant e 0 (λ h. refl) byte Address m (λ w. refl) | Data m ↦ variant e 1 (λ h. refl) byte Data m (λ w. refl) ])
+    enum e (elim [ Address m ↦ variant e 0 (λ h. refl) byte Address m (λ w. refl) | Data m ↦ variant e 1 (λ h. refl) byte Data m (λ w. refl) ])
 
 abbrev extent : {d : ℕ → Bool} → Sort d FieldValue
 extent =
     let e : Enum FieldValue = record { form = field_value_form; kind = kind.FieldValue; suits = λ v q. q; names = λ m. (λ h. h, λ k top. refl); top = 1; untargeted = λ x. x } in
-    enum e (λ x. elim x [ value.Immediate m ↦ variant e 0 (λ h. refl) byte value.Immediate m (λ w. refl) | value.Register m ↦ variant e 1 (λ h. refl) byte value.Register m (λ w. refl) ])
+    enum e (elim [ value.Immediate m ↦ variant e 0 (λ h. refl) byte value.Immediate m (λ w. refl) | value.Register m ↦ variant e 1 (λ h. refl) byte value.Register m (λ w. refl) ])
 
 abbrev high : {d : ℕ → Bool} → Sort d RegisterChoice
 high =
     let e : Enum RegisterChoice = record { form = register_choice_form; kind = kind.RegisterChoice; suits = λ v q. q; names = λ m. (λ h. h, λ k top. refl); top = 1; untargeted = λ x. x } in
-    enum e (λ x. elim x [ choices.None ↦ variant e 0 (λ h. refl) none (λ w. choices.None) tt (λ w. refl) | choices.Some m ↦ variant e 1 (λ h. refl) byte choices.Some m (λ w. refl) ])
+    enum e (elim [ choices.None ↦ variant e 0 (λ h. refl) none (λ w. choices.None) tt (λ w. refl) | choices.Some m ↦ variant e 1 (λ h. refl) byte choices.Some m (λ w. refl) ])
 
 abbrev trapped : {d : ℕ → Bool} → Sort d TrapOperand
 trapped =
     let e : Enum TrapOperand = record { form = trap_operand_form; kind = kind.TrapOperand; suits = λ v q. q; names = λ m. (λ h. h, λ k top. refl); top = 2; untargeted = λ x. x } in
-    enum e (λ x. elim x [ trap.None ↦ variant e 0 (λ h. refl) none (λ w. trap.None) tt (λ w. refl) | trap.Word m ↦ variant e 1 (λ h. refl) word trap.Word m (λ w. refl) | trap.Long m ↦ variant e 2 (λ h. refl) long trap.Long m (λ w. refl) ])
+    enum e (elim [ trap.None ↦ variant e 0 (λ h. refl) none (λ w. trap.None) tt (λ w. refl) | trap.Word m ↦ variant e 1 (λ h. refl) word trap.Word m (λ w. refl) | trap.Long m ↦ variant e 2 (λ h. refl) long trap.Long m (λ w. refl) ])
 
 abbrev indexed : RegisterOperand × Size → IndexRegister
 indexed w = record { register = w.0; size = w.1 }
@@ -113,7 +113,7 @@ indexed w = record { register = w.0; size = w.1 }
 abbrev operand : {d : ℕ → Bool} → Sort d Operand
 operand =
     let e : Enum Operand = record { form = operand_form; kind = kind.Operand; suits = λ v q. q; names = λ m. (λ h. h, λ k top. refl); top = 10; untargeted = untargeted } in
-    enum e (λ x. elim x [
+    enum e (elim [
       | Immediate v ↦ variant e 0 (λ h. refl) long Immediate v (λ w. refl)
       | Register r ↦ variant e 1 (λ h. refl) register Register r (λ w. refl)
       | Indirect m ↦ variant e 2 (λ h. refl) byte Indirect m (λ w. refl)
@@ -147,40 +147,43 @@ pub record Row (d : ℕ → Bool) (i : Instruction) : Type 1 where
 abbrev as_row : {d : ℕ → Bool} {Z : Type 0} (s : Sort d Z) (con : Z → Instruction) (z : Z) → Law s con z → Row d (con z)
 as_row {d} {Z} s con z law = record { Z = Z; sort = s; con = con; z = z; is = refl; law = law }
 
+abbrev as_rows : {d : ℕ → Bool} {K Z : Type 0} (s : Sort d Z) (con : K → Z → Instruction) (z : Z) → ((k : K) → Law s (con k) z) → (k : K) → Row d (con k z)
+as_rows s con z law k = as_row s (con k) z (law k)
+
 abbrev pub row : {d : ℕ → Bool} (i : Instruction) → Row d i
-row (IntoRegister op o r s) = as_row (operand ⊗ register ⊗ size) (λ w. IntoRegister op w.0.0 w.0.1 w.1) ((o, r), s) (λ h w. elim op [ ADDA ↦ refl | SUBA ↦ refl | CMPA ↦ refl | MOVEA ↦ refl | CMP ↦ refl | CHK2 ↦ refl | CMP2 ↦ refl ])
+row (IntoRegister op o r s) = as_rows (operand ⊗ register ⊗ size) (λ op w. IntoRegister op w.0.0 w.0.1 w.1) ((o, r), s) (elim [ ADDA ↦ λ h w. refl | SUBA ↦ λ h w. refl | CMPA ↦ λ h w. refl | MOVEA ↦ λ h w. refl | CMP ↦ λ h w. refl | CHK2 ↦ λ h w. refl | CMP2 ↦ λ h w. refl ]) op
 row (MOVEM d s v o) = as_row (direction ⊗ size ⊗ word ⊗ operand) (λ w. MOVEM w.0.0.0 w.0.0.1 w.0.1 w.1) (((d, s), v), o) (λ h w. refl)
-row (Transfer op d s r o) = as_row (direction ⊗ size ⊗ register ⊗ operand) (λ w. Transfer op w.0.0.0 w.0.0.1 w.0.1 w.1) (((d, s), r), o) (λ h w. elim op [ MOVEP ↦ refl | MOVES ↦ refl ])
-row (Pair op o d s) = as_row (operand ⊗ operand ⊗ size) (λ w. Pair op w.0.0 w.0.1 w.1) ((o, d), s) (λ h w. elim op [ MOVE ↦ refl | ADD ↦ refl | SUB ↦ refl | ADDX ↦ refl | SUBX ↦ refl | CMPM ↦ refl | OR ↦ refl | AND ↦ refl | EOR ↦ refl ])
-row (Quick op v o s) = as_row (byte ⊗ operand ⊗ size) (λ w. Quick op w.0.0 w.0.1 w.1) ((v, o), s) (λ h w. elim op [ ADDQ ↦ refl | SUBQ ↦ refl ])
+row (Transfer op d s r o) = as_rows (direction ⊗ size ⊗ register ⊗ operand) (λ op w. Transfer op w.0.0.0 w.0.0.1 w.0.1 w.1) (((d, s), r), o) (elim [ MOVEP ↦ λ h w. refl | MOVES ↦ λ h w. refl ]) op
+row (Pair op o d s) = as_rows (operand ⊗ operand ⊗ size) (λ op w. Pair op w.0.0 w.0.1 w.1) ((o, d), s) (elim [ MOVE ↦ λ h w. refl | ADD ↦ λ h w. refl | SUB ↦ λ h w. refl | ADDX ↦ λ h w. refl | SUBX ↦ λ h w. refl | CMPM ↦ λ h w. refl | OR ↦ λ h w. refl | AND ↦ λ h w. refl | EOR ↦ λ h w. refl ]) op
+row (Quick op v o s) = as_rows (byte ⊗ operand ⊗ size) (λ op w. Quick op w.0.0 w.0.1 w.1) ((v, o), s) (elim [ ADDQ ↦ λ h w. refl | SUBQ ↦ λ h w. refl ]) op
 row (MOVEQ v r) = as_row (byte ⊗ register) (λ w. MOVEQ w.0 w.1) (v, r) (λ h w. refl)
-row (ImmediateInto op v o s) = as_row (long ⊗ operand ⊗ size) (λ w. ImmediateInto op w.0.0 w.0.1 w.1) ((v, o), s) (λ h w. elim op [ ADDI ↦ refl | SUBI ↦ refl | ANDI ↦ refl | ORI ↦ refl | EORI ↦ refl | CMPI ↦ refl ])
-row (WordIntoData op o r g) = as_row (operand ⊗ register ⊗ sign) (λ w. WordIntoData op w.0.0 w.0.1 w.1) ((o, r), g) (λ h w. elim op [ DIVx ↦ refl | MULx ↦ refl ])
+row (ImmediateInto op v o s) = as_rows (long ⊗ operand ⊗ size) (λ op w. ImmediateInto op w.0.0 w.0.1 w.1) ((v, o), s) (elim [ ADDI ↦ λ h w. refl | SUBI ↦ λ h w. refl | ANDI ↦ λ h w. refl | ORI ↦ λ h w. refl | EORI ↦ λ h w. refl | CMPI ↦ λ h w. refl ]) op
+row (WordIntoData op o r g) = as_rows (operand ⊗ register ⊗ sign) (λ op w. WordIntoData op w.0.0 w.0.1 w.1) ((o, r), g) (elim [ DIVx ↦ λ h w. refl | MULx ↦ λ h w. refl ]) op
 row (SWAP r) = as_row register (λ w. SWAP w) r (λ h w. refl)
 row (EXG r q) = as_row (register ⊗ register) (λ w. EXG w.0 w.1) (r, q) (λ h w. refl)
-row (UnsizedIntoRegister op o r) = as_row (operand ⊗ register) (λ w. UnsizedIntoRegister op w.0 w.1) (o, r) (λ h w. elim op [ LEA ↦ refl | CHK ↦ refl | CHKL ↦ refl ])
-row (UnsizedOne op o) = as_row operand (λ w. UnsizedOne op w) o (λ h w. elim op [ PEA ↦ refl | NBCD ↦ refl | JSR ↦ refl | JMP ↦ refl | TAS ↦ refl | MOVEtoCCR ↦ refl | MOVEfromCCR ↦ refl | MOVEtoSR ↦ refl | MOVEfromSR ↦ refl ])
-row (UnsizedPair op o d) = as_row (operand ⊗ operand) (λ w. UnsizedPair op w.0 w.1) (o, d) (λ h w. elim op [ ABCD ↦ refl | SBCD ↦ refl | BTST ↦ refl | BCLR ↦ refl | BSET ↦ refl | BCHG ↦ refl ])
+row (UnsizedIntoRegister op o r) = as_rows (operand ⊗ register) (λ op w. UnsizedIntoRegister op w.0 w.1) (o, r) (elim [ LEA ↦ λ h w. refl | CHK ↦ λ h w. refl | CHKL ↦ λ h w. refl ]) op
+row (UnsizedOne op o) = as_rows operand (λ op w. UnsizedOne op w) o (elim [ PEA ↦ λ h w. refl | NBCD ↦ λ h w. refl | JSR ↦ λ h w. refl | JMP ↦ λ h w. refl | TAS ↦ λ h w. refl | MOVEtoCCR ↦ λ h w. refl | MOVEfromCCR ↦ λ h w. refl | MOVEtoSR ↦ λ h w. refl | MOVEfromSR ↦ λ h w. refl ]) op
+row (UnsizedPair op o d) = as_rows (operand ⊗ operand) (λ op w. UnsizedPair op w.0 w.1) (o, d) (elim [ ABCD ↦ λ h w. refl | SBCD ↦ λ h w. refl | BTST ↦ λ h w. refl | BCLR ↦ λ h w. refl | BSET ↦ λ h w. refl | BCHG ↦ λ h w. refl ]) op
 row (EXT r s q) = as_row (register ⊗ size ⊗ size) (λ w. EXT w.0.0 w.0.1 w.1) ((r, s), q) (λ h w. refl)
-row (OneOperand op o s) = as_row (operand ⊗ size) (λ w. OneOperand op w.0 w.1) (o, s) (λ h w. elim op [ CLR ↦ refl | NEG ↦ refl | NEGX ↦ refl | NOT ↦ refl | TST ↦ refl ])
+row (OneOperand op o s) = as_rows (operand ⊗ size) (λ op w. OneOperand op w.0 w.1) (o, s) (elim [ CLR ↦ λ h w. refl | NEG ↦ λ h w. refl | NEGX ↦ λ h w. refl | NOT ↦ λ h w. refl | TST ↦ λ h w. refl ]) op
 row (Bcc t c s) = as_row (target ⊗ condition ⊗ reach) (λ w. Bcc w.0.0 w.0.1 w.1) ((t, c), s) (λ h w. refl)
 row (Scc o c) = as_row (operand ⊗ condition) (λ w. Scc w.0 w.1) (o, c) (λ h w. refl)
 row (DBcc r t c) = as_row (register ⊗ target ⊗ condition) (λ w. DBcc w.0.0 w.0.1 w.1) ((r, t), c) (λ h w. refl)
-row (Branch op t s) = as_row (target ⊗ reach) (λ w. Branch op w.0 w.1) (t, s) (λ h w. elim op [ BRA ↦ refl | BSR ↦ refl ])
-row (Link op r v) = as_row (register ⊗ long) (λ w. Link op w.0 w.1) (r, v) (λ h w. elim op [ LINK ↦ refl | LINKL ↦ refl ])
+row (Branch op t s) = as_rows (target ⊗ reach) (λ op w. Branch op w.0 w.1) (t, s) (elim [ BRA ↦ λ h w. refl | BSR ↦ λ h w. refl ]) op
+row (Link op r v) = as_rows (register ⊗ long) (λ op w. Link op w.0 w.1) (r, v) (elim [ LINK ↦ λ h w. refl | LINKL ↦ λ h w. refl ]) op
 row (UNLK r) = as_row register (λ w. UNLK w) r (λ h w. refl)
-row (Shift op o d g s) = as_row (operand ⊗ operand ⊗ side ⊗ size) (λ w. Shift op w.0.0.0 w.0.0.1 w.0.1 w.1) (((o, d), g), s) (λ h w. elim op [ ASd ↦ refl | ROd ↦ refl | LSd ↦ refl | ROXd ↦ refl ])
-row (Vector op v) = as_row byte (λ w. Vector op w) v (λ h w. elim op [ TRAP ↦ refl | BKPT ↦ refl ])
-row (Status op v) = as_row word (λ w. Status op w) v (λ h w. elim op [ ANDItoSR ↦ refl | ORItoSR ↦ refl | EORItoSR ↦ refl | STOP ↦ refl ])
-row (ConditionCode op v) = as_row byte (λ w. ConditionCode op w) v (λ h w. elim op [ ANDItoCCR ↦ refl | ORItoCCR ↦ refl | EORItoCCR ↦ refl ])
+row (Shift op o d g s) = as_rows (operand ⊗ operand ⊗ side ⊗ size) (λ op w. Shift op w.0.0.0 w.0.0.1 w.0.1 w.1) (((o, d), g), s) (elim [ ASd ↦ λ h w. refl | ROd ↦ λ h w. refl | LSd ↦ λ h w. refl | ROXd ↦ λ h w. refl ]) op
+row (Vector op v) = as_rows byte (λ op w. Vector op w) v (elim [ TRAP ↦ λ h w. refl | BKPT ↦ λ h w. refl ]) op
+row (Status op v) = as_rows word (λ op w. Status op w) v (elim [ ANDItoSR ↦ λ h w. refl | ORItoSR ↦ λ h w. refl | EORItoSR ↦ λ h w. refl | STOP ↦ λ h w. refl ]) op
+row (ConditionCode op v) = as_rows byte (λ op w. ConditionCode op w) v (elim [ ANDItoCCR ↦ λ h w. refl | ORItoCCR ↦ λ h w. refl | EORItoCCR ↦ λ h w. refl ]) op
 row (MOVEUSP b r) = as_row (flag ⊗ register) (λ w. MOVEUSP w.0 w.1) (b, r) (λ h w. refl)
-row (Raw op v) = as_row word (λ w. Raw op w) v (elim op [ LINEA ↦ λ h w. refl | LINEF ↦ λ h w. refl | IllegalWord ↦ λ h w. absurd (h.0 v refl) ])
-row (NoOperand op) = as_row none (λ w. NoOperand op) tt (elim op [ RTE ↦ λ h w. refl | RESET ↦ λ h w. refl | RTR ↦ λ h w. refl | TRAPV ↦ λ h w. refl | ILLEGAL ↦ λ h w. refl | RTS ↦ λ h w. refl | NOP ↦ λ h w. refl | SIMHALT ↦ λ h w. absurd (h.1 refl) ])
+row (Raw op v) = as_rows word (λ op w. Raw op w) v (elim [ LINEA ↦ λ h w. refl | LINEF ↦ λ h w. refl | IllegalWord ↦ λ h w. absurd (h.0 v refl) ]) op
+row (NoOperand op) = as_rows none (λ op w. NoOperand op) tt (elim [ RTE ↦ λ h w. refl | RESET ↦ λ h w. refl | RTR ↦ λ h w. refl | TRAPV ↦ λ h w. refl | ILLEGAL ↦ λ h w. refl | RTS ↦ λ h w. refl | NOP ↦ λ h w. refl | SIMHALT ↦ λ h w. absurd (h.1 refl) ]) op
 row (RTD v) = as_row long (λ w. RTD w) v (λ h w. refl)
 row (MOVEC b v r) = as_row (flag ⊗ word ⊗ register) (λ w. MOVEC w.0.0 w.0.1 w.1) ((b, v), r) (λ h w. refl)
 row (TRAPcc c x) = as_row (condition ⊗ trapped) (λ w. TRAPcc w.0 w.1) (c, x) (λ h w. refl)
 row (MULL o v c g) = as_row (operand ⊗ byte ⊗ high ⊗ sign) (λ w. MULL w.0.0.0 w.0.0.1 w.0.1 w.1) (((o, v), c), g) (λ h w. refl)
-row (Pack op o d v) = as_row (operand ⊗ operand ⊗ word) (λ w. Pack op w.0.0 w.0.1 w.1) ((o, d), v) (λ h w. elim op [ PACK ↦ refl | UNPK ↦ refl ])
+row (Pack op o d v) = as_rows (operand ⊗ operand ⊗ word) (λ op w. Pack op w.0.0 w.0.1 w.1) ((o, d), v) (elim [ PACK ↦ λ h w. refl | UNPK ↦ λ h w. refl ]) op
 row (CAS c v o s) = as_row (byte ⊗ byte ⊗ operand ⊗ size) (λ w. CAS w.0.0.0 w.0.0.1 w.0.1 w.1) (((c, v), o), s) (λ h w. refl)
 row (CAS2 c d u v p q s) = as_row (byte ⊗ byte ⊗ byte ⊗ byte ⊗ register ⊗ register ⊗ size) (λ w. CAS2 w.0.0.0.0.0.0 w.0.0.0.0.0.1 w.0.0.0.0.1 w.0.0.0.1 w.0.0.1 w.0.1 w.1) ((((((c, d), u), v), p), q), s) (λ h w. refl)
 row (BF p o f n) = as_row (action ⊗ operand ⊗ (extent ⊗ extent) ⊗ byte) (λ w. BF w.0.0.0 w.0.0.1 (record { offset = w.0.1.0; width = w.0.1.1 }) w.1) (((p, o), (f.offset, f.width)), n) (λ h w. refl)

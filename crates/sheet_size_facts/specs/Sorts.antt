@@ -128,7 +128,7 @@ integer = record {
   Aims = λ y. Unit {0};
   turn = plain_turned kind.Number (λ m. (refl, λ h. h, λ h. h)) signed;
   fitting = one-fitting kind.Number signed (λ m z. z)
-      (λ m z. elim z [ pos n ↦ (refl, refl, λ h. omega (arith, ltb-true n (2 ^ 31) h)) | negsuc n ↦ (refl, refl, λ h. (omega arith, omega (arith, ltb-true n (2 ^ 31) h))) ]);
+      (λ m. elim [ pos n ↦ (refl, refl, λ h. omega (arith, ltb-true n (2 ^ 31) h)) | negsuc n ↦ (refl, refl, λ h. (omega arith, omega (arith, ltb-true n (2 ^ 31) h))) ]);
 }
 
 -- ---- a target, and a target in an operand, which may also be a number
@@ -163,7 +163,7 @@ target {d} = record {
   untargeted = λ x. 0;
   Aims = Aimed d;
   turn = λ x. aim_turned kind.Target (λ m. refl) (λ h. h) x (λ b m h. absurd h) (λ m a. a);
-  fitting = one-fitting kind.Target (λ t. unsigned (2 ^ 32 - 1) t) (λ m t. 0) (λ m t. elim m [ numbered n ↦ (refl, refl, λ h. tt) | labelled n ↦ (refl, refl, λ h. tt) ]);
+  fitting = one-fitting kind.Target (λ t. unsigned (2 ^ 32 - 1) t) (λ m t. 0) (elim [ numbered n ↦ λ t. (refl, refl, λ h. tt) | labelled n ↦ λ t. (refl, refl, λ h. tt) ]);
 }
 
 abbrev pub place : {d : ℕ → Bool} → Sort d ℕ
@@ -174,7 +174,7 @@ place = record {
   Aims = λ y. Unit {0};
   turn = λ x. aim_turned kind.Place (λ m. refl) (λ h. h) x (λ b m h. tt) (λ m a. tt);
   fitting = one-fitting kind.Place (λ t. unsigned (2 ^ 32 - 1) t) (λ m t. elim m [ numbered n ↦ t | labelled n ↦ 0 ])
-      (λ m t. elim m [ numbered n ↦ (refl, refl, λ h. omega (arith, leb-true t (2 ^ 32 - 1) h)) | labelled n ↦ (refl, refl, λ h. tt) ]);
+      (elim [ numbered n ↦ λ t. (refl, refl, λ h. omega (arith, leb-true t (2 ^ 32 - 1) h)) | labelled n ↦ λ t. (refl, refl, λ h. tt) ]);
 }
 
 -- ---- a variant, by its name

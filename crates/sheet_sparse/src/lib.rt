@@ -1,4 +1,6 @@
 // The sheet translator for a scratch with one place per 64 lines: a sheet's words into a lent image, the addresses of lines 1, 65, 129, … into the scratch.
+#![tactic(auto)]
+
 ghost use Rattle.std.specs.Prelude.{◌≡◌, ◌*◌, length};
 ghost use Rattle.sheet_spec.specs.Sheet.{start_in};
 ghost use Rattle.sheet_spec.specs.Translate as stage;

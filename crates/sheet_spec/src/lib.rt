@@ -1,7 +1,8 @@
 // Definitions alone: a sheet, its lines, its translation and its following. The types that they and the code share.
+#![tactic(auto)]
 
 // What a field of a line is: a number, a label, either, or a variant's name of a type.
-#[derive(Drop)]
+#[derive(Clone, Copy)]
 pub enum Kind {
     Number,
     Target,
@@ -23,7 +24,7 @@ pub enum Kind {
 }
 
 // The counts of lines and words, or a refusal: number, line, detail and value.
-#[derive(Drop)]
+#[derive(Clone, Copy)]
 pub struct Listed {
     pub lines: usize,
     pub words: usize,

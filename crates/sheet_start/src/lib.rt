@@ -1,4 +1,6 @@
 // What stands before a sheet's lines: its outline, and the START line.
+#![tactic(auto)]
+
 ghost use Rattle.std.specs.Prelude.{◌≡◌, ◌+◌, length};
 ghost use Rattle.sheet_spec.specs.Sheet.{is_sheet, start_line, start_as, start_of};
 ghost use Rattle.sheet_spec.specs.Sheet as sheet;
@@ -7,7 +9,7 @@ ghost use Rattle.sheet_start.specs.StartLine.{start_at, not_at};
 use base_spec::Number;
 
 // The address that the START line names, where it is in the form.
-#[derive(Drop)]
+#[derive(Clone, Copy)]
 pub struct StartAt {
     pub ok: bool,
     pub address: u32,

@@ -1,4 +1,6 @@
 // The sheet translator: a sheet's words into a lent image, its lines' addresses into a lent scratch.
+#![tactic(auto)]
+
 ghost use Rattle.std.specs.Prelude.{◌≡◌, ◌≤◌, length, replicate};
 ghost use Rattle.sheet_spec.specs.Sheet.{start_in};
 ghost use Rattle.sheet_spec.specs.Translate as stage;

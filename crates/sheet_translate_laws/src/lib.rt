@@ -1,1 +1,2 @@
 // Laws alone: what `translate` returns and leaves has demand 3.
+#![tactic(auto)]

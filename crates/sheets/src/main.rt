@@ -1,6 +1,7 @@
 // Prints what `sheet` would for each sheet of a list: a line with the sheet's bytes, and the scratch places and image words to
 // lend, then the sheet. A fourth number 1 lends the scratch as the small one, 0 or none as the full one.
 // An empty line follows each answer; a list not in this form ends with the line `list`, which is all for one of more than 1 MiB.
+#![tactic(auto)]
 
 ghost use Rattle.std.specs.Prelude.{◌≡◌, ◌≤◌, length, replicate};
 ghost use Rattle.print_spec.specs.Printed.{Printed};

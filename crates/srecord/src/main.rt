@@ -1,4 +1,5 @@
 // Prints the image of the sheet on standard input as S-records, or the sheet's refusal.
+#![tactic(auto)]
 
 ghost use Rattle.std.specs.Prelude.{◌≡◌, ◌≤◌, length, replicate};
 ghost use Rattle.srecord_spec.specs.Printed.{sheet_records};

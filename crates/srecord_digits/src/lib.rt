@@ -1,4 +1,6 @@
 // Capital hexadecimal digits, and the byte of two.
+#![tactic(auto)]
+
 ghost use Rattle.std.specs.Prelude.{◌≡◌, ◌+◌, ◌*◌, ◌≤◌};
 ghost use Rattle.srecord_spec.specs.Record.{digit_value};
 

@@ -1,4 +1,6 @@
 // An image line that is read: the start in decimal, then words of four capital hexadecimal digits, parted by tabs, ended by LF.
+#![tactic(auto)]
+
 ghost use Rattle.std.specs.Prelude.{◌≡◌, true, map, ◌+◌, ◌≤◌, length};
 ghost use Rattle.base_text.specs.PartLaws.{parts_from};
 ghost use Rattle.sheet_spec.specs.Translate.{over};
@@ -8,7 +10,7 @@ ghost use Rattle.srecord_line.specs.LineForm.{are_capital_words, capital_word};
 use base_spec::Number;
 
 // The start and how many words there are; or that it is no image line, or has more words than are lent.
-#[derive(Drop)]
+#[derive(Clone, Copy)]
 pub struct ImageLine {
     pub ok: bool,
     pub start: u32,
@@ -60,7 +62,7 @@ fn address_in(n: Number) -> u64
 }
 
 // Whether all fields from `from` on are words, and how many.
-#[derive(Drop)]
+#[derive(Clone, Copy)]
 struct Fields {
     pub ok: bool,
     pub count: usize,

@@ -1,4 +1,6 @@
 // What is printed of S-records: an image line or the text of an image, or a refusal, written into a lent buffer.
+#![tactic(auto)]
+
 ghost use Rattle.std.specs.Prelude.{◌≡◌, ◌+◌, ◌*◌, ◌≤◌, length};
 ghost use Rattle.base_text.specs.Wrote.{Wrote};
 ghost use Rattle.srecord_spec.specs.Read.{image_left};

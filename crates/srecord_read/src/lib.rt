@@ -1,4 +1,6 @@
 // From a text of S-records to an image.
+#![tactic(auto)]
+
 ghost use Rattle.std.specs.Prelude.{◌≡◌, ◌+◌, ◌*◌, ◌-◌, ◌%◌, ◌^◌, ◌≤◌, ◌<◌, length};
 ghost use Rattle.sheet_spec.specs.Translate.{over};
 ghost use Rattle.srecord_spec.specs.Record.{address_width, pair_bytes, number_from};
@@ -10,7 +12,7 @@ ghost use Rattle.srecord_read.specs.Words.{word_of, words_of, data_words, data_i
 use srecord_spec::Loaded;
 
 // What a line says: whether its form is right, whether its checksum is, and of a record in form whether it closes, its address and how many data bytes it has.
-#[derive(Drop)]
+#[derive(Clone, Copy)]
 struct Record {
     form: bool,
     right: bool,

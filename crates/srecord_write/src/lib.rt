@@ -1,4 +1,6 @@
 // An image written as Motorola S-records into a lent text.
+#![tactic(auto)]
+
 ghost use Rattle.std.specs.Prelude.{◌≡◌, ◌++◌, ◌+◌, ◌*◌, ◌-◌, ◌/◌, ◌%◌, ◌^◌, ◌≤◌, ◌<◌, min, length};
 ghost use Rattle.encode_spec.specs.Encode.{bytes_in};
 ghost use Rattle.sheet_spec.specs.Sheet.{total};

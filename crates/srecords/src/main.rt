@@ -1,6 +1,7 @@
 // Runs a list of images to be written and texts of S-records to be read: a line with how many bytes follow it, the way and how much to lend, then the bytes.
 // Way 0 is an image line, written into so many bytes; way 1 a text, read into so many words. An empty line follows each answer; a list not in this form
 // ends with the line `list`, which is all for one of more than 1 MiB.
+#![tactic(auto)]
 
 ghost use Rattle.std.specs.Prelude.{◌≡◌, ◌≤◌, length, replicate, leb};
 ghost use Rattle.base_list.specs.Answers.{Answered};

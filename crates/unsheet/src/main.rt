@@ -1,4 +1,5 @@
 // Prints the sheet of the image of the S-records on standard input, or a refusal.
+#![tactic(auto)]
 
 ghost use Rattle.std.specs.Prelude.{◌≡◌, ◌≤◌, length, replicate};
 ghost use Rattle.srecord_spec.specs.Promises.{PrintedInto};

@@ -92,7 +92,7 @@ direction_in_lem ToMemory = (refl, tt)
 direction_in_lem FromMemory = (refl, tt)
 
 condition_in : (c : Condition) → Inside (condition_form c)
-condition_in c = elim c [ True ↦ (refl, tt) | False ↦ (refl, tt) | High ↦ (refl, tt) | LowOrSame ↦ (refl, tt) | CarryClear ↦ (refl, tt) | CarrySet ↦ (refl, tt) | NotEqual ↦ (refl, tt) | Equal ↦ (refl, tt) | OverflowClear ↦ (refl, tt) | OverflowSet ↦ (refl, tt) | Plus ↦ (refl, tt) | Minus ↦ (refl, tt) | GreaterThanOrEqual ↦ (refl, tt) | LessThan ↦ (refl, tt) | GreaterThan ↦ (refl, tt) | LessThanOrEqual ↦ (refl, tt) ]
+condition_in = elim [ True ↦ (refl, tt) | False ↦ (refl, tt) | High ↦ (refl, tt) | LowOrSame ↦ (refl, tt) | CarryClear ↦ (refl, tt) | CarrySet ↦ (refl, tt) | NotEqual ↦ (refl, tt) | Equal ↦ (refl, tt) | OverflowClear ↦ (refl, tt) | OverflowSet ↦ (refl, tt) | Plus ↦ (refl, tt) | Minus ↦ (refl, tt) | GreaterThanOrEqual ↦ (refl, tt) | LessThan ↦ (refl, tt) | GreaterThan ↦ (refl, tt) | LessThanOrEqual ↦ (refl, tt) ]
 
 branch_size_in : (s : BranchSize) → Inside (branch_size_form s)
 branch_size_in branch.Short = (refl, tt)
@@ -108,7 +108,7 @@ sign_in Signed = (refl, tt)
 sign_in Unsigned = (refl, tt)
 
 action_in : (p : BitFieldOperation) → Inside (bit_field_operation_form p)
-action_in p = elim p [ Test ↦ (refl, tt) | ExtractUnsigned ↦ (refl, tt) | Change ↦ (refl, tt) | ExtractSigned ↦ (refl, tt) | Clear ↦ (refl, tt) | FindFirstOne ↦ (refl, tt) | Set ↦ (refl, tt) | Insert ↦ (refl, tt) ]
+action_in = elim [ Test ↦ (refl, tt) | ExtractUnsigned ↦ (refl, tt) | Change ↦ (refl, tt) | ExtractSigned ↦ (refl, tt) | Clear ↦ (refl, tt) | FindFirstOne ↦ (refl, tt) | Set ↦ (refl, tt) | Insert ↦ (refl, tt) ]
 
 byte_in : (n : ℕ) → n < 256 → Inside (byte_form n)
 byte_in n h = (top_in 256 n h, tt)

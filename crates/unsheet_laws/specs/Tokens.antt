@@ -109,7 +109,7 @@ LandAll lands [] (e ∷ es) = Unit {0}
 LandAll lands (k ∷ ks) (e ∷ es) = LandingAt lands k e × LandAll lands (next_kinds k (token_for lands k e) ++ ks) es
 
 free_lands : (lands : ℕ → Option ℕ) (k : Kind) (e : Entry) → free k ≡ true → LandingAt lands k e
-free_lands lands k e = elim k [ kind.Number ↦ λ h. tt | kind.Target ↦ λ h. never h | kind.Place ↦ λ h. tt | kind.Size ↦ λ h. tt | kind.TargetDirection ↦ λ h. tt | kind.RegisterOperand ↦ λ h. tt | kind.AddressWidth ↦ λ h. tt | kind.Condition ↦ λ h. tt | kind.BranchSize ↦ λ h. tt | kind.ShiftDirection ↦ λ h. tt | kind.Sign ↦ λ h. tt | kind.BitFieldOperation ↦ λ h. tt | kind.FieldValue ↦ λ h. tt | kind.TrapOperand ↦ λ h. tt | kind.RegisterChoice ↦ λ h. tt | kind.Operand ↦ λ h. tt | kind.Instruction ↦ λ h. tt ]
+free_lands lands k e = elim k as (λ k. free k ≡ true → LandingAt lands k e) [ kind.Number ↦ λ h. tt | kind.Target ↦ λ h. never h | kind.Place ↦ λ h. tt | kind.Size ↦ λ h. tt | kind.TargetDirection ↦ λ h. tt | kind.RegisterOperand ↦ λ h. tt | kind.AddressWidth ↦ λ h. tt | kind.Condition ↦ λ h. tt | kind.BranchSize ↦ λ h. tt | kind.ShiftDirection ↦ λ h. tt | kind.Sign ↦ λ h. tt | kind.BitFieldOperation ↦ λ h. tt | kind.FieldValue ↦ λ h. tt | kind.TrapOperand ↦ λ h. tt | kind.RegisterChoice ↦ λ h. tt | kind.Operand ↦ λ h. tt | kind.Instruction ↦ λ h. tt ]
 
 all_free_land : (lands : ℕ → Option ℕ) (ks : List Kind) (es : List Entry) → all_free ks ≡ true → LandAll lands ks es
 all_free_land lands ks [] h = tt
@@ -220,7 +220,7 @@ place_said lands (signed z) = literal_said (signed z)
 token_said : (lands : ℕ → Option ℕ) (k : Kind) (e : Entry) → LandingAt lands k e → token_for lands k e ≡ (field k (mark_of lands e) e).0
 token_said lands k e =
     let l = literal_said e in
-    elim k [ kind.Number ↦ λ h. l | kind.Target ↦ λ h. target_said lands e h | kind.Place ↦ λ h. place_said lands e | kind.Size ↦ λ h. l | kind.TargetDirection ↦ λ h. l | kind.RegisterOperand ↦ λ h. l | kind.AddressWidth ↦ λ h. l | kind.Condition ↦ λ h. l | kind.BranchSize ↦ λ h. l | kind.ShiftDirection ↦ λ h. l | kind.Sign ↦ λ h. l | kind.BitFieldOperation ↦ λ h. l | kind.FieldValue ↦ λ h. l | kind.TrapOperand ↦ λ h. l | kind.RegisterChoice ↦ λ h. l | kind.Operand ↦ λ h. l | kind.Instruction ↦ λ h. l ]
+    elim k as (λ k. LandingAt lands k e → token_for lands k e ≡ (field k (mark_of lands e) e).0) [ kind.Number ↦ λ h. l | kind.Target ↦ λ h. target_said lands e h | kind.Place ↦ λ h. place_said lands e | kind.Size ↦ λ h. l | kind.TargetDirection ↦ λ h. l | kind.RegisterOperand ↦ λ h. l | kind.AddressWidth ↦ λ h. l | kind.Condition ↦ λ h. l | kind.BranchSize ↦ λ h. l | kind.ShiftDirection ↦ λ h. l | kind.Sign ↦ λ h. l | kind.BitFieldOperation ↦ λ h. l | kind.FieldValue ↦ λ h. l | kind.TrapOperand ↦ λ h. l | kind.RegisterChoice ↦ λ h. l | kind.Operand ↦ λ h. l | kind.Instruction ↦ λ h. l ]
 
 tokens_said : (lands : ℕ → Option ℕ) (ks : List Kind) (es : List Entry) → LandAll lands ks es → tokens_from lands ks es ≡ saying (marks lands es) ks es
 tokens_said lands ks [] h = refl
@@ -290,7 +290,7 @@ module _ (lands f : ℕ → Option ℕ) (agree : (t k : ℕ) → lands t ≡ som
   token_right k e =
       let l = literal_right e in
       let t = target_right e in
-      elim k [ kind.Number ↦ l | kind.Target ↦ t | kind.Place ↦ t | kind.Size ↦ l | kind.TargetDirection ↦ l | kind.RegisterOperand ↦ l | kind.AddressWidth ↦ l | kind.Condition ↦ l | kind.BranchSize ↦ l | kind.ShiftDirection ↦ l | kind.Sign ↦ l | kind.BitFieldOperation ↦ l | kind.FieldValue ↦ l | kind.TrapOperand ↦ l | kind.RegisterChoice ↦ l | kind.Operand ↦ l | kind.Instruction ↦ l ]
+      elim k as (λ k. Right e (token_for lands k e)) [ kind.Number ↦ l | kind.Target ↦ t | kind.Place ↦ t | kind.Size ↦ l | kind.TargetDirection ↦ l | kind.RegisterOperand ↦ l | kind.AddressWidth ↦ l | kind.Condition ↦ l | kind.BranchSize ↦ l | kind.ShiftDirection ↦ l | kind.Sign ↦ l | kind.BitFieldOperation ↦ l | kind.FieldValue ↦ l | kind.TrapOperand ↦ l | kind.RegisterChoice ↦ l | kind.Operand ↦ l | kind.Instruction ↦ l ]
 
   all_resolve : (ks : List Kind) (es : List Entry) → resolves_all f (tokens_from lands ks es) ≡ true
   all_resolve ks [] = refl

@@ -112,63 +112,63 @@ trapped-last x = rw append-nil at (trapped {ks = []} x done)
 payload_targets : (i : Instruction) → Targets (kinds_of kind.Instruction (place_of i)) (payload_of i)
 payload_targets (IntoRegister op o r s) =
     let t : Targets (kinds_of kind.Instruction 0) (payload_of (IntoRegister op o r s)) = simp append_assoc (operand o (register r (field tt done))) in
-    elim op [ ADDA ↦ t | SUBA ↦ t | CMPA ↦ t | MOVEA ↦ t | CMP ↦ t | CHK2 ↦ t | CMP2 ↦ t ]
+    elim op as (λ k. Targets (kinds_of kind.Instruction (place_of (IntoRegister k o r s))) (payload_of (IntoRegister k o r s))) [ ADDA ↦ t | SUBA ↦ t | CMPA ↦ t | MOVEA ↦ t | CMP ↦ t | CHK2 ↦ t | CMP2 ↦ t ]
 payload_targets (MOVEM d s v o) = field tt (field tt (field tt (operand-last o)))
 payload_targets (Transfer op d s r o) =
     let t : Targets (kinds_of kind.Instruction 63) (payload_of (Transfer op d s r o)) = field tt (field tt (register r (operand-last o))) in
-    elim op [ MOVEP ↦ t | MOVES ↦ t ]
+    elim op as (λ k. Targets (kinds_of kind.Instruction (place_of (Transfer k d s r o))) (payload_of (Transfer k d s r o))) [ MOVEP ↦ t | MOVES ↦ t ]
 payload_targets (Pair op o d s) =
     let t : Targets (kinds_of kind.Instruction 5) (payload_of (Pair op o d s)) = simp append_assoc (operand o (operand d (field tt done))) in
-    elim op [ MOVE ↦ t | ADD ↦ t | SUB ↦ t | ADDX ↦ t | SUBX ↦ t | CMPM ↦ t | OR ↦ t | AND ↦ t | EOR ↦ t ]
+    elim op as (λ k. Targets (kinds_of kind.Instruction (place_of (Pair k o d s))) (payload_of (Pair k o d s))) [ MOVE ↦ t | ADD ↦ t | SUB ↦ t | ADDX ↦ t | SUBX ↦ t | CMPM ↦ t | OR ↦ t | AND ↦ t | EOR ↦ t ]
 payload_targets (Quick op v o s) =
     let t : Targets (kinds_of kind.Instruction 10) (payload_of (Quick op v o s)) = field tt (operand o (field tt done)) in
-    elim op [ ADDQ ↦ t | SUBQ ↦ t ]
+    elim op as (λ k. Targets (kinds_of kind.Instruction (place_of (Quick k v o s))) (payload_of (Quick k v o s))) [ ADDQ ↦ t | SUBQ ↦ t ]
 payload_targets (MOVEQ v r) = field tt (register-last r)
 payload_targets (ImmediateInto op v o s) =
     let t : Targets (kinds_of kind.Instruction 13) (payload_of (ImmediateInto op v o s)) = field tt (operand o (field tt done)) in
-    elim op [ ADDI ↦ t | SUBI ↦ t | ANDI ↦ t | ORI ↦ t | EORI ↦ t | CMPI ↦ t ]
+    elim op as (λ k. Targets (kinds_of kind.Instruction (place_of (ImmediateInto k v o s))) (payload_of (ImmediateInto k v o s))) [ ADDI ↦ t | SUBI ↦ t | ANDI ↦ t | ORI ↦ t | EORI ↦ t | CMPI ↦ t ]
 payload_targets (WordIntoData op o r g) =
     let t : Targets (kinds_of kind.Instruction 20) (payload_of (WordIntoData op o r g)) = simp append_assoc (operand o (register r (field tt done))) in
-    elim op [ DIVx ↦ t | MULx ↦ t ]
+    elim op as (λ k. Targets (kinds_of kind.Instruction (place_of (WordIntoData k o r g))) (payload_of (WordIntoData k o r g))) [ DIVx ↦ t | MULx ↦ t ]
 payload_targets (SWAP r) = register-last r
 payload_targets (EXG r q) = register r (register-last q)
 payload_targets (UnsizedIntoRegister op o r) =
     let t : Targets (kinds_of kind.Instruction 25) (payload_of (UnsizedIntoRegister op o r)) = operand o (register-last r) in
-    elim op [ LEA ↦ t | CHK ↦ t | CHKL ↦ t ]
-payload_targets (UnsizedOne op o) = elim op [ PEA ↦ operand-last o | NBCD ↦ operand-last o | JSR ↦ operand-last o | JMP ↦ operand-last o | TAS ↦ operand-last o | MOVEtoCCR ↦ operand-last o | MOVEfromCCR ↦ operand-last o | MOVEtoSR ↦ operand-last o | MOVEfromSR ↦ operand-last o ]
+    elim op as (λ k. Targets (kinds_of kind.Instruction (place_of (UnsizedIntoRegister k o r))) (payload_of (UnsizedIntoRegister k o r))) [ LEA ↦ t | CHK ↦ t | CHKL ↦ t ]
+payload_targets (UnsizedOne op o) = elim op as (λ k. Targets (kinds_of kind.Instruction (place_of (UnsizedOne k o))) (payload_of (UnsizedOne k o))) [ PEA ↦ operand-last o | NBCD ↦ operand-last o | JSR ↦ operand-last o | JMP ↦ operand-last o | TAS ↦ operand-last o | MOVEtoCCR ↦ operand-last o | MOVEfromCCR ↦ operand-last o | MOVEtoSR ↦ operand-last o | MOVEfromSR ↦ operand-last o ]
 payload_targets (UnsizedPair op o d) =
     let t : Targets (kinds_of kind.Instruction 29) (payload_of (UnsizedPair op o d)) = operand o (operand-last d) in
-    elim op [ ABCD ↦ t | SBCD ↦ t | BTST ↦ t | BCLR ↦ t | BSET ↦ t | BCHG ↦ t ]
+    elim op as (λ k. Targets (kinds_of kind.Instruction (place_of (UnsizedPair k o d))) (payload_of (UnsizedPair k o d))) [ ABCD ↦ t | SBCD ↦ t | BTST ↦ t | BCLR ↦ t | BSET ↦ t | BCHG ↦ t ]
 payload_targets (EXT r s q) = simp append_assoc (register r (field tt (field tt done)))
 payload_targets (OneOperand op o s) =
     let t : Targets (kinds_of kind.Instruction 23) (payload_of (OneOperand op o s)) = operand o (field tt done) in
-    elim op [ CLR ↦ t | NEG ↦ t | NEGX ↦ t | NOT ↦ t | TST ↦ t ]
+    elim op as (λ k. Targets (kinds_of kind.Instruction (place_of (OneOperand k o s))) (payload_of (OneOperand k o s))) [ CLR ↦ t | NEG ↦ t | NEGX ↦ t | NOT ↦ t | TST ↦ t ]
 payload_targets (Bcc t c s) = field tt (field tt (field tt done))
 payload_targets (Scc o c) = operand o (field tt done)
 payload_targets (DBcc r t c) = simp append_assoc (register r (field tt (field tt done)))
 payload_targets (Branch op v s) =
     let t : Targets (kinds_of kind.Instruction 38) (payload_of (Branch op v s)) = field tt (field tt done) in
-    elim op [ BRA ↦ t | BSR ↦ t ]
+    elim op as (λ k. Targets (kinds_of kind.Instruction (place_of (Branch k v s))) (payload_of (Branch k v s))) [ BRA ↦ t | BSR ↦ t ]
 payload_targets (Link op r v) =
     let t : Targets (kinds_of kind.Instruction 39) (payload_of (Link op r v)) = register r (field tt done) in
-    elim op [ LINK ↦ t | LINKL ↦ t ]
+    elim op as (λ k. Targets (kinds_of kind.Instruction (place_of (Link k r v))) (payload_of (Link k r v))) [ LINK ↦ t | LINKL ↦ t ]
 payload_targets (UNLK r) = register-last r
 payload_targets (Shift op o d g s) =
     let t : Targets (kinds_of kind.Instruction 46) (payload_of (Shift op o d g s)) = simp append_assoc (operand o (operand d (field tt (field tt done)))) in
-    elim op [ ASd ↦ t | ROd ↦ t | LSd ↦ t | ROXd ↦ t ]
-payload_targets (Vector op v) = elim op [ TRAP ↦ field tt done | BKPT ↦ field tt done ]
-payload_targets (Status op v) = elim op [ ANDItoSR ↦ field tt done | ORItoSR ↦ field tt done | EORItoSR ↦ field tt done | STOP ↦ field tt done ]
-payload_targets (ConditionCode op v) = elim op [ ANDItoCCR ↦ field tt done | ORItoCCR ↦ field tt done | EORItoCCR ↦ field tt done ]
+    elim op as (λ k. Targets (kinds_of kind.Instruction (place_of (Shift k o d g s))) (payload_of (Shift k o d g s))) [ ASd ↦ t | ROd ↦ t | LSd ↦ t | ROXd ↦ t ]
+payload_targets (Vector op v) = elim op as (λ k. Targets (kinds_of kind.Instruction (place_of (Vector k v))) (payload_of (Vector k v))) [ TRAP ↦ field tt done | BKPT ↦ field tt done ]
+payload_targets (Status op v) = elim op as (λ k. Targets (kinds_of kind.Instruction (place_of (Status k v))) (payload_of (Status k v))) [ ANDItoSR ↦ field tt done | ORItoSR ↦ field tt done | EORItoSR ↦ field tt done | STOP ↦ field tt done ]
+payload_targets (ConditionCode op v) = elim op as (λ k. Targets (kinds_of kind.Instruction (place_of (ConditionCode k v))) (payload_of (ConditionCode k v))) [ ANDItoCCR ↦ field tt done | ORItoCCR ↦ field tt done | EORItoCCR ↦ field tt done ]
 payload_targets (MOVEUSP b r) = field tt (register-last r)
-payload_targets (Raw op v) = elim op [ LINEA ↦ field tt done | LINEF ↦ field tt done | IllegalWord ↦ none ]
-payload_targets (NoOperand op) = elim op [ RTE ↦ done | RESET ↦ done | RTR ↦ done | TRAPV ↦ done | ILLEGAL ↦ done | RTS ↦ done | NOP ↦ done | SIMHALT ↦ done ]
+payload_targets (Raw op v) = elim op as (λ k. Targets (kinds_of kind.Instruction (place_of (Raw k v))) (payload_of (Raw k v))) [ LINEA ↦ field tt done | LINEF ↦ field tt done | IllegalWord ↦ none ]
+payload_targets (NoOperand op) = elim op as (λ k. Targets (kinds_of kind.Instruction (place_of (NoOperand k))) (payload_of (NoOperand k))) [ RTE ↦ done | RESET ↦ done | RTR ↦ done | TRAPV ↦ done | ILLEGAL ↦ done | RTS ↦ done | NOP ↦ done | SIMHALT ↦ done ]
 payload_targets (RTD v) = field tt done
 payload_targets (MOVEC b v r) = field tt (field tt (register-last r))
 payload_targets (TRAPcc c x) = field tt (trapped-last x)
 payload_targets (MULL o v c g) = simp append_assoc (operand o (field tt (chosen c (field tt done))))
 payload_targets (Pack op o d v) =
     let t : Targets (kinds_of kind.Instruction 91) (payload_of (Pack op o d v)) = simp append_assoc (operand o (operand d (field tt done))) in
-    elim op [ PACK ↦ t | UNPK ↦ t ]
+    elim op as (λ k. Targets (kinds_of kind.Instruction (place_of (Pack k o d v))) (payload_of (Pack k o d v))) [ PACK ↦ t | UNPK ↦ t ]
 payload_targets (CAS c v o s) = field tt (field tt (operand o (field tt done)))
 payload_targets (CAS2 c d u v p q s) = simp append_assoc (field tt (field tt (field tt (field tt (register p (register q (field tt done)))))))
 payload_targets (BF p o f n) = simp append_assoc (field tt (operand o (extent f.offset (extent f.width (field tt done)))))

@@ -1,4 +1,6 @@
 // A variant's name, written into a lent buffer. The names stand one after the other, kind after kind.
+#![tactic(auto)]
+
 ghost use Rattle.std.specs.Prelude.{◌≡◌, [], map, ◌+◌, ◌≤◌, ◌<◌, length, get_or};
 ghost use Rattle.base_text.specs.Wrote.{Wrote};
 ghost use Rattle.sheet_spec.specs.Names.{bytes, names_of};

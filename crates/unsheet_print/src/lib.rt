@@ -1,4 +1,6 @@
 // What is printed of the sheet of an image, or its refusal, written into a lent buffer.
+#![tactic(auto)]
+
 ghost use Rattle.std.specs.Prelude.{◌≡◌, ◌≤◌, length};
 ghost use Rattle.srecord_spec.specs.Read.{image_left};
 ghost use Rattle.srecord_spec.specs.Promises.{PrintedInto};

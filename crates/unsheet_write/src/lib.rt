@@ -1,4 +1,6 @@
 // The sheet of an image, written into lent bytes.
+#![tactic(auto)]
+
 ghost use Rattle.std.specs.Prelude.{◌≡◌, [], ◌∷◌, ◌++◌, ◌+◌, ◌*◌, ◌^◌, ◌≤◌, ◌<◌, pos, length, drop, replicate};
 ghost use Rattle.base_text.specs.Wrote.{Wrote};
 ghost use Rattle.read_spec.specs.Read.{read_of};
@@ -28,7 +30,7 @@ fn read_at(start: u32, image: &[u16], place: usize) -> Reading
 }
 
 // The words that a reading takes, or 5 or 6.
-#[derive(Drop)]
+#[derive(Clone, Copy)]
 struct Taken {
     pub words: usize,
     pub number: u8,
@@ -65,7 +67,7 @@ fn store(lines: &mut [u16], place: usize, count: usize)
 }
 
 // How many lines there are, or 5 or 6 at a place.
-#[derive(Drop)]
+#[derive(Clone, Copy)]
 struct Surveyed {
     pub lines: usize,
     pub number: u8,

@@ -1,5 +1,6 @@
 // Prints the sheets of a list of images: a line with how many bytes follow it and how many bytes to lend, then an image line.
 // An empty line follows each answer; a list not in this form ends with the line `list`, which is all for one of more than 1 MiB.
+#![tactic(auto)]
 
 ghost use Rattle.std.specs.Prelude.{◌≡◌, ◌≤◌, length, replicate};
 ghost use Rattle.base_list.specs.Answers.{Answered};

@@ -1,4 +1,5 @@
 // Prints what the functions on values give for each line.
+#![tactic(auto)]
 
 ghost use Rattle.std.specs.Prelude.{◌≡◌, length, replicate};
 

@@ -1,4 +1,6 @@
 // The answer to a line that asks for what the functions on values give, written into a lent buffer.
+#![tactic(auto)]
+
 ghost use Rattle.std.specs.Prelude.{◌≡◌, ◌+◌, ◌*◌, ◌≤◌, length, ◌++◌};
 ghost use Rattle.base_spec.specs.Written.{placed, decimal_of};
 ghost use Rattle.base_spec.specs.Refused.{tab};

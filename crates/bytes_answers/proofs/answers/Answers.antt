@@ -1,0 +1,21 @@
+use native.Mathlib.Omega.{arith}
+use Rattle.print_spec.specs.BytesAnswer.{bytes_answer_of}
+use Rattle.base_text.specs.WroteLaws.{wrote}
+use Rattle.base_text.specs.LinesLaws.{walked_on, walked_full, walked_end}
+use Rattle.bytes_answers.proofs.answers.Goals as goal
+
+pub returns-then-out-at-lt136 : goal.returns-then-out-at-lt136
+returns-then-out-at-lt136 c = walked_full bytes_answer_of 136 _ _ _ c.loop-next.invariant.2 (omega arith)
+
+pub loop-next-preserved : goal.loop-next-preserved
+loop-next-preserved c =
+    let l = c.loop-next in
+    let e = c.line_end-e in
+    let r = c.answer-at.ensures in (
+      omega arith,
+      omega arith,
+      walked_on bytes_answer_of 136 _ _ _ e.result l.invariant.2 (omega arith) e.ensures.0 e.ensures.1 (omega arith) (wrote (r.0, r.1)) (omega arith),
+    )
+
+pub returns : goal.returns
+returns c = walked_end bytes_answer_of 136 _ _ _ c.loop-next.invariant.2 (omega arith)

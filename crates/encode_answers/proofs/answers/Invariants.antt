@@ -1,0 +1,12 @@
+use mathlib.Core.Path.{◌≡◌}
+use Prim.Native.Nat.{◌-◌, ◌≤◌}
+use lib.ListN.{length}
+use Rattle.print_spec.specs.EncodeAnswer.{answer_of}
+use Rattle.base_text.specs.LinesLaws.{Walked}
+use Rattle.encode_answers.proofs.answers.Given as goal
+
+abbrev pub invariant-loop-next : goal.invariant-loop-next
+invariant-loop-next l = (l.at ≤ length l.initial.out) × (length l.out ≡ length l.initial.out) × Walked answer_of 128 l.text l.from l.initial.out l.out l.next l.at
+
+abbrev pub decreases-loop-next : goal.decreases-loop-next
+decreases-loop-next l = length l.text - l.next

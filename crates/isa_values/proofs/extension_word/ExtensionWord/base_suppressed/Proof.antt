@@ -1,9 +1,0 @@
-use borrow.Author.Rules.{rules}
-use Rattle.isa_values.proofs.extension_word.ExtensionWord.base_suppressed.Statement.{statement}
-use Rattle.isa_values.proofs.extension_word.ExtensionWord.base_suppressed.Tie as tie
-
-returns : tie.Need-returns
-returns c = rw c.before.is-full.ensures
-
-pub base_suppressed_spec : {M : Type 1} → statement M
-base_suppressed_spec = tie.close (tie.spec (λ c κs. search rules) returns)

@@ -1,0 +1,21 @@
+use Rattle.sheet_field.proofs.Names.{of_length_lem, no_length}
+use Rattle.sheet_field.specs.Place.{of_length}
+use Rattle.sheet_spec.specs.declared.Kind.TheVariants as kind
+use native.Mathlib.Omega.{arith}
+use mathlib.Core.List.{[], ◌∷◌}
+use mathlib.Core.Path.{refl, ◌∙◌}
+use Rattle.sheet_field.proofs.long.long_instruction.Goals as goal
+
+pub returns-in-9 : goal.returns-in-9
+returns-in-9 c = c.nine.ensures ∙ of_length_lem kind.Instruction 9 c.args.f.now (omega arith) c.in-9.is
+
+pub returns-in-10 : goal.returns-in-10
+unfolding of_length
+returns-in-10 c = c.place_if.ensures ∙ of_length_lem kind.Instruction 10 c.args.f.now (omega arith) c.in-10.is
+
+pub returns-in-11 : goal.returns-in-11
+unfolding of_length
+returns-in-11 c = c.place_if-in-11.ensures ∙ of_length_lem kind.Instruction 11 c.args.f.now (omega arith) c.in-11.is
+
+pub returns-in_default : goal.returns-in_default
+returns-in_default c = no_length kind.Instruction (9 ∷ 10 ∷ 11 ∷ []) c.args.f.now refl c.in_default.in_default-own.rest

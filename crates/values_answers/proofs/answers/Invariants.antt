@@ -1,0 +1,12 @@
+use mathlib.Core.Path.{◌≡◌}
+use Prim.Native.Nat.{◌-◌, ◌≤◌}
+use lib.ListN.{length}
+use Rattle.values_answers.specs.Asked.{values_answer_of}
+use Rattle.base_text.specs.LinesLaws.{Walked}
+use Rattle.values_answers.proofs.answers.Given as goal
+
+abbrev pub invariant-loop-next : goal.invariant-loop-next
+invariant-loop-next l = (l.at ≤ length l.initial.out) × (length l.out ≡ length l.initial.out) × Walked values_answer_of 360 l.text l.from l.initial.out l.out l.next l.at
+
+abbrev pub decreases-loop-next : goal.decreases-loop-next
+decreases-loop-next l = length l.text - l.next
