@@ -1,4 +1,4 @@
--- What `encode_bytes` prints for the numbers that code holds in places.
+-- What the program `encode_bytes` prints for the numbers that code holds in places.
 use Rattle.std.specs.Prelude.{cond, ◌&&◌, List, ℕ}
 use Rattle.base_spec.specs.Refused.{not_in_form}
 use Rattle.numeric_places.specs.declared.Numbers.{Numbers}

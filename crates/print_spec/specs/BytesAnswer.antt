@@ -1,4 +1,4 @@
--- What `encode_bytes` prints for a line: what `encode_bytes` returns, `=>`, and the lent bytes afterwards.
+-- What the program `encode_bytes` prints for a line: what the function of that name returns, `=>`, and the lent bytes afterwards.
 use Rattle.std.specs.Prelude.{List, [], ◌∷◌, ◌++◌, map, ℕ, zero, suc, ◌+◌, ℤ}
 use Rattle.isa.specs.declared.Measured.{Measured}
 use Rattle.encode_spec.specs.Encode.{bytes_of, lent_of}
