@@ -1,7 +1,16 @@
 -- Decimal numbers: digits with no leading zeros, `-` where the number is below 0.
-use Rattle.std.specs.Prelude.{Bool, true, false, cond, not, ◌&&◌, List, [], ◌∷◌, ℕ, ◌+◌, ◌*◌, ◌-◌, ◌^◌, leb, ltb, eqb}
-use Rattle.base_spec.specs.declared.Number.{Number}
-use Rattle.base_spec.specs.declared.Number.TheVariants.{Is, No}
+use Rattle.std.specs.Prelude.{Bool, true, false, cond, not, ◌&&◌, List, [], ◌∷◌, ℕ, ◌+◌, ◌*◌, ◌-◌, ◌^◌, leb, ltb, eqb, Option, Some, None}
+use Rattle.base_spec.specs.declared.Literal.{Literal}
+
+-- what a field says: a sign and a magnitude, or no number
+pub data Number : Type 0 where
+  Is : Bool → ℕ → Number
+  No : Number
+
+-- the number that the code gives
+abbrev pub number_in : Option Literal → Number
+number_in (Some l) = Is l.negative l.magnitude
+number_in None = No
 
 abbrev pub is_digit : ℕ → Bool
 is_digit b = leb 48 b && leb b 57

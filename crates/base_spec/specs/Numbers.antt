@@ -1,7 +1,6 @@
 -- The numbers of a line.
 use Rattle.std.specs.Prelude.{Bool, true, false, cond, ◌&&◌, List, [], ◌∷◌, ℕ, ℤ, pos}
-use Rattle.base_spec.specs.declared.Number.{Number}
-use Rattle.base_spec.specs.declared.Number.TheVariants.{Is, No}
+use Rattle.base_spec.specs.Number.{Number, Is, No}
 use Rattle.base_spec.specs.Signed.{minus}
 
 abbrev pub is_number : Number → Bool

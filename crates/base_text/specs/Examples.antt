@@ -1,9 +1,8 @@
 -- The definitions at work.
 use Rattle.std.specs.Prelude.{◌≡◌, refl, true, false, List, [], ◌∷◌, ℕ, replicate, negsuc}
-use Rattle.base_spec.specs.declared.Number.TheVariants.{Is, No}
 use Rattle.base_text.specs.Parts.{part_end}
 use Rattle.base_spec.specs.Parts.{fields}
-use Rattle.base_spec.specs.Number.{number_of}
+use Rattle.base_spec.specs.Number.{Is, No, number_of}
 use Rattle.base_text.specs.Numbers.{no_numbers, gathered, line_numbers}
 use Rattle.base_spec.specs.Written.{hex4_of, hex8_of, decimal_of, signed_of}
 

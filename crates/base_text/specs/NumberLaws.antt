@@ -2,10 +2,8 @@
 use Rattle.std.specs.Prelude.{◌≡◌, refl, List, [], ◌∷◌, Bool, true, false, cond, ◌&&◌, ℕ, suc, ◌+◌, ◌*◌, ◌-◌, ◌^◌, ◌≤◌, ◌<◌, length, take, drop, get_or, ltb}
 use Rattle.std.proofs.Common.{arith, add-one, drop_of_length-le, drop-cons, take_all, le-leb, lt-ltb, le-ltb, eq-eqb, ne_eqb}
 use Rattle.std.proofs.lemmas.Bool.{lt-leb}
-use Rattle.base_spec.specs.declared.Number.{Number}
-use Rattle.base_spec.specs.declared.Number.TheVariants.{Is, No}
 use Rattle.base_text.specs.Number.{digits_from}
-use Rattle.base_spec.specs.Number.{is_digit, all_digits, value_from, unsigned_of, negated, number_of}
+use Rattle.base_spec.specs.Number.{Number, Is, No, is_digit, all_digits, value_from, unsigned_of, negated, number_of}
 use Rattle.base_facts.specs.Tests.{and_yes}
 
 pub value_grows : (a : ℕ) (l : List ℕ) → a ≤ value_from a l

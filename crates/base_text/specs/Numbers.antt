@@ -1,9 +1,7 @@
 -- The numbers of a line, in 24 places.
 use Rattle.std.specs.Prelude.{Bool, true, false, cond, ◌&&◌, List, ◌++◌, map, ℕ, ◌+◌, ◌-◌, length, replicate, set, leb, ltb}
-use Rattle.base_spec.specs.declared.Number.{Number}
-use Rattle.base_spec.specs.declared.Number.TheVariants.{Is, No}
 use Rattle.base_spec.specs.Parts.{fields}
-use Rattle.base_spec.specs.Number.{number_of}
+use Rattle.base_spec.specs.Number.{Number, Is, No, number_of}
 use Rattle.base_spec.specs.Numbers.{all_numbers, magnitude_of}
 use Rattle.base_text.specs.declared.LineNumbers.{LineNumbers}
 

@@ -5,13 +5,11 @@ use Rattle.std.proofs.Math.Decide.{dec_le}
 use Rattle.std.proofs.lemmas.List.{length-map, set_at}
 use Rattle.std.proofs.Math.Seq.{append_snoc}
 use Rattle.std.proofs.lemmas.Bool.{lt-leb}
-use Rattle.base_spec.specs.declared.Number.{Number}
-use Rattle.base_spec.specs.declared.Number.TheVariants.{Is, No}
 use Rattle.base_text.specs.declared.LineNumbers.{LineNumbers}
 use Rattle.base_text.specs.Parts.{part_end}
 use Rattle.base_spec.specs.Parts.{fields}
 use Rattle.base_text.specs.PartLaws.{parts_from, parts_at, parts-start, parts_past, part_is}
-use Rattle.base_spec.specs.Number.{number_of}
+use Rattle.base_spec.specs.Number.{Number, Is, No, number_of}
 use Rattle.base_text.specs.Numbers.{placed_number, with_number, negative_of, places, no_numbers, gathered, line_numbers}
 use Rattle.base_spec.specs.Numbers.{is_number, magnitude_of, all_numbers}
 use Rattle.base_facts.specs.Tests.{and-false, cond_true, cond_false}

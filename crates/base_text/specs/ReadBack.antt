@@ -2,8 +2,7 @@
 use Rattle.std.specs.Prelude.{◌≡◌, refl, Bool, true, false, ◌&&◌, List, [], ◌∷◌, ◌++◌, ℕ, zero, suc, ◌+◌, ◌*◌, ◌-◌, ◌/◌, ◌%◌, ◌^◌, ◌≤◌, ◌<◌, length, get_or, ltb, negsuc}
 use Rattle.std.proofs.Common.{◌∙◌, arith, length-append, le-leb, lt-ltb, ltb-true, ltb-false, ne_eqb}
 use Rattle.std.proofs.Math.ListN.{get_or-append}
-use Rattle.base_spec.specs.declared.Number.TheVariants.{Is}
-use Rattle.base_spec.specs.Number.{is_digit, all_digits, value_from, value, unsigned_of, number_of}
+use Rattle.base_spec.specs.Number.{Is, is_digit, all_digits, value_from, value, unsigned_of, number_of}
 use Rattle.base_text.specs.NumberLaws.{unsigned_digits, number-plain}
 use Rattle.base_spec.specs.Written.{decimal_of, signed_of}
 use Rattle.base_text.specs.WrittenLaws.{decimal_small, decimal_more}

@@ -1,147 +1,121 @@
 // Text as bytes: lines and fields, decimal numbers, and their writing into lent places.
 #![tactic(auto)]
 
-ghost use Rattle.std.specs.Prelude.{◌≡◌, [], ◌∷◌, ◌+◌, ◌/◌, ◌%◌, ◌≤◌, ◌<◌, length};
+ghost use Rattle.std.specs.Prelude.{◌≡◌, [], ◌∷◌, ◌+◌, ◌/◌, ◌%◌, ◌≤◌, ◌<◌, length, Some};
 ghost use Rattle.base_text.specs.Parts.{part_end};
 ghost use Rattle.base_text.specs.Number.{digits_from};
-ghost use Rattle.base_spec.specs.Number.{unsigned_of, negated, number_of};
+ghost use Rattle.base_spec.specs.Number.{number_in, unsigned_of, negated, number_of};
 ghost use Rattle.base_text.specs.Numbers.{no_numbers, line_numbers, placed_number, with_number};
 ghost use Rattle.base_spec.specs.Written.{placed, hex_digit, hex2_of, hex4_of, hex8_of, decimal_of, signed_of};
 ghost use Rattle.base_text.specs.Wrote.{Wrote};
 ghost use Rattle.base_spec.specs.Refused.{field_text, refused_text, refusal_text, not_in_form, too_long};
 
-use base_spec::Number;
+use base_spec::Literal;
 
-// Where the part that begins at `from` ends: the next `stop`, or the end.
+/// Where the part that begins at `from` ends: the next `stop`, or the end.
 pub fn part_end(s: &[u8], from: usize, stop: u8) -> usize
     requires { from ≤ length s.now }
     ensures { (result ≡ part_end stop s.now from) × (result ≤ length s.now) }
 {
-    let mut i = from;
-    while i < s.len() {
+    for i in from..s.len() {
         if s[i] == stop {
             return i;
         }
-        i += 1;
     }
-    i
+    s.len()
 }
 
-// Eight bytes at a time, while eight are left.
+/// Where the line that begins at `from` ends.
+// Eight bytes at a time: 73 instructions a line of 23 bytes, 122 by `part_end`; the kit's `memchr` (57) would be one more crate to trust.
 pub fn line_end(text: &[u8], from: usize) -> usize
     requires { from ≤ length text.now }
     ensures { (result ≡ part_end 10 text.now from) × (result ≤ length text.now) }
 {
     let mut i = from;
     while 8 <= text.len() - i {
-        if (text[i] == 10)
-            | (text[i + 1] == 10)
-            | (text[i + 2] == 10)
-            | (text[i + 3] == 10)
-            | (text[i + 4] == 10)
-            | (text[i + 5] == 10)
-            | (text[i + 6] == 10)
-            | (text[i + 7] == 10)
+        if (text[i] == b'\n')
+            | (text[i + 1] == b'\n')
+            | (text[i + 2] == b'\n')
+            | (text[i + 3] == b'\n')
+            | (text[i + 4] == b'\n')
+            | (text[i + 5] == b'\n')
+            | (text[i + 6] == b'\n')
+            | (text[i + 7] == b'\n')
         {
-            return part_end(text, i, 10);
+            return part_end(text, i, b'\n');
         }
         i += 8;
     }
-    part_end(text, i, 10)
+    part_end(text, i, b'\n')
 }
 
+/// Where the field that begins at `from` ends.
 pub fn field_end(line: &[u8], from: usize) -> usize
     requires { from ≤ length line.now }
     ensures { (result ≡ part_end 9 line.now from) × (result ≤ length line.now) }
 {
-    part_end(line, from, 9)
-}
-
-fn wide(b: u8) -> u64
-    ensures { result ≡ b }
-{
-    b as u64
+    part_end(line, from, b'\t')
 }
 
 // The number that digits write.
-fn digits(f: &[u8]) -> Number
-    ensures { result ≡ digits_from 0 f.now }
+fn digits(f: &[u8]) -> Option<Literal>
+    ensures { number_in result ≡ digits_from 0 f.now }
 {
     let mut a: u64 = 0;
-    let mut i: usize = 0;
-    while i < f.len() {
-        let b = f[i];
-        if b < 48 {
-            return Number::No;
+    for &b in f {
+        if b < b'0' || b'9' < b {
+            return None;
         }
-        if 57 < b {
-            return Number::No;
-        }
-        let d = wide(b - 48);
-        if 1844674407370955161 < a {
-            return Number::No;
-        }
-        if 18446744073709551615 - a * 10 < d {
-            return Number::No;
-        }
-        a = a * 10 + d;
-        i += 1;
+        a = a.checked_mul(10)?.checked_add(u64::from(b - b'0'))?;
     }
-    Number::Is {
+    Some(Literal {
         negative: false,
         magnitude: a,
-    }
+    })
 }
 
 // A number with no sign and no leading zeros.
-fn unsigned(f: &[u8]) -> Number
-    ensures { result ≡ unsigned_of f.now }
+fn unsigned(f: &[u8]) -> Option<Literal>
+    ensures { number_in result ≡ unsigned_of f.now }
 {
     if f.len() == 0 {
-        return Number::No;
+        return None;
     }
-    if f[0] == 48 {
+    if f[0] == b'0' {
         if f.len() == 1 {
-            return Number::Is {
+            return Some(Literal {
                 negative: false,
                 magnitude: 0,
-            };
+            });
         }
-        return Number::No;
+        return None;
     }
     digits(f)
 }
 
-fn below_zero(n: Number) -> Number
-    ensures { result ≡ negated n }
+// The number with a minus before it; 0 has none.
+fn below_zero(n: Literal) -> Option<Literal>
+    ensures { number_in result ≡ negated (number_in (Some n)) }
 {
-    match n {
-        Number::Is {
-            negative: _,
-            magnitude,
-        } => {
-            if magnitude == 0 {
-                Number::No
-            } else {
-                Number::Is {
-                    negative: true,
-                    magnitude: magnitude,
-                }
-            }
-        }
-        Number::No => Number::No,
+    if n.magnitude == 0 {
+        None
+    } else {
+        Some(Literal {
+            negative: true,
+            magnitude: n.magnitude,
+        })
     }
 }
 
-// What a field says.
-pub fn read_number(f: &[u8]) -> Number
-    ensures { result ≡ number_of f.now }
+/// What a field says.
+pub fn read_number(f: &[u8]) -> Option<Literal>
+    ensures { number_in result ≡ number_of f.now }
 {
     if f.len() == 0 {
-        return Number::No;
+        return None;
     }
-    if f[0] == 45 {
-        return below_zero(unsigned(&f[1..]));
+    if f[0] == b'-' {
+        return below_zero(unsigned(&f[1..])?);
     }
     unsigned(f)
 }
@@ -181,15 +155,12 @@ fn place_number(r: LineNumbers, negative: bool, magnitude: u64) -> LineNumbers
     no_numbers()
 }
 
-fn with_number(r: LineNumbers, n: Number) -> LineNumbers
-    ensures { result ≡ with_number r n }
+fn with_number(r: LineNumbers, n: Option<Literal>) -> LineNumbers
+    ensures { result ≡ with_number r (number_in n) }
 {
     match n {
-        Number::Is {
-            negative,
-            magnitude,
-        } => place_number(r, negative, magnitude),
-        Number::No => no_numbers(),
+        Some(literal) => place_number(r, literal.negative, literal.magnitude),
+        None => no_numbers(),
     }
 }
 
@@ -213,19 +184,17 @@ pub fn read_numbers(line: &[u8]) -> LineNumbers
     r
 }
 
-// The text from place `at` on; the next place.
+/// The text from place `at` on; the next place.
 pub fn put(out: &mut [u8], at: usize, text: &[u8]) -> usize
     requires { at + length text.now ≤ length out.old }
     ensures { (result ≡ at + length text.now) × (out.new ≡ placed out.old at text.now) }
 {
-    let mut i: usize = 0;
-    while i < text.len() {
-        out[at + i] = text[i];
-        i += 1;
-    }
-    at + i
+    let end = at + text.len();
+    out[at..end].copy_from_slice(text);
+    end
 }
 
+/// One byte at place `at`; the next place.
 pub fn put_byte(out: &mut [u8], at: usize, b: u8) -> usize
     requires { at + 1 ≤ length out.old }
     ensures { (result ≡ at + 1) × (out.new ≡ placed out.old at (b ∷ [])) }
@@ -234,38 +203,40 @@ pub fn put_byte(out: &mut [u8], at: usize, b: u8) -> usize
     at + 1
 }
 
-// The last hexadecimal digit.
+// The last hexadecimal digit. By `match`, and eight in one `put`: 0.15 M of the 13.3 M instructions of `sheet` (docs/BENCHMARKS.md).
 fn hex_digit(w: u16) -> u8
     ensures { result ≡ hex_digit (w % 16) }
 {
     match w % 16 {
-        0 => 48,
-        1 => 49,
-        2 => 50,
-        3 => 51,
-        4 => 52,
-        5 => 53,
-        6 => 54,
-        7 => 55,
-        8 => 56,
-        9 => 57,
-        10 => 65,
-        11 => 66,
-        12 => 67,
-        13 => 68,
-        14 => 69,
-        _ => 70,
+        0 => b'0',
+        1 => b'1',
+        2 => b'2',
+        3 => b'3',
+        4 => b'4',
+        5 => b'5',
+        6 => b'6',
+        7 => b'7',
+        8 => b'8',
+        9 => b'9',
+        10 => b'A',
+        11 => b'B',
+        12 => b'C',
+        13 => b'D',
+        14 => b'E',
+        _ => b'F',
     }
 }
 
+/// A byte as two hexadecimal digits.
 pub fn put_hex2(out: &mut [u8], at: usize, b: u8) -> usize
     requires { at + 2 ≤ length out.old }
     ensures { (result ≡ at + 2) × (out.new ≡ placed out.old at (hex2_of b)) }
 {
-    let digits = [hex_digit((b / 16) as u16), hex_digit(b as u16)];
+    let digits = [hex_digit(u16::from(b / 16)), hex_digit(u16::from(b))];
     put(out, at, &digits)
 }
 
+/// A word as four hexadecimal digits.
 pub fn put_hex4(out: &mut [u8], at: usize, w: u16) -> usize
     requires { at + 4 ≤ length out.old }
     ensures { (result ≡ at + 4) × (out.new ≡ placed out.old at (hex4_of w)) }
@@ -279,6 +250,7 @@ pub fn put_hex4(out: &mut [u8], at: usize, w: u16) -> usize
     put(out, at, &digits)
 }
 
+/// A long word as eight hexadecimal digits.
 pub fn put_hex8(out: &mut [u8], at: usize, x: u32) -> usize
     requires { at + 8 ≤ length out.old }
     ensures { (result ≡ at + 8) × (out.new ≡ placed out.old at (hex8_of x)) }
@@ -304,10 +276,10 @@ fn put_digits(out: &mut [u8], at: usize, n: u64) -> usize
     ensures { (result ≡ at + length (decimal_of n)) × (out.new ≡ placed out.old at (decimal_of n)) }
 {
     if n < 10 {
-        return put_byte(out, at, 48 + n as u8);
+        return put_byte(out, at, b'0' + n as u8);
     }
     let next = put_digits(out, at, n / 10);
-    put_byte(out, next, 48 + (n % 10) as u8)
+    put_byte(out, next, b'0' + (n % 10) as u8)
 }
 
 // Both digits of a number below 100.
@@ -315,8 +287,8 @@ fn put_two(out: &mut [u8], at: usize, n: u64) -> usize
     requires { (n < 100) × (at + 2 ≤ length out.old) }
     ensures { (result ≡ at + 2) × (out.new ≡ placed out.old at ((48 + n / 10) ∷ (48 + n % 10) ∷ [])) }
 {
-    out[at] = 48 + (n / 10) as u8;
-    out[at + 1] = 48 + (n % 10) as u8;
+    out[at] = b'0' + (n / 10) as u8;
+    out[at + 1] = b'0' + (n % 10) as u8;
     at + 2
 }
 
@@ -326,7 +298,7 @@ fn put_below_100(out: &mut [u8], at: usize, n: u64) -> usize
     ensures { (result ≡ at + length (decimal_of n)) × (out.new ≡ placed out.old at (decimal_of n)) }
 {
     if n < 10 {
-        return put_byte(out, at, 48 + n as u8);
+        return put_byte(out, at, b'0' + n as u8);
     }
     put_two(out, at, n)
 }
@@ -354,7 +326,7 @@ pub fn put_signed(out: &mut [u8], at: usize, v: i64) -> usize
     if b < 0x8000_0000_0000_0000 {
         return put_digits(out, at, b);
     }
-    let next = put_byte(out, at, 45);
+    let next = put_byte(out, at, b'-');
     put_digits(out, next, 0xFFFF_FFFF_FFFF_FFFF - b + 1)
 }
 

@@ -1,6 +1,7 @@
 // The answer to a line that says how many bytes are lent to `encode_bytes`, then an address and an instruction.
 #![tactic(auto)]
 
+ghost use Rattle.std.proofs.Common.{rules};
 ghost use Rattle.std.specs.Prelude.{◌≡◌, ◌+◌, ◌≤◌, length};
 ghost use Rattle.base_spec.specs.Written.{placed};
 ghost use Rattle.base_text.specs.Wrote.{Wrote};
@@ -13,6 +14,7 @@ ghost use Rattle.bytes_answers.specs.Places.{lent_places_text};
 use base_spec::Step;
 use encode_answers::{numbers_in, put_measured};
 use isa::{Instruction, Measured};
+use line_program::Answer;
 use numeric_fields::UnsignedAt;
 use numeric_places::Numbers;
 use numeric_spec::Built;
@@ -96,7 +98,7 @@ fn put_numbers(out: &mut [u8], at: usize, numbers: Numbers) -> usize
     }
 }
 
-// The answer to a line, from place `at` on; the next place.
+/// The answer to a line, from place `at` on; the next place.
 pub fn answer(line: &[u8], out: &mut [u8], at: usize) -> usize
     requires { at + 136 ≤ length out.old }
     ensures { (result ≡ at + length (bytes_answer_of line.now)) × (out.new ≡ placed out.old at (bytes_answer_of line.now)) × (result ≤ at + 136) }
@@ -109,19 +111,26 @@ pub fn answer(line: &[u8], out: &mut [u8], at: usize) -> usize
     }
 }
 
-// The answers to the lines from a place on, while the buffer has room.
+/// What `encode_bytes` returns and leaves in the bytes that are lent.
+pub struct EncodingBytes;
+
+impl Answer for EncodingBytes {
+    ghost answer_of = { bytes_answer_of };
+
+    ghost ROOM = { 136 };
+
+    const ROOM: usize = 136;
+
+    fn answer(&self, line: &[u8], out: &mut [u8], at: usize) -> usize {
+        answer(line, out, at)
+    }
+
+    ghost room = { Prim.search rules };
+}
+
+/// The answers to the lines from a place on, while the buffer has room.
 pub fn answers(text: &[u8], from: usize, out: &mut [u8]) -> Step
     ensures { (result ≡ step_of bytes_answer_of 136 text.now from (length out.old)) × (out.new ≡ placed out.old 0 (answered_of bytes_answer_of 136 text.now from (length out.old))) }
 {
-    let mut next = from;
-    let mut at: usize = 0;
-    while next < text.len() {
-        if out.len() - at < 136 {
-            return Step { next, count: at };
-        }
-        let e = base_text::line_end(text, next);
-        at = answer(&text[next..e], out, at);
-        next = e + 1;
-    }
-    Step { next, count: at }
+    line_program::answers(&EncodingBytes, text, from, out)
 }

@@ -3,7 +3,7 @@ use Rattle.std.specs.Prelude.{◌≡◌, refl, [], ◌∷◌, ℕ}
 use Rattle.isa.specs.declared.Size.TheVariants.{Byte, Word, Long}
 use Rattle.isa.specs.declared.UnsizedRegisterOperation.TheVariants.{CHK, CHKL}
 use Rattle.encode_spec.specs.Cases.{addi, move, bound, dynamic_bit, static_bit, shift_by}
-use Rattle.read_spec.specs.declared.Reading.TheVariants.{Read}
+use Rattle.read_spec.specs.Reading.{Read}
 use Rattle.read_spec.specs.Plain.{plain}
 use Rattle.read_spec.specs.Map.{group_at, map}
 use Rattle.read_spec.specs.Read.{read_of}

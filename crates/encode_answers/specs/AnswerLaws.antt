@@ -8,10 +8,8 @@ use Rattle.std.proofs.Math.ListN.{length, length-map}
 use Rattle.std.proofs.lemmas.List.{length-replicate}
 use borrow.Author.Tests.{leb-false}
 use Rattle.base_facts.specs.Tests.{and-true, cond_true, cond_false, leb_is, leb-true, never}
-use Rattle.base_spec.specs.declared.Number.{Number}
-use Rattle.base_spec.specs.declared.Number.TheVariants.{Is, No}
 use Rattle.base_spec.specs.Parts.{fields}
-use Rattle.base_spec.specs.Number.{number_of}
+use Rattle.base_spec.specs.Number.{Number, Is, No, number_of}
 use Rattle.base_spec.specs.Numbers.{all_numbers, magnitude_of, integer_of}
 use Rattle.base_spec.specs.Signed.{minus}
 use Rattle.base_spec.specs.Written.{hex4_of}

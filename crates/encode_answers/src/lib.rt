@@ -1,6 +1,7 @@
 // The answer to a line of the numeric form, written into a lent buffer.
 #![tactic(auto)]
 
+ghost use Rattle.std.proofs.Common.{rules};
 ghost use Rattle.std.specs.Prelude.{◌≡◌, ◌+◌, ◌≤◌, length, take};
 ghost use Rattle.base_spec.specs.Written.{placed};
 ghost use Rattle.base_text.specs.Wrote.{Wrote};
@@ -10,6 +11,7 @@ ghost use Rattle.encode_answers.specs.Places.{places_in, places_text};
 
 use base_spec::Step;
 use isa::{Encoded, Measured};
+use line_program::Answer;
 use numeric_places::Numbers;
 use numeric_spec::Built;
 
@@ -103,7 +105,7 @@ pub fn numbers_in(n: base_text::LineNumbers) -> Numbers
     }
 }
 
-// The answer to a line, from place `at` on; the next place.
+/// The answer to a line, from place `at` on; the next place.
 pub fn answer(line: &[u8], out: &mut [u8], at: usize) -> usize
     requires { at + 95 ≤ length out.old }
     ensures { (result ≡ at + length (answer_of line.now)) × (out.new ≡ placed out.old at (answer_of line.now)) × (result ≤ at + 95) }
@@ -116,19 +118,26 @@ pub fn answer(line: &[u8], out: &mut [u8], at: usize) -> usize
     }
 }
 
-// The answers to the lines from a place on, while the buffer has room.
+/// Words and size of an instruction in numeric form.
+pub struct Encoding;
+
+impl Answer for Encoding {
+    ghost answer_of = { answer_of };
+
+    ghost ROOM = { 128 };
+
+    const ROOM: usize = 128;
+
+    fn answer(&self, line: &[u8], out: &mut [u8], at: usize) -> usize {
+        answer(line, out, at)
+    }
+
+    ghost room = { Prim.search rules };
+}
+
+/// The answers to the lines from a place on, while the buffer has room.
 pub fn answers(text: &[u8], from: usize, out: &mut [u8]) -> Step
     ensures { (result ≡ step_of answer_of 128 text.now from (length out.old)) × (out.new ≡ placed out.old 0 (answered_of answer_of 128 text.now from (length out.old))) }
 {
-    let mut next = from;
-    let mut at: usize = 0;
-    while next < text.len() {
-        if out.len() - at < 128 {
-            return Step { next, count: at };
-        }
-        let e = base_text::line_end(text, next);
-        at = answer(&text[next..e], out, at);
-        next = e + 1;
-    }
-    Step { next, count: at }
+    line_program::answers(&Encoding, text, from, out)
 }

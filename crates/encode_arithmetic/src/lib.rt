@@ -1,16 +1,14 @@
 // Integer arithmetic: the immediates, the quick forms, ADD SUB CMP and their kinds, long multiply and divide, EXT, SWAP and TST.
 #![tactic(auto)]
 
-ghost use Rattle.std.specs.Prelude.{◌≡◌, ◌<◌};
+ghost use Rattle.std.specs.Prelude.{◌≡◌, ◌<◌, Ok};
 ghost use Rattle.encode_spec.specs.Arithmetic.{immediate_kind, immediate_modes, immediate_reason, immediate_parts, quick_bit, quick_parts, into_data_parts, arithmetic_parts, into_address_parts, bounds_parts, extended_parts, cmpm_parts, signed_bit, high_number, high_bits, mull_parts, divl_parts, tst_parts, ext_opmode, ext_parts, swap_parts};
 ghost use Rattle.isa.specs.declared.Size.TheVariants as width;
 ghost use Rattle.isa_spec.specs.Mode.{bits};
 ghost use Rattle.encode_state.specs.Encoder.{run_parts};
 
-use encode_state::Encoder;
-use isa::{
-    Field, ImmediateOperation, Operand, QuickOperation, RegisterChoice, RegisterOperand, Sign, Size,
-};
+use encode_state::{Encoder, Refusal};
+use isa::{Field, ImmediateOperation, Operand, QuickOperation, RegisterOperand, Sign, Size};
 
 // Bits 11 to 9 of an immediate instruction.
 pub fn immediate_kind(operation: ImmediateOperation) -> u16
@@ -55,25 +53,25 @@ pub fn immediate_reason(operation: ImmediateOperation) -> u8
 }
 
 // ORI ANDI SUBI ADDI EORI CMPI: the immediate's words, then the destination's.
+#[tactic(auto, unfolding(encode_spec::specs::Arithmetic::immediate_parts))]
 pub fn immediate_into(
     e: Encoder,
     operation: ImmediateOperation,
     value: u32,
     destination: Operand,
     size: Size,
-) -> Encoder
-    ensures { result ≡ run_parts (immediate_parts operation value destination size) e }
+) -> Result<Encoder, Refusal>
+    ensures { result ≡ run_parts (immediate_parts operation value destination size) (Ok e) }
 {
-    let e1 = encode_state::operation(
-        e,
+    let e = e.operation(
         0,
         immediate_kind(operation),
         encode_state::standard_size(size),
         isa_operands::ea_field(destination),
     );
-    let e2 = encode_ea::immediate(e1, value, size);
+    let e = encode_ea::immediate(e, value, size)?;
     encode_ea::effective(
-        e2,
+        e,
         destination,
         size,
         immediate_modes(operation),
@@ -92,20 +90,21 @@ pub fn quick_bit(operation: QuickOperation) -> u16
 }
 
 // ADDQ SUBQ: the count in bits 11 to 9, 8 written as 0.
+#[tactic(auto, unfolding(encode_spec::specs::Arithmetic::quick_parts, encode_spec::specs::Ea::single))]
 pub fn quick(
     e: Encoder,
     operation: QuickOperation,
     count: u8,
     target: Operand,
     size: Size,
-) -> Encoder
-    ensures { result ≡ run_parts (quick_parts operation count target size) e }
+) -> Result<Encoder, Refusal>
+    ensures { result ≡ run_parts (quick_parts operation count target size) (Ok e) }
 {
-    let e1 = encode_state::fits(e, Field::Count, count as i64);
-    let e2 = encode_state::allow(e1, !isa_operands::byte_of_address(size, target), 55);
+    let e = e.fits(Field::Count, count as i64)?;
+    let e = e.allow(!isa_operands::byte_of_address(size, target), 55)?;
     let opmode = 4 * quick_bit(operation) + encode_state::standard_size(size);
     encode_ea::single(
-        e2,
+        e,
         5,
         (count % 8) as u16,
         opmode,
@@ -117,6 +116,7 @@ pub fn quick(
 }
 
 // <ea>,Dn of ADD, SUB and CMP.
+#[tactic(auto, unfolding(encode_spec::specs::Arithmetic::into_data_parts, encode_spec::specs::Ea::with_data))]
 pub fn into_data(
     e: Encoder,
     line: u16,
@@ -124,13 +124,13 @@ pub fn into_data(
     source: Operand,
     register: RegisterOperand,
     size: Size,
-) -> Encoder
+) -> Result<Encoder, Refusal>
     requires { line < 16 }
-    ensures { result ≡ run_parts (into_data_parts line reason source register size) e }
+    ensures { result ≡ run_parts (into_data_parts line reason source register size) (Ok e) }
 {
-    let e1 = encode_state::allow(e, !isa_operands::byte_of_address(size, source), 7);
+    let e = e.allow(!isa_operands::byte_of_address(size, source), 7)?;
     encode_ea::with_data(
-        e1,
+        e,
         line,
         register,
         encode_state::standard_size(size),
@@ -142,15 +142,16 @@ pub fn into_data(
 }
 
 // ADD SUB.
+#[tactic(auto, unfolding(encode_spec::specs::Arithmetic::arithmetic_parts, encode_spec::specs::Arithmetic::into_data_parts, encode_spec::specs::Ea::from_data, encode_spec::specs::Ea::with_data))]
 pub fn arithmetic(
     e: Encoder,
     line: u16,
     source: Operand,
     destination: Operand,
     size: Size,
-) -> Encoder
+) -> Result<Encoder, Refusal>
     requires { line < 16 }
-    ensures { result ≡ run_parts (arithmetic_parts line source destination size) e }
+    ensures { result ≡ run_parts (arithmetic_parts line source destination size) (Ok e) }
 {
     if isa_operands::is_register(destination) {
         into_data(
@@ -175,6 +176,7 @@ pub fn arithmetic(
 }
 
 // ADDA SUBA CMPA: bit 8 says a long.
+#[tactic(auto, unfolding(encode_spec::specs::Arithmetic::into_address_parts, encode_spec::specs::Ea::with_address))]
 pub fn into_address(
     e: Encoder,
     line: u16,
@@ -182,13 +184,13 @@ pub fn into_address(
     source: Operand,
     register: RegisterOperand,
     size: Size,
-) -> Encoder
+) -> Result<Encoder, Refusal>
     requires { line < 16 }
-    ensures { result ≡ run_parts (into_address_parts line reason source register size) e }
+    ensures { result ≡ run_parts (into_address_parts line reason source register size) (Ok e) }
 {
-    let e1 = encode_state::allow(e, !encode_state::is_byte(size), 61);
+    let e = e.allow(!encode_state::is_byte(size), 61)?;
     encode_ea::with_address(
-        e1,
+        e,
         line,
         register,
         3 + 4 * encode_state::long_bit(size),
@@ -200,72 +202,72 @@ pub fn into_address(
 }
 
 // CHK2 CMP2: the register's extension word, then the bounds.
+#[tactic(auto, unfolding(encode_spec::specs::Arithmetic::bounds_parts))]
 pub fn bounds(
     e: Encoder,
     trap: bool,
     bounds: Operand,
     register: RegisterOperand,
     size: Size,
-) -> Encoder
-    ensures { result ≡ run_parts (bounds_parts trap bounds register size) e }
+) -> Result<Encoder, Refusal>
+    ensures { result ≡ run_parts (bounds_parts trap bounds register size) (Ok e) }
 {
-    let e1 = encode_state::operation(
-        e,
+    let e = e.operation(
         0,
         encode_state::standard_size(size),
         3,
         isa_operands::ea_field(bounds),
     );
-    let e2 = encode_state::register(e1, encode_state::number_of_register(register));
+    let e = e.register(encode_state::number_of_register(register))?;
     let word = encode_state::general(register) * 4096 + encode_state::bit(trap) * 2048;
-    let e3 = encode_state::word(e2, word);
-    encode_ea::effective(e3, bounds, size, isa_operands::CONTROL, 49)
+    let e = e.word(word);
+    encode_ea::effective(e, bounds, size, isa_operands::CONTROL, 49)
 }
 
 // ADDX SUBX ABCD SBCD: Dy,Dx or -(Ay),-(Ax), y in bits 2 to 0 and x in bits 11 to 9.
+#[tactic(auto, unfolding(encode_spec::specs::Arithmetic::extended_parts))]
 pub fn extended(
     e: Encoder,
     line: u16,
     opmode: u16,
     source: Operand,
     destination: Operand,
-) -> Encoder
+) -> Result<Encoder, Refusal>
     requires { (line < 16) × (opmode < 8) }
-    ensures { result ≡ run_parts (extended_parts line opmode source destination) e }
+    ensures { result ≡ run_parts (extended_parts line opmode source destination) (Ok e) }
 {
     let y = 8 * isa_operands::memory_bit(source) + isa_operands::register_field(source);
-    let e1 = encode_state::operation(
-        e,
-        line,
-        isa_operands::register_field(destination),
-        opmode,
-        y,
-    );
-    let e2 = encode_state::allow(e1, isa_operands::paired(source, destination), 62);
-    let e3 = encode_state::register(e2, isa_operands::register_number(destination));
-    encode_state::register(e3, isa_operands::register_number(source))
+    let e = e.operation(line, isa_operands::register_field(destination), opmode, y);
+    let e = e.allow(isa_operands::paired(source, destination), 62)?;
+    let e = e.register(isa_operands::register_number(destination))?;
+    e.register(isa_operands::register_number(source))
 }
 
 // CMPM: (Ay)+,(Ax)+.
-pub fn cmpm(e: Encoder, source: Operand, destination: Operand, size: Size) -> Encoder
-    ensures { result ≡ run_parts (cmpm_parts source destination size) e }
+#[tactic(auto, unfolding(encode_spec::specs::Arithmetic::cmpm_parts))]
+pub fn cmpm(
+    e: Encoder,
+    source: Operand,
+    destination: Operand,
+    size: Size,
+) -> Result<Encoder, Refusal>
+    ensures { result ≡ run_parts (cmpm_parts source destination size) (Ok e) }
 {
     let ea = 8 + isa_operands::register_field(source);
-    let e1 = encode_state::operation(
-        e,
+    let e = e.operation(
         11,
         isa_operands::register_field(destination),
         4 + encode_state::standard_size(size),
         ea,
     );
     let Operand::PostIndirect(y) = source else {
-        return encode_state::no_encoding(e1, 41);
+        return Err(Refusal::NoEncoding(41));
     };
     let Operand::PostIndirect(x) = destination else {
-        return encode_state::no_encoding(e1, 41);
+        return Err(Refusal::NoEncoding(41));
     };
-    let e2 = encode_state::register(e1, x);
-    encode_state::register(e2, y)
+    let e = e.register(x)?;
+    e.register(y)
 }
 
 // The bit that says signed.
@@ -279,38 +281,46 @@ pub fn signed_bit(sign: Sign) -> u16
 }
 
 // The number of the high register, 0 where there is none.
-pub fn high_number(high: RegisterChoice) -> u8
+pub fn high_number(high: Option<u8>) -> u8
     ensures { result ≡ high_number high }
 {
     match high {
-        RegisterChoice::None => 0,
-        RegisterChoice::Some(n) => n,
+        None => 0,
+        Some(n) => n,
     }
 }
 
 // Its bits in the extension word, with the one that says a 64-bit product.
-pub fn high_bits(high: RegisterChoice) -> u16
+pub fn high_bits(high: Option<u8>) -> u16
     ensures { (result ≡ high_bits high) × (result < 2048) }
 {
     match high {
-        RegisterChoice::None => 0,
-        RegisterChoice::Some(n) => 1024 + (n % 8) as u16,
+        None => 0,
+        Some(n) => 1024 + (n % 8) as u16,
     }
 }
 
 // MULS.L MULU.L.
-pub fn mull(e: Encoder, source: Operand, low: u8, high: RegisterChoice, sign: Sign) -> Encoder
-    ensures { result ≡ run_parts (mull_parts source low high sign) e }
+#[tactic(auto, unfolding(encode_spec::specs::Arithmetic::mull_parts))]
+pub fn mull(
+    e: Encoder,
+    source: Operand,
+    low: u8,
+    high: Option<u8>,
+    sign: Sign,
+) -> Result<Encoder, Refusal>
+    ensures { result ≡ run_parts (mull_parts source low high sign) (Ok e) }
 {
-    let e1 = encode_state::operation(e, 4, 6, 0, isa_operands::ea_field(source));
-    let e2 = encode_state::register(e1, high_number(high));
-    let e3 = encode_state::register(e2, low);
+    let e = e.operation(4, 6, 0, isa_operands::ea_field(source));
+    let e = e.register(high_number(high))?;
+    let e = e.register(low)?;
     let upper = (low % 8) as u16 * 4096 + signed_bit(sign) * 2048;
-    let e4 = encode_state::word(e3, upper + high_bits(high));
-    encode_ea::effective(e4, source, Size::Long, isa_operands::DATA, 28)
+    let e = e.word(upper + high_bits(high));
+    encode_ea::effective(e, source, Size::Long, isa_operands::DATA, 28)
 }
 
 // DIVS.L DIVU.L and their long forms.
+#[tactic(auto, unfolding(encode_spec::specs::Arithmetic::divl_parts))]
 pub fn divl(
     e: Encoder,
     source: Operand,
@@ -318,26 +328,27 @@ pub fn divl(
     remainder: u8,
     wide: bool,
     sign: Sign,
-) -> Encoder
-    ensures { result ≡ run_parts (divl_parts source quotient remainder wide sign) e }
+) -> Result<Encoder, Refusal>
+    ensures { result ≡ run_parts (divl_parts source quotient remainder wide sign) (Ok e) }
 {
-    let e1 = encode_state::operation(e, 4, 6, 1, isa_operands::ea_field(source));
-    let e2 = encode_state::register(e1, quotient);
-    let e3 = encode_state::register(e2, remainder);
+    let e = e.operation(4, 6, 1, isa_operands::ea_field(source));
+    let e = e.register(quotient)?;
+    let e = e.register(remainder)?;
     let upper = (quotient % 8) as u16 * 4096
         + signed_bit(sign) * 2048
         + encode_state::bit(wide) * 1024;
-    let e4 = encode_state::word(e3, upper + (remainder % 8) as u16);
-    encode_ea::effective(e4, source, Size::Long, isa_operands::DATA, 29)
+    let e = e.word(upper + (remainder % 8) as u16);
+    encode_ea::effective(e, source, Size::Long, isa_operands::DATA, 29)
 }
 
 // TST: any operand, an address register not as a byte.
-pub fn tst(e: Encoder, target: Operand, size: Size) -> Encoder
-    ensures { result ≡ run_parts (tst_parts target size) e }
+#[tactic(auto, unfolding(encode_spec::specs::Arithmetic::tst_parts, encode_spec::specs::Ea::single))]
+pub fn tst(e: Encoder, target: Operand, size: Size) -> Result<Encoder, Refusal>
+    ensures { result ≡ run_parts (tst_parts target size) (Ok e) }
 {
-    let e1 = encode_state::allow(e, !isa_operands::byte_of_address(size, target), 7);
+    let e = e.allow(!isa_operands::byte_of_address(size, target), 7)?;
     encode_ea::single(
-        e1,
+        e,
         4,
         5,
         encode_state::standard_size(size),
@@ -393,19 +404,21 @@ pub fn ext_opmode(from: Size, to: Size) -> u16
 }
 
 // EXT.W EXT.L EXTB.L.
-pub fn ext(e: Encoder, register: RegisterOperand, from: Size, to: Size) -> Encoder
-    ensures { result ≡ run_parts (ext_parts register from to) e }
+#[tactic(auto, unfolding(encode_spec::specs::Arithmetic::ext_parts))]
+pub fn ext(e: Encoder, register: RegisterOperand, from: Size, to: Size) -> Result<Encoder, Refusal>
+    ensures { result ≡ run_parts (ext_parts register from to) (Ok e) }
 {
     let opmode = ext_opmode(from, to);
-    let e1 = encode_state::operation(e, 4, 4, opmode, encode_state::register_bits(register));
-    let e2 = encode_state::allow(e1, opmode != 0, 19);
-    encode_state::data_register(e2, register)
+    let e = e.operation(4, 4, opmode, encode_state::register_bits(register));
+    let e = e.allow(opmode != 0, 19)?;
+    e.data_register(register)
 }
 
 // SWAP.
-pub fn swap(e: Encoder, register: RegisterOperand) -> Encoder
-    ensures { result ≡ run_parts (swap_parts register) e }
+#[tactic(auto, unfolding(encode_spec::specs::Arithmetic::swap_parts))]
+pub fn swap(e: Encoder, register: RegisterOperand) -> Result<Encoder, Refusal>
+    ensures { result ≡ run_parts (swap_parts register) (Ok e) }
 {
-    let e1 = encode_state::operation(e, 4, 4, 1, encode_state::register_bits(register));
-    encode_state::data_register(e1, register)
+    let e = e.operation(4, 4, 1, encode_state::register_bits(register));
+    e.data_register(register)
 }

@@ -1,19 +1,25 @@
 // Bit manipulation, bit fields, and PACK and UNPK.
 #![tactic(auto)]
 
-ghost use Rattle.std.specs.Prelude.{◌≡◌, ◌<◌};
+ghost use Rattle.std.specs.Prelude.{◌≡◌, ◌<◌, Ok};
 ghost use Rattle.encode_spec.specs.Item.{check};
 ghost use Rattle.encode_spec.specs.Bits.{dynamic_parts, static_parts, bit_parts, value_number, value_bits, value_holds, larger, bit_field_verdict, bit_field_parts, pack_parts};
 ghost use Rattle.encode_state.specs.Encoder.{step, run_parts};
 
-use encode_state::Encoder;
+use encode_state::{Encoder, Refusal};
 use isa::{BitField, BitFieldOperation, Field, FieldValue, Operand, RegisterOperand, Size};
 use isa_values::bit_field_operation;
 
 // The bit number in a data register.
-pub fn dynamic_bit(e: Encoder, kind: u16, register: RegisterOperand, target: Operand) -> Encoder
+#[tactic(auto, unfolding(encode_spec::specs::Bits::dynamic_parts, encode_spec::specs::Ea::with_data, encode_spec::specs::Ea::permits))]
+pub fn dynamic_bit(
+    e: Encoder,
+    kind: u16,
+    register: RegisterOperand,
+    target: Operand,
+) -> Result<Encoder, Refusal>
     requires { kind < 4 }
-    ensures { result ≡ run_parts (dynamic_parts kind register target) e }
+    ensures { result ≡ run_parts (dynamic_parts kind register target) (Ok e) }
 {
     if kind == 0 {
         encode_ea::with_data(
@@ -41,32 +47,33 @@ pub fn dynamic_bit(e: Encoder, kind: u16, register: RegisterOperand, target: Ope
 }
 
 // The bit number in the word after the operation word.
-pub fn static_bit(e: Encoder, kind: u16, number: u32, target: Operand) -> Encoder
+#[tactic(auto, unfolding(encode_spec::specs::Bits::static_parts, encode_spec::specs::Ea::permits))]
+pub fn static_bit(e: Encoder, kind: u16, number: u32, target: Operand) -> Result<Encoder, Refusal>
     requires { kind < 4 }
-    ensures { result ≡ run_parts (static_parts kind number target) e }
+    ensures { result ≡ run_parts (static_parts kind number target) (Ok e) }
 {
-    let e1 = encode_state::operation(e, 0, 4, kind, isa_operands::ea_field(target));
-    let e2 = encode_state::fits(e1, Field::BitNumber, number as i64);
-    let e3 = encode_state::word(e2, (number % 256) as u16);
+    let e = e.operation(0, 4, kind, isa_operands::ea_field(target));
+    let e = e.fits(Field::BitNumber, number as i64)?;
+    let e = e.word((number % 256) as u16);
     if kind == 0 {
-        encode_ea::effective(e3, target, Size::Byte, isa_operands::DATA_NOT_IMMEDIATE, 52)
+        encode_ea::effective(e, target, Size::Byte, isa_operands::DATA_NOT_IMMEDIATE, 52)
     } else {
-        encode_ea::effective(e3, target, Size::Byte, isa_operands::DATA_ALTERABLE, 51)
+        encode_ea::effective(e, target, Size::Byte, isa_operands::DATA_ALTERABLE, 51)
     }
 }
 
 // BTST, BCHG, BCLR and BSET, by kind.
-pub fn bit(e: Encoder, kind: u16, number: Operand, target: Operand) -> Encoder
+#[tactic(auto, unfolding(encode_spec::specs::Bits::bit_parts, encode_spec::specs::Bits::dynamic_parts, encode_spec::specs::Bits::static_parts, encode_spec::specs::Ea::with_data))]
+pub fn bit(e: Encoder, kind: u16, number: Operand, target: Operand) -> Result<Encoder, Refusal>
     requires { kind < 4 }
-    ensures { result ≡ run_parts (bit_parts kind number target) e }
+    ensures { result ≡ run_parts (bit_parts kind number target) (Ok e) }
 {
     if isa_operands::is_register(number) {
         dynamic_bit(e, kind, isa_operands::register_in(number), target)
     } else if isa_operands::is_immediate(number) {
         static_bit(e, kind, isa_operands::immediate_in(number), target)
     } else {
-        let e1 = encode_state::operation(e, 0, 4, kind, isa_operands::ea_field(target));
-        encode_state::no_encoding(e1, 53)
+        Err(Refusal::NoEncoding(53))
     }
 }
 
@@ -107,68 +114,66 @@ pub fn larger(x: u8, y: u8) -> u8
 }
 
 // Out of range where either is too large; the larger is reported.
-pub fn in_range(e: Encoder, field: BitField) -> Encoder
+pub fn in_range(e: Encoder, field: BitField) -> Result<Encoder, Refusal>
     ensures { result ≡ step e (check (bit_field_verdict field)) }
 {
     let offset = field.offset;
     let width = field.width;
     let number = larger(value_number(offset), value_number(width));
     if value_holds(offset) & value_holds(width) {
-        e
+        Ok(e)
     } else {
-        encode_state::out_of_range(e, Field::BitField, number as i64)
+        Err(Refusal::OutOfRange(Field::BitField, number as i64))
     }
 }
 
 // The bit-field instructions.
+#[tactic(auto, unfolding(encode_spec::specs::Bits::bit_field_parts, encode_spec::specs::Ea::permits))]
 pub fn bit_field(
     e: Encoder,
     operation: BitFieldOperation,
     target: Operand,
     field: BitField,
     register: u8,
-) -> Encoder
-    ensures { result ≡ run_parts (bit_field_parts operation target field register) e }
+) -> Result<Encoder, Refusal>
+    ensures { result ≡ run_parts (bit_field_parts operation target field register) (Ok e) }
 {
     let code = bit_field_operation::code(operation);
     let offset = field.offset;
     let width = field.width;
-    let e1 = encode_state::operation(
-        e,
+    let e = e.operation(
         14,
         4 + code / 2,
         4 * (code % 2) + 3,
         isa_operands::ea_field(target),
     );
-    let e2 = in_range(e1, field);
-    let e3 = encode_state::register(e2, register);
+    let e = in_range(e, field)?;
+    let e = e.register(register)?;
     let number = (register % 8) as u16;
-    let e4 = encode_state::word(
-        e3,
-        number * 4096 + value_bits(offset) * 64 + value_bits(width),
-    );
+    let e = e.word(number * 4096 + value_bits(offset) * 64 + value_bits(width));
     if bit_field_operation::writes(operation) {
-        encode_ea::effective(e4, target, Size::Byte, isa_operands::BIT_FIELD_WRITTEN, 32)
+        encode_ea::effective(e, target, Size::Byte, isa_operands::BIT_FIELD_WRITTEN, 32)
     } else {
-        encode_ea::effective(e4, target, Size::Byte, isa_operands::BIT_FIELD_READ, 33)
+        encode_ea::effective(e, target, Size::Byte, isa_operands::BIT_FIELD_READ, 33)
     }
 }
 
 // PACK and UNPK, by opmode.
+#[tactic(auto, unfolding(encode_spec::specs::Bits::pack_parts))]
 pub fn pack(
     e: Encoder,
     opmode: u16,
     source: Operand,
     destination: Operand,
     adjustment: u16,
-) -> Encoder
+) -> Result<Encoder, Refusal>
     requires { opmode < 8 }
-    ensures { result ≡ run_parts (pack_parts opmode source destination adjustment) e }
+    ensures { result ≡ run_parts (pack_parts opmode source destination adjustment) (Ok e) }
 {
     let low = 8 * isa_operands::memory_bit(source) + isa_operands::register_field(source);
-    let e1 = encode_state::operation(e, 8, isa_operands::register_field(destination), opmode, low);
-    let e2 = encode_state::allow(e1, isa_operands::paired(source, destination), 48);
-    let e3 = encode_state::word(e2, adjustment);
-    let e4 = encode_state::register(e3, isa_operands::register_number(destination));
-    encode_state::register(e4, isa_operands::register_number(source))
+    let e = e.operation(8, isa_operands::register_field(destination), opmode, low);
+    let e = e.allow(isa_operands::paired(source, destination), 48)?;
+    let e = e.word(adjustment);
+    let e = e.register(isa_operands::register_number(destination))?;
+    e.register(isa_operands::register_number(source))
 }

@@ -1,33 +1,9 @@
 // Prints what `encode_bytes` returns for each line, and the bytes that were lent to it.
 #![tactic(auto)]
 
-ghost use Rattle.std.specs.Prelude.{◌≡◌, length, replicate};
+use bytes_answers::EncodingBytes;
+use std::io;
 
-// 1 MiB, and a place to see that there is more.
-fn input() -> [u8; 1048577]
-    ensures { (result ≡ replicate 1048577 0) × (1048577 ≡ length result) }
-{
-    [0; 1048577]
-}
-
-// The answers to all lines, in few writes.
-fn print_answers(text: &[u8]) {
-    let mut out = io::large_buffer();
-    let mut from: usize = 0;
-    while from < text.len() {
-        let step = bytes_answers::answers(text, from, &mut out);
-        let count = step.count;
-        io::write_all(1, &out[..count]);
-        from = step.next;
-    }
-}
-
-fn main() {
-    let mut text = input();
-    let n = io::read_full(0, &mut text);
-    if n <= 1048576 {
-        print_answers(&text[..n]);
-    } else {
-        io::write_all(1, &base_text::too_long());
-    }
+fn main(rt: HostRuntime) -> io::Result<()> {
+    line_program::run(&EncodingBytes, &mut rt.stdin(), &mut rt.stdout())
 }

@@ -1,7 +1,7 @@
 // The extension words of an effective address, and the forms that most instructions have.
 #![tactic(auto)]
 
-ghost use Rattle.std.specs.Prelude.{◌≡◌, ◌<◌, ◌∷◌};
+ghost use Rattle.std.specs.Prelude.{◌≡◌, ◌<◌, ◌∷◌, Ok};
 ghost use Rattle.encode_spec.specs.Item.{check};
 ghost use Rattle.encode_spec.specs.Item as item;
 ghost use Rattle.isa_facts.specs.Mode.{column_of};
@@ -10,7 +10,7 @@ ghost use Rattle.encode_spec.specs.Ea as ea;
 ghost use Rattle.isa.specs.declared.Field.TheVariants as field;
 ghost use Rattle.encode_state.specs.Encoder.{step, run, run_parts, next_address};
 
-use encode_state::Encoder;
+use encode_state::{Encoder, Refusal};
 use isa::{AddressWidth, DisplacementSize, Field, IndexRegister, Operand, RegisterOperand, Size};
 use isa_values::extension_word::ExtensionWord;
 use isa_values::index_base::IndexBase;
@@ -19,75 +19,80 @@ use isa_values::index_base::IndexBase;
 pub fn distance(e: Encoder, target: u32) -> i64
     ensures { result ≡ distance target (next_address e) }
 {
-    base_signed::to_signed(base_signed::minus(target, encode_state::next(e)))
+    base_signed::to_signed(base_signed::minus(target, e.next()))
 }
 
 // A displacement of one word.
-pub fn word_displacement(e: Encoder, field: Field, z: i64) -> Encoder
-    ensures { result ≡ run (word_items field z) e }
+pub fn word_displacement(e: Encoder, field: Field, z: i64) -> Result<Encoder, Refusal>
+    ensures { result ≡ run (word_items field z) (Ok e) }
 {
-    let e1 = encode_state::fits(e, field, z);
-    encode_state::word(e1, base_signed::low16(z))
+    let e = e.fits(field, z)?;
+    Ok(e.word(base_signed::low16(z)))
 }
 
 // A word that holds the distance from itself.
-pub fn displacement_to(e: Encoder, target: u32, field: Field) -> Encoder
-    ensures { result ≡ run (word_items field (distance target (next_address e))) e }
+pub fn displacement_to(e: Encoder, target: u32, field: Field) -> Result<Encoder, Refusal>
+    ensures { result ≡ run (word_items field (distance target (next_address e))) (Ok e) }
 {
     word_displacement(e, field, distance(e, target))
 }
 
 // The words of an immediate.
-pub fn immediate_words(e: Encoder, v: u32, size: Size) -> Encoder
-    ensures { result ≡ run (immediate_words v size) e }
+pub fn immediate_words(e: Encoder, v: u32, size: Size) -> Result<Encoder, Refusal>
+    ensures { result ≡ run (immediate_words v size) (Ok e) }
 {
     match size {
-        Size::Byte => encode_state::word(e, (v % 256) as u16),
-        Size::Word => encode_state::word(e, (v % 65536) as u16),
-        Size::Long => encode_state::long(e, v),
+        Size::Byte => Ok(e.word((v % 256) as u16)),
+        Size::Word => Ok(e.word((v % 65536) as u16)),
+        Size::Long => Ok(e.long(v)),
     }
 }
 
 // An immediate of a size.
-pub fn immediate(e: Encoder, v: u32, size: Size) -> Encoder
-    ensures { result ≡ run (immediate_items v size) e }
+pub fn immediate(e: Encoder, v: u32, size: Size) -> Result<Encoder, Refusal>
+    ensures { result ≡ run (immediate_items v size) (Ok e) }
 {
-    let e1 = encode_state::fits(e, Field::Immediate(size), v as i64);
-    immediate_words(e1, v, size)
+    let e = e.fits(Field::Immediate(size), v as i64)?;
+    immediate_words(e, v, size)
 }
 
 // An index register is a word or a long.
-pub fn index_size(e: Encoder, size: Size) -> Encoder
+pub fn index_size(e: Encoder, size: Size) -> Result<Encoder, Refusal>
     ensures { result ≡ step e (check (index_size_verdict size)) }
 {
     match size {
-        Size::Byte => encode_state::no_encoding(e, 4),
-        Size::Word => e,
-        Size::Long => e,
+        Size::Byte => Err(Refusal::NoEncoding(4)),
+        Size::Word => Ok(e),
+        Size::Long => Ok(e),
     }
 }
 
 // The brief extension word.
-pub fn brief(e: Encoder, index: IndexRegister, z: i64, field: Field) -> Encoder
-    ensures { result ≡ run (brief_items index z field) e }
+pub fn brief(e: Encoder, index: IndexRegister, z: i64, field: Field) -> Result<Encoder, Refusal>
+    ensures { result ≡ run (brief_items index z field) (Ok e) }
 {
     let register = index.register;
     let size = index.size;
-    let e1 = encode_state::fits(e, field, z);
-    let e2 = encode_state::register(e1, encode_state::number_of_register(register));
-    let e3 = index_size(e2, size);
+    let e = e.fits(field, z)?;
+    let e = e.register(encode_state::number_of_register(register))?;
+    let e = index_size(e, size)?;
     let upper = encode_state::general(register) * 4096 + encode_state::long_bit(size) * 2048;
-    encode_state::word(e3, upper + base_signed::low8(z))
+    Ok(e.word(upper + base_signed::low8(z)))
 }
 
 // A base or outer displacement of the full extension word.
-pub fn displacement(e: Encoder, size: DisplacementSize, z: i64, field: Field) -> Encoder
-    ensures { result ≡ run (displacement_items size z field) e }
+pub fn displacement(
+    e: Encoder,
+    size: DisplacementSize,
+    z: i64,
+    field: Field,
+) -> Result<Encoder, Refusal>
+    ensures { result ≡ run (displacement_items size z field) (Ok e) }
 {
     match size {
-        DisplacementSize::Null => encode_state::fits(e, Field::NullDisplacement, z),
+        DisplacementSize::Null => e.fits(Field::NullDisplacement, z),
         DisplacementSize::Word => word_displacement(e, field, z),
-        DisplacementSize::Long => encode_state::long(e, base_signed::low32(z)),
+        DisplacementSize::Long => Ok(e.long(base_signed::low32(z))),
     }
 }
 
@@ -104,18 +109,18 @@ pub fn base_displacement(e: Encoder, base: u8, word: u16, displacement: i32) -> 
 }
 
 // The full extension word and its displacements.
-pub fn full(e: Encoder, word: u16, z: i64, outer: i32) -> Encoder
-    ensures { result ≡ run (full_items word z outer) e }
+pub fn full(e: Encoder, word: u16, z: i64, outer: i32) -> Result<Encoder, Refusal>
+    ensures { result ≡ run (full_items word z outer) (Ok e) }
 {
-    let e1 = encode_state::word(e, word);
-    let e2 = displacement(
-        e1,
+    let e = e.word(word);
+    let e = displacement(
+        e,
         ExtensionWord(word).base_displacement_size(),
         z,
         Field::BaseDisplacement,
-    );
+    )?;
     displacement(
-        e2,
+        e,
         ExtensionWord(word).outer_displacement_size(),
         base_signed::wide(outer),
         Field::OuterDisplacement,
@@ -134,16 +139,22 @@ pub fn brief_field(base: u8) -> Field
 }
 
 // A brief extension word kept with its scale.
-pub fn scaled(e: Encoder, base: u8, word: u16, z: i64) -> Encoder
-    ensures { result ≡ run (scaled_items base word z) e }
+pub fn scaled(e: Encoder, base: u8, word: u16, z: i64) -> Result<Encoder, Refusal>
+    ensures { result ≡ run (scaled_items base word z) (Ok e) }
 {
-    let e1 = encode_state::fits(e, brief_field(base), z);
-    encode_state::word(e1, word / 256 * 256 + base_signed::low8(z))
+    let e = e.fits(brief_field(base), z)?;
+    Ok(e.word(word / 256 * 256 + base_signed::low8(z)))
 }
 
 // The words of an Extended operand.
-pub fn extended_index(e: Encoder, base: u8, word: u16, displacement: i32, outer: i32) -> Encoder
-    ensures { result ≡ run (extended_items base word displacement outer (next_address e)) e }
+pub fn extended_index(
+    e: Encoder,
+    base: u8,
+    word: u16,
+    displacement: i32,
+    outer: i32,
+) -> Result<Encoder, Refusal>
+    ensures { result ≡ run (extended_items base word displacement outer (next_address e)) (Ok e) }
 {
     let z = base_displacement(e, base, word, displacement);
     if ExtensionWord(word).is_full() {
@@ -154,38 +165,42 @@ pub fn extended_index(e: Encoder, base: u8, word: u16, displacement: i32, outer:
 }
 
 // An absolute address.
-pub fn absolute(e: Encoder, address: u64, width: AddressWidth) -> Encoder
-    ensures { result ≡ run (absolute_items address width) e }
+pub fn absolute(e: Encoder, address: u64, width: AddressWidth) -> Result<Encoder, Refusal>
+    ensures { result ≡ run (absolute_items address width) (Ok e) }
 {
-    let e1 = encode_state::fits(e, Field::LongAddress, base_signed::to_signed64(address));
+    let e = e.fits(Field::LongAddress, base_signed::to_signed64(address))?;
     match width {
         AddressWidth::Word => {
-            let e2 = encode_state::fits(
-                e1,
+            let e = e.fits(
                 Field::ShortAddress,
                 base_signed::to_signed((address % 4294967296) as u32),
-            );
-            encode_state::word(e2, (address % 65536) as u16)
+            )?;
+            Ok(e.word((address % 65536) as u16))
         }
-        AddressWidth::Long => encode_state::long(e1, (address % 4294967296) as u32),
+        AddressWidth::Long => Ok(e.long((address % 4294967296) as u32)),
     }
 }
 
 // d16(An).
-pub fn displaced(e: Encoder, offset: i32, base: RegisterOperand) -> Encoder
-    ensures { result ≡ run (item.address_register base ∷ word_items field.Displacement offset) e }
+pub fn displaced(e: Encoder, offset: i32, base: RegisterOperand) -> Result<Encoder, Refusal>
+    ensures { result ≡ run (item.address_register base ∷ word_items field.Displacement offset) (Ok e) }
 {
-    let e1 = encode_state::address_register(e, base);
-    word_displacement(e1, Field::Displacement, base_signed::wide(offset))
+    let e = e.address_register(base)?;
+    word_displacement(e, Field::Displacement, base_signed::wide(offset))
 }
 
 // d8(An,Xn).
-pub fn indexed(e: Encoder, base: RegisterOperand, offset: i32, index: IndexRegister) -> Encoder
-    ensures { result ≡ run (item.address_register base ∷ brief_items index offset field.IndexDisplacement) e }
+pub fn indexed(
+    e: Encoder,
+    base: RegisterOperand,
+    offset: i32,
+    index: IndexRegister,
+) -> Result<Encoder, Refusal>
+    ensures { result ≡ run (item.address_register base ∷ brief_items index offset field.IndexDisplacement) (Ok e) }
 {
-    let e1 = encode_state::address_register(e, base);
+    let e = e.address_register(base)?;
     brief(
-        e1,
+        e,
         index,
         base_signed::wide(offset),
         Field::IndexDisplacement,
@@ -193,22 +208,22 @@ pub fn indexed(e: Encoder, base: RegisterOperand, offset: i32, index: IndexRegis
 }
 
 // d8(PC,Xn).
-pub fn pc_indexed(e: Encoder, target: u32, index: IndexRegister) -> Encoder
-    ensures { result ≡ run (brief_items index (distance target (next_address e)) field.PcIndex) e }
+pub fn pc_indexed(e: Encoder, target: u32, index: IndexRegister) -> Result<Encoder, Refusal>
+    ensures { result ≡ run (brief_items index (distance target (next_address e)) field.PcIndex) (Ok e) }
 {
     brief(e, index, distance(e, target), Field::PcIndex)
 }
 
 // The extension words of an operand, with the checks before each.
-pub fn ea(e: Encoder, operand: Operand, size: Size) -> Encoder
-    ensures { result ≡ run (ea_items operand size (next_address e)) e }
+pub fn ea(e: Encoder, operand: Operand, size: Size) -> Result<Encoder, Refusal>
+    ensures { result ≡ run (ea_items operand size (next_address e)) (Ok e) }
 {
     match operand {
         Operand::Immediate(v) => immediate(e, v, size),
-        Operand::Register(r) => encode_state::register(e, encode_state::number_of_register(r)),
-        Operand::Indirect(n) => encode_state::register(e, n),
-        Operand::PostIndirect(n) => encode_state::register(e, n),
-        Operand::PreIndirect(n) => encode_state::register(e, n),
+        Operand::Register(r) => e.register(encode_state::number_of_register(r)),
+        Operand::Indirect(n) => e.register(n),
+        Operand::PostIndirect(n) => e.register(n),
+        Operand::PreIndirect(n) => e.register(n),
         Operand::IndirectDisplacement { offset, base } => displaced(e, offset, base),
         Operand::IndirectIndex {
             base,
@@ -228,21 +243,28 @@ pub fn ea(e: Encoder, operand: Operand, size: Size) -> Encoder
 }
 
 // An operand in one of the modes allowed.
-pub fn effective(e: Encoder, operand: Operand, size: Size, allowed: u16, reason: u8) -> Encoder
-    ensures { result ≡ run (ea.effective operand size (column_of allowed) reason (next_address e)) e }
+pub fn effective(
+    e: Encoder,
+    operand: Operand,
+    size: Size,
+    allowed: u16,
+    reason: u8,
+) -> Result<Encoder, Refusal>
+    ensures { result ≡ run (ea.effective operand size (column_of allowed) reason (next_address e)) (Ok e) }
 {
-    let e1 = encode_state::allow(e, isa_operands::permitted(allowed, operand), reason);
-    ea(e1, operand, size)
+    let e = e.allow(isa_operands::permitted(allowed, operand), reason)?;
+    ea(e, operand, size)
 }
 
 // Refusal 1 of an operand.
-pub fn typed(e: Encoder, operand: Operand) -> Encoder
+pub fn typed(e: Encoder, operand: Operand) -> Result<Encoder, Refusal>
     ensures { result ≡ step e (ea.typed operand) }
 {
-    encode_state::well_formed(e, isa_operands::is_typed(operand))
+    e.well_formed(isa_operands::is_typed(operand))
 }
 
 // An operation word and an effective address.
+#[tactic(auto, unfolding(encode_spec::specs::Ea::single))]
 pub fn single(
     e: Encoder,
     line: u16,
@@ -252,15 +274,16 @@ pub fn single(
     size: Size,
     allowed: u16,
     reason: u8,
-) -> Encoder
+) -> Result<Encoder, Refusal>
     requires { (line < 16) × (x < 8) × (opmode < 8) }
-    ensures { result ≡ run_parts (ea.single line x opmode operand size (column_of allowed) reason) e }
+    ensures { result ≡ run_parts (ea.single line x opmode operand size (column_of allowed) reason) (Ok e) }
 {
-    let e1 = encode_state::operation(e, line, x, opmode, isa_operands::ea_field(operand));
-    effective(e1, operand, size, allowed, reason)
+    let e = e.operation(line, x, opmode, isa_operands::ea_field(operand));
+    effective(e, operand, size, allowed, reason)
 }
 
 // The same with a data register in bits 11 to 9.
+#[tactic(auto, unfolding(encode_spec::specs::Ea::with_data))]
 pub fn with_data(
     e: Encoder,
     line: u16,
@@ -270,22 +293,22 @@ pub fn with_data(
     size: Size,
     allowed: u16,
     reason: u8,
-) -> Encoder
+) -> Result<Encoder, Refusal>
     requires { (line < 16) × (opmode < 8) }
-    ensures { result ≡ run_parts (ea.with_data line register opmode operand size (column_of allowed) reason) e }
+    ensures { result ≡ run_parts (ea.with_data line register opmode operand size (column_of allowed) reason) (Ok e) }
 {
-    let e1 = encode_state::operation(
-        e,
+    let e = e.operation(
         line,
         encode_state::register_bits(register),
         opmode,
         isa_operands::ea_field(operand),
     );
-    let e2 = encode_state::data_register(e1, register);
-    effective(e2, operand, size, allowed, reason)
+    let e = e.data_register(register)?;
+    effective(e, operand, size, allowed, reason)
 }
 
 // The same with an address register there.
+#[tactic(auto, unfolding(encode_spec::specs::Ea::with_address))]
 pub fn with_address(
     e: Encoder,
     line: u16,
@@ -295,22 +318,22 @@ pub fn with_address(
     size: Size,
     allowed: u16,
     reason: u8,
-) -> Encoder
+) -> Result<Encoder, Refusal>
     requires { (line < 16) × (opmode < 8) }
-    ensures { result ≡ run_parts (ea.with_address line register opmode operand size (column_of allowed) reason) e }
+    ensures { result ≡ run_parts (ea.with_address line register opmode operand size (column_of allowed) reason) (Ok e) }
 {
-    let e1 = encode_state::operation(
-        e,
+    let e = e.operation(
         line,
         encode_state::register_bits(register),
         opmode,
         isa_operands::ea_field(operand),
     );
-    let e2 = encode_state::address_register(e1, register);
-    effective(e2, operand, size, allowed, reason)
+    let e = e.address_register(register)?;
+    effective(e, operand, size, allowed, reason)
 }
 
 // A data register into memory or another data register.
+#[tactic(auto, unfolding(encode_spec::specs::Ea::from_data, encode_spec::specs::Ea::with_data))]
 pub fn from_data(
     e: Encoder,
     line: u16,
@@ -319,13 +342,13 @@ pub fn from_data(
     source: Operand,
     destination: Operand,
     size: Size,
-) -> Encoder
+) -> Result<Encoder, Refusal>
     requires { line < 16 }
-    ensures { result ≡ run_parts (ea.from_data line (column_of allowed) reason source destination size) e }
+    ensures { result ≡ run_parts (ea.from_data line (column_of allowed) reason source destination size) (Ok e) }
 {
-    let e1 = encode_state::allow(e, isa_operands::is_register(source), 3);
+    let e = e.allow(isa_operands::is_register(source), 3)?;
     with_data(
-        e1,
+        e,
         line,
         isa_operands::register_in(source),
         4 + encode_state::standard_size(size),

@@ -1,14 +1,13 @@
 // `encode` for Rust and C: from the numbers of an instruction and an address to words (docs/BENCHMARKS.md).
 #![tactic(auto)]
 
-ghost use Rattle.std.specs.Prelude.{◌≡◌};
-ghost use Rattle.numeric_places.specs.Places.{built_from};
+ghost use Rattle.std.specs.Prelude.{◌≡◌, length};
+ghost use Rattle.numeric_form.specs.Numbers.{as_built};
 ghost use Rattle.encode_export.specs.Answer.{answered_as, answer_for};
-ghost use Rattle.numeric_fields.specs.Number.{numbers_in};
+ghost use Rattle.encode_export.specs.Places.{numbers_in, built_from, literals_from};
 
-use isa::Encoded;
-use numeric_places::Numbers;
-use numeric_spec::Built;
+use base_spec::Literal;
+use isa::{Encoded, Instruction};
 
 // The words and their count, or the refusal; 7 where the numbers are not in the form.
 #[repr(C)]
@@ -34,10 +33,7 @@ fn answered(e: Encoded) -> Answer
 {
     let words = e.words;
     Answer {
-        words: [
-            words[0], words[1], words[2], words[3], words[4], words[5], words[6], words[7],
-            words[8], words[9], words[10],
-        ],
+        words,
         count: e.count,
         number: e.number,
         detail: e.detail,
@@ -45,12 +41,49 @@ fn answered(e: Encoded) -> Answer
     }
 }
 
-fn placed(built: Built, address: u32) -> Answer
-    ensures { result ≡ answer_for built address }
+// Two arrays and a count come from C; from here on they are literals.
+fn literals(negative: &[bool; 24], magnitude: &[u64; 24]) -> [Literal; 24]
+    requires { (length negative.now ≡ 24) × (length magnitude.now ≡ 24) }
+    ensures { result ≡ literals_from negative.now magnitude.now }
+{
+    let mut literals = [Literal {
+        negative: false,
+        magnitude: 0,
+    }; 24];
+    let mut i: usize = 0;
+    while i < 24 {
+        literals[i] = Literal {
+            negative: negative[i],
+            magnitude: magnitude[i],
+        };
+        i += 1;
+    }
+    literals
+}
+
+// The instruction whose numbers are all those from a place on.
+fn build(
+    count: usize,
+    negative: &[bool; 24],
+    magnitude: &[u64; 24],
+    from: usize,
+) -> Option<Instruction>
+    ensures { as_built result ≡ built_from (numbers_in count negative.now magnitude.now) from }
+{
+    let literals = literals(negative, magnitude);
+    if from <= count && count <= 24 {
+        numeric_form::build(&literals[from..count])
+    } else {
+        None
+    }
+}
+
+fn placed(built: Option<Instruction>, address: u32) -> Answer
+    ensures { result ≡ answer_for (as_built built) address }
 {
     match built {
-        Built::Instruction(i) => answered(m68k_encode::encode(i, address)),
-        Built::NotInForm => Answer {
+        Some(i) => answered(m68k_encode::encode(i, address)),
+        None => Answer {
             words: [0; 11],
             count: 0,
             number: 7,
@@ -70,12 +103,7 @@ pub extern "C" fn encode_export_once(
 ) -> Answer
     ensures { result ≡ answer_for (built_from (numbers_in count negative.now magnitude.now) 0) address }
 {
-    let numbers = Numbers {
-        count,
-        negative: *negative,
-        magnitude: *magnitude,
-    };
-    placed(numeric_build::build(numbers, 0), address)
+    placed(build(count, negative, magnitude, 0), address)
 }
 
 // The same at two addresses: built once, encoded twice.
@@ -89,12 +117,7 @@ pub extern "C" fn encode_export_twice(
 ) -> Answers
     ensures { (result.first ≡ answer_for (built_from (numbers_in count negative.now magnitude.now) 0) address) × (result.second ≡ answer_for (built_from (numbers_in count negative.now magnitude.now) 0) other) }
 {
-    let numbers = Numbers {
-        count,
-        negative: *negative,
-        magnitude: *magnitude,
-    };
-    let built = numeric_build::build(numbers, 0);
+    let built = build(count, negative, magnitude, 0);
     let first = placed(built, address);
     let second = placed(built, other);
     Answers { first, second }

@@ -1,17 +1,24 @@
 // Logical instructions, shifts and rotates.
 #![tactic(auto)]
 
-ghost use Rattle.std.specs.Prelude.{◌≡◌, ◌<◌};
+ghost use Rattle.std.specs.Prelude.{◌≡◌, ◌<◌, Ok};
 ghost use Rattle.encode_spec.specs.Logic.{logical_parts, shift_kind, left_bit, count_bits, count_items, shift_register_parts, is_one, shift_memory_parts, shift_parts};
 ghost use Rattle.encode_state.specs.Encoder.{run, run_parts};
 
-use encode_state::Encoder;
+use encode_state::{Encoder, Refusal};
 use isa::{Field, Operand, RegisterOperand, ShiftDirection, ShiftOperation, Size};
 
 // AND and OR: <ea>,Dn or Dn,<ea>.
-pub fn logical(e: Encoder, line: u16, source: Operand, destination: Operand, size: Size) -> Encoder
+#[tactic(auto, unfolding(encode_spec::specs::Logic::logical_parts, encode_spec::specs::Ea::with_data, encode_spec::specs::Ea::from_data))]
+pub fn logical(
+    e: Encoder,
+    line: u16,
+    source: Operand,
+    destination: Operand,
+    size: Size,
+) -> Result<Encoder, Refusal>
     requires { line < 16 }
-    ensures { result ≡ run_parts (logical_parts line source destination size) e }
+    ensures { result ≡ run_parts (logical_parts line source destination size) (Ok e) }
 {
     if isa_operands::is_register(destination) {
         let register = isa_operands::register_in(destination);
@@ -72,19 +79,20 @@ pub fn count_bits(count: Operand) -> u16
 }
 
 // A count is a data register or 1 to 8.
-pub fn shift_count(e: Encoder, count: Operand) -> Encoder
-    ensures { result ≡ run (count_items count) e }
+pub fn shift_count(e: Encoder, count: Operand) -> Result<Encoder, Refusal>
+    ensures { result ≡ run (count_items count) (Ok e) }
 {
     if isa_operands::is_register(count) {
-        encode_state::data_register(e, isa_operands::register_in(count))
+        e.data_register(isa_operands::register_in(count))
     } else if isa_operands::is_immediate(count) {
-        encode_state::fits(e, Field::Count, isa_operands::immediate_in(count) as i64)
+        e.fits(Field::Count, isa_operands::immediate_in(count) as i64)
     } else {
-        encode_state::no_encoding(e, 63)
+        Err(Refusal::NoEncoding(63))
     }
 }
 
 // A shift of a data register.
+#[tactic(auto, unfolding(encode_spec::specs::Logic::shift_register_parts))]
 pub fn shift_register(
     e: Encoder,
     operation: ShiftOperation,
@@ -92,15 +100,15 @@ pub fn shift_register(
     register: RegisterOperand,
     direction: ShiftDirection,
     size: Size,
-) -> Encoder
-    ensures { result ≡ run_parts (shift_register_parts operation count register direction size) e }
+) -> Result<Encoder, Refusal>
+    ensures { result ≡ run_parts (shift_register_parts operation count register direction size) (Ok e) }
 {
     let opmode = 4 * left_bit(direction) + encode_state::standard_size(size);
     let by_register = encode_state::bit(isa_operands::is_register(count));
     let low = 32 * by_register + 8 * shift_kind(operation) + encode_state::register_bits(register);
-    let e1 = encode_state::operation(e, 14, count_bits(count), opmode, low);
-    let e2 = encode_state::data_register(e1, register);
-    shift_count(e2, count)
+    let e = e.operation(14, count_bits(count), opmode, low);
+    let e = e.data_register(register)?;
+    shift_count(e, count)
 }
 
 // Whether a count is the immediate 1.
@@ -111,6 +119,7 @@ pub fn is_one(count: Operand) -> bool
 }
 
 // A shift in memory, of a word by one place.
+#[tactic(auto, unfolding(encode_spec::specs::Logic::shift_memory_parts, encode_spec::specs::Ea::single))]
 pub fn shift_memory(
     e: Encoder,
     operation: ShiftOperation,
@@ -118,13 +127,13 @@ pub fn shift_memory(
     target: Operand,
     direction: ShiftDirection,
     size: Size,
-) -> Encoder
-    ensures { result ≡ run_parts (shift_memory_parts operation count target direction size) e }
+) -> Result<Encoder, Refusal>
+    ensures { result ≡ run_parts (shift_memory_parts operation count target direction size) (Ok e) }
 {
-    let e1 = encode_state::allow(e, is_one(count) & encode_state::is_word(size), 64);
+    let e = e.allow(is_one(count) & encode_state::is_word(size), 64)?;
     let opmode = 4 * left_bit(direction) + 3;
     encode_ea::single(
-        e1,
+        e,
         14,
         shift_kind(operation),
         opmode,
@@ -136,6 +145,7 @@ pub fn shift_memory(
 }
 
 // A shift or rotate.
+#[tactic(auto, unfolding(encode_spec::specs::Logic::shift_parts, encode_spec::specs::Logic::shift_register_parts, encode_spec::specs::Logic::shift_memory_parts, encode_spec::specs::Ea::single))]
 pub fn shift(
     e: Encoder,
     operation: ShiftOperation,
@@ -143,8 +153,8 @@ pub fn shift(
     target: Operand,
     direction: ShiftDirection,
     size: Size,
-) -> Encoder
-    ensures { result ≡ run_parts (shift_parts operation count target direction size) e }
+) -> Result<Encoder, Refusal>
+    ensures { result ≡ run_parts (shift_parts operation count target direction size) (Ok e) }
 {
     if isa_operands::is_register(target) {
         shift_register(

@@ -1,14 +1,14 @@
 // The operations of each shape, each handed to its group.
 #![tactic(auto)]
 
-ghost use Rattle.std.specs.Prelude.{◌≡◌, ◌<◌};
+ghost use Rattle.std.specs.Prelude.{◌≡◌, ◌<◌, Ok};
 ghost use Rattle.encode_spec.specs.Instruction.{register_parts, transfer_parts, pair_parts, word_parts, unsized_register_parts, unsized_one_parts, unsized_pair_parts, one_parts, branches_parts, links_parts, packs_parts, typed_two};
 ghost use Rattle.encode_spec.specs.Ea.{single, data_alterable};
 ghost use Rattle.isa_spec.specs.Mode.{control_column, data_column};
 ghost use Rattle.isa.specs.declared.Size.TheVariants.{Word, Long};
 ghost use Rattle.encode_state.specs.Encoder.{run, run_parts, next_address};
 
-use encode_state::Encoder;
+use encode_state::{Encoder, Refusal};
 use isa::{
     BranchOperation, BranchSize, Condition, LinkOperation, OneOperation, Operand, PackOperation,
     PairOperation, RegisterOperand, RegisterOperation, Sign, Size, TargetDirection,
@@ -17,14 +17,15 @@ use isa::{
 };
 
 // ADDA SUBA CMPA MOVEA CMP CHK2 CMP2.
+#[tactic(auto, unfolding(encode_spec::specs::Instruction::register_parts))]
 pub fn into_register(
     e: Encoder,
     op: RegisterOperation,
     o: Operand,
     r: RegisterOperand,
     s: Size,
-) -> Encoder
-    ensures { result ≡ run_parts (register_parts op o r s) e }
+) -> Result<Encoder, Refusal>
+    ensures { result ≡ run_parts (register_parts op o r s) (Ok e) }
 {
     match op {
         RegisterOperation::ADDA => encode_arithmetic::into_address(e, 13, 44, o, r, s),
@@ -38,6 +39,7 @@ pub fn into_register(
 }
 
 // MOVEP MOVES.
+#[tactic(auto, unfolding(encode_spec::specs::Instruction::transfer_parts))]
 pub fn transfer(
     e: Encoder,
     op: TransferOperation,
@@ -45,8 +47,8 @@ pub fn transfer(
     s: Size,
     r: RegisterOperand,
     o: Operand,
-) -> Encoder
-    ensures { result ≡ run_parts (transfer_parts op direction s r o) e }
+) -> Result<Encoder, Refusal>
+    ensures { result ≡ run_parts (transfer_parts op direction s r o) (Ok e) }
 {
     match op {
         TransferOperation::MOVEP => encode_movement::movep(e, direction, s, r, o),
@@ -55,8 +57,15 @@ pub fn transfer(
 }
 
 // MOVE ADD SUB ADDX SUBX CMPM OR AND EOR.
-pub fn pair(e: Encoder, op: PairOperation, o: Operand, d: Operand, s: Size) -> Encoder
-    ensures { result ≡ run_parts (pair_parts op o d s) e }
+#[tactic(auto, unfolding(encode_spec::specs::Instruction::pair_parts))]
+pub fn pair(
+    e: Encoder,
+    op: PairOperation,
+    o: Operand,
+    d: Operand,
+    s: Size,
+) -> Result<Encoder, Refusal>
+    ensures { result ≡ run_parts (pair_parts op o d s) (Ok e) }
 {
     match op {
         PairOperation::MOVE => encode_movement::move_data(e, o, d, s),
@@ -92,14 +101,15 @@ pub fn pair(e: Encoder, op: PairOperation, o: Operand, d: Operand, s: Size) -> E
 }
 
 // DIVx MULx.
+#[tactic(auto, unfolding(encode_spec::specs::Instruction::word_parts))]
 pub fn word_into_data(
     e: Encoder,
     op: WordOperation,
     o: Operand,
     r: RegisterOperand,
     sign: Sign,
-) -> Encoder
-    ensures { result ≡ run_parts (word_parts op o r sign) e }
+) -> Result<Encoder, Refusal>
+    ensures { result ≡ run_parts (word_parts op o r sign) (Ok e) }
 {
     let opmode = 3 + 4 * encode_arithmetic::signed_bit(sign);
     match op {
@@ -127,13 +137,14 @@ pub fn word_into_data(
 }
 
 // LEA CHK CHKL.
+#[tactic(auto, unfolding(encode_spec::specs::Instruction::unsized_register_parts))]
 pub fn unsized_into_register(
     e: Encoder,
     op: UnsizedRegisterOperation,
     o: Operand,
     r: RegisterOperand,
-) -> Encoder
-    ensures { result ≡ run_parts (unsized_register_parts op o r) e }
+) -> Result<Encoder, Refusal>
+    ensures { result ≡ run_parts (unsized_register_parts op o r) (Ok e) }
 {
     match op {
         UnsizedRegisterOperation::LEA => encode_ea::with_address(
@@ -170,9 +181,15 @@ pub fn unsized_into_register(
 }
 
 // A control operand: PEA JSR JMP.
-fn control_operand(e: Encoder, x: u16, opmode: u16, o: Operand, reason: u8) -> Encoder
+fn control_operand(
+    e: Encoder,
+    x: u16,
+    opmode: u16,
+    o: Operand,
+    reason: u8,
+) -> Result<Encoder, Refusal>
     requires { (x < 8) × (opmode < 8) }
-    ensures { result ≡ run_parts (single 4 x opmode o Long control_column reason) e }
+    ensures { result ≡ run_parts (single 4 x opmode o Long control_column reason) (Ok e) }
 {
     encode_ea::single(
         e,
@@ -187,24 +204,32 @@ fn control_operand(e: Encoder, x: u16, opmode: u16, o: Operand, reason: u8) -> E
 }
 
 // A word read from a data operand: MOVE to CCR and SR.
-fn word_read(e: Encoder, x: u16, o: Operand, reason: u8) -> Encoder
+fn word_read(e: Encoder, x: u16, o: Operand, reason: u8) -> Result<Encoder, Refusal>
     requires { x < 8 }
-    ensures { result ≡ run_parts (single 4 x 3 o Word data_column reason) e }
+    ensures { result ≡ run_parts (single 4 x 3 o Word data_column reason) (Ok e) }
 {
     encode_ea::single(e, 4, x, 3, o, Size::Word, isa_operands::DATA, reason)
 }
 
 // A data alterable operand: NBCD TAS, and MOVE from CCR and SR.
-fn written(e: Encoder, x: u16, opmode: u16, o: Operand, s: Size, reason: u8) -> Encoder
+fn written(
+    e: Encoder,
+    x: u16,
+    opmode: u16,
+    o: Operand,
+    s: Size,
+    reason: u8,
+) -> Result<Encoder, Refusal>
     requires { (x < 8) × (opmode < 8) }
-    ensures { result ≡ run_parts (single 4 x opmode o s data_alterable reason) e }
+    ensures { result ≡ run_parts (single 4 x opmode o s data_alterable reason) (Ok e) }
 {
     encode_ea::single(e, 4, x, opmode, o, s, isa_operands::DATA_ALTERABLE, reason)
 }
 
 // PEA NBCD JSR JMP TAS, and MOVE to and from CCR and SR.
-pub fn unsized_one(e: Encoder, op: UnsizedOneOperation, o: Operand) -> Encoder
-    ensures { result ≡ run_parts (unsized_one_parts op o) e }
+#[tactic(auto, unfolding(encode_spec::specs::Instruction::unsized_one_parts))]
+pub fn unsized_one(e: Encoder, op: UnsizedOneOperation, o: Operand) -> Result<Encoder, Refusal>
+    ensures { result ≡ run_parts (unsized_one_parts op o) (Ok e) }
 {
     match op {
         UnsizedOneOperation::PEA => control_operand(e, 4, 1, o, 18),
@@ -220,8 +245,14 @@ pub fn unsized_one(e: Encoder, op: UnsizedOneOperation, o: Operand) -> Encoder
 }
 
 // ABCD SBCD BTST BCLR BSET BCHG.
-pub fn unsized_pair(e: Encoder, op: UnsizedPairOperation, o: Operand, d: Operand) -> Encoder
-    ensures { result ≡ run_parts (unsized_pair_parts op o d) e }
+#[tactic(auto, unfolding(encode_spec::specs::Instruction::unsized_pair_parts))]
+pub fn unsized_pair(
+    e: Encoder,
+    op: UnsizedPairOperation,
+    o: Operand,
+    d: Operand,
+) -> Result<Encoder, Refusal>
+    ensures { result ≡ run_parts (unsized_pair_parts op o d) (Ok e) }
 {
     match op {
         UnsizedPairOperation::ABCD => encode_arithmetic::extended(e, 12, 4, o, d),
@@ -234,8 +265,9 @@ pub fn unsized_pair(e: Encoder, op: UnsizedPairOperation, o: Operand, d: Operand
 }
 
 // CLR NEG NEGX NOT TST.
-pub fn one_operand(e: Encoder, op: OneOperation, o: Operand, s: Size) -> Encoder
-    ensures { result ≡ run_parts (one_parts op o s) e }
+#[tactic(auto, unfolding(encode_spec::specs::Instruction::one_parts))]
+pub fn one_operand(e: Encoder, op: OneOperation, o: Operand, s: Size) -> Result<Encoder, Refusal>
+    ensures { result ≡ run_parts (one_parts op o s) (Ok e) }
 {
     let opmode = encode_state::standard_size(s);
     match op {
@@ -248,8 +280,14 @@ pub fn one_operand(e: Encoder, op: OneOperation, o: Operand, s: Size) -> Encoder
 }
 
 // BRA BSR.
-pub fn branches(e: Encoder, op: BranchOperation, target: u32, s: BranchSize) -> Encoder
-    ensures { result ≡ run_parts (branches_parts op target s) e }
+#[tactic(auto, unfolding(encode_spec::specs::Instruction::branches_parts))]
+pub fn branches(
+    e: Encoder,
+    op: BranchOperation,
+    target: u32,
+    s: BranchSize,
+) -> Result<Encoder, Refusal>
+    ensures { result ≡ run_parts (branches_parts op target s) (Ok e) }
 {
     match op {
         BranchOperation::BRA => encode_control::branch(e, Condition::True, target, s),
@@ -258,8 +296,14 @@ pub fn branches(e: Encoder, op: BranchOperation, target: u32, s: BranchSize) -> 
 }
 
 // LINK LINK.L.
-pub fn links(e: Encoder, op: LinkOperation, r: RegisterOperand, displacement: u32) -> Encoder
-    ensures { result ≡ run_parts (links_parts op r displacement) e }
+#[tactic(auto, unfolding(encode_spec::specs::Instruction::links_parts))]
+pub fn links(
+    e: Encoder,
+    op: LinkOperation,
+    r: RegisterOperand,
+    displacement: u32,
+) -> Result<Encoder, Refusal>
+    ensures { result ≡ run_parts (links_parts op r displacement) (Ok e) }
 {
     match op {
         LinkOperation::LINK => encode_movement::link(e, r, displacement),
@@ -268,8 +312,15 @@ pub fn links(e: Encoder, op: LinkOperation, r: RegisterOperand, displacement: u3
 }
 
 // PACK UNPK.
-pub fn packs(e: Encoder, op: PackOperation, o: Operand, d: Operand, adjustment: u16) -> Encoder
-    ensures { result ≡ run_parts (packs_parts op o d adjustment) e }
+#[tactic(auto, unfolding(encode_spec::specs::Instruction::packs_parts))]
+pub fn packs(
+    e: Encoder,
+    op: PackOperation,
+    o: Operand,
+    d: Operand,
+    adjustment: u16,
+) -> Result<Encoder, Refusal>
+    ensures { result ≡ run_parts (packs_parts op o d adjustment) (Ok e) }
 {
     match op {
         PackOperation::PACK => encode_bits::pack(e, 5, o, d, adjustment),
@@ -278,8 +329,9 @@ pub fn packs(e: Encoder, op: PackOperation, o: Operand, d: Operand, adjustment: 
 }
 
 // Refusal 1 of two operands.
-pub fn typed_two(e: Encoder, o: Operand, d: Operand) -> Encoder
-    ensures { result ≡ run (typed_two o d (next_address e)) e }
+pub fn typed_two(e: Encoder, o: Operand, d: Operand) -> Result<Encoder, Refusal>
+    ensures { result ≡ run (typed_two o d (next_address e)) (Ok e) }
 {
-    encode_ea::typed(encode_ea::typed(e, o), d)
+    let e = encode_ea::typed(e, o)?;
+    encode_ea::typed(e, d)
 }

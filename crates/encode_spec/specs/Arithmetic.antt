@@ -16,8 +16,8 @@ use Rattle.isa.specs.declared.QuickOperation.{QuickOperation}
 use Rattle.isa.specs.declared.QuickOperation.TheVariants.{ADDQ, SUBQ}
 use Rattle.isa.specs.declared.Sign.{Sign}
 use Rattle.isa.specs.declared.Sign.TheVariants.{Signed, Unsigned}
-use Rattle.isa.specs.declared.RegisterChoice.{RegisterChoice}
-use Rattle.isa.specs.declared.RegisterChoice.TheVariants.{None, Some}
+use Rattle.std.specs.declared.option.Option.{Option}
+use Rattle.std.specs.declared.option.Option.TheVariants.{None, Some}
 
 -- ORI ANDI SUBI ADDI EORI CMPI: the immediate's words before the destination's
 abbrev pub immediate_kind : ImmediateOperation → ℕ
@@ -103,15 +103,15 @@ signed_bit Signed = 1
 signed_bit Unsigned = 0
 
 -- MULS.L MULU.L: Dl in bits 14 to 12 of the extension word, and Dh in bits 2 to 0 of a 64-bit product
-abbrev pub high_number : RegisterChoice → ℕ
+abbrev pub high_number : Option ℕ → ℕ
 high_number None = 0
 high_number (Some n) = n
 
-abbrev pub high_bits : RegisterChoice → ℕ
+abbrev pub high_bits : Option ℕ → ℕ
 high_bits None = 0
 high_bits (Some n) = 1024 + n % 8
 
-unfoldable pub mull_parts : Operand → ℕ → RegisterChoice → Sign → List Part
+unfoldable pub mull_parts : Operand → ℕ → Option ℕ → Sign → List Part
 mull_parts source low high sign =
     fixed
     (operation 4 6 0 (ea_field source) ∷ register (high_number high) ∷ register low

@@ -18,7 +18,7 @@ use Rattle.isa.specs.declared.BranchSize.{BranchSize}
 use Rattle.isa.specs.declared.Condition.{Condition}
 use Rattle.isa.specs.declared.Condition.TheVariants.{True, False}
 use Rattle.isa.specs.declared.Sign.TheVariants.{Signed}
-use Rattle.isa.specs.declared.RegisterChoice.TheVariants.{None}
+use Rattle.std.specs.declared.option.Option.TheVariants.{None}
 use Rattle.isa.specs.declared.BitFieldOperation.{BitFieldOperation}
 use Rattle.isa.specs.declared.PairOperation.TheVariants.{MOVE}
 use Rattle.isa.specs.declared.ImmediateOperation.TheVariants.{ADDI}

@@ -1,67 +1,77 @@
 // System control and the multiprocessor instructions.
 #![tactic(auto)]
 
-ghost use Rattle.std.specs.Prelude.{cond, ◌≡◌, ◌<◌};
+ghost use Rattle.std.specs.Prelude.{cond, ◌≡◌, ◌<◌, Ok};
 ghost use Rattle.encode_spec.specs.System.{status_operation, status_parts, condition_code_operation, condition_code_parts, vector_parts, moveusp_parts, movec_parts, moves_parts, cas_parts, cas2_items, cas2_parts, raw_parts, no_operand_parts};
 ghost use Rattle.encode_state.specs.Encoder.{step, run, run_parts};
 
-use encode_state::Encoder;
+use encode_state::{Encoder, Refusal};
 use isa::{
     ConditionCodeOperation, Field, NoOperandOperation, Operand, RawOperation, RegisterOperand,
     Size, StatusOperation, TargetDirection, VectorOperation,
 };
 
 // The operation word of ANDI, ORI and EORI to SR, and of STOP.
-fn status_operation(e: Encoder, operation: StatusOperation) -> Encoder
+fn status_operation(e: Encoder, operation: StatusOperation) -> Result<Encoder, Refusal>
     ensures { result ≡ step e (status_operation operation) }
 {
     match operation {
-        StatusOperation::ANDItoSR => encode_state::operation(e, 0, 1, 1, 60),
-        StatusOperation::ORItoSR => encode_state::operation(e, 0, 0, 1, 60),
-        StatusOperation::EORItoSR => encode_state::operation(e, 0, 5, 1, 60),
-        StatusOperation::STOP => encode_state::operation(e, 4, 7, 1, 50),
+        StatusOperation::ANDItoSR => Ok(e.operation(0, 1, 1, 60)),
+        StatusOperation::ORItoSR => Ok(e.operation(0, 0, 1, 60)),
+        StatusOperation::EORItoSR => Ok(e.operation(0, 5, 1, 60)),
+        StatusOperation::STOP => Ok(e.operation(4, 7, 1, 50)),
     }
 }
 
 // ANDI, ORI and EORI to SR, and STOP.
-pub fn status(e: Encoder, operation: StatusOperation, value: u16) -> Encoder
-    ensures { result ≡ run_parts (status_parts operation value) e }
+#[tactic(auto, unfolding(encode_spec::specs::System::status_parts))]
+pub fn status(e: Encoder, operation: StatusOperation, value: u16) -> Result<Encoder, Refusal>
+    ensures { result ≡ run_parts (status_parts operation value) (Ok e) }
 {
-    let e1 = status_operation(e, operation);
-    encode_state::word(e1, value)
+    let e = status_operation(e, operation)?;
+    Ok(e.word(value))
 }
 
 // The operation word of ANDI, ORI and EORI to CCR.
-fn condition_code_operation(e: Encoder, operation: ConditionCodeOperation) -> Encoder
+fn condition_code_operation(
+    e: Encoder,
+    operation: ConditionCodeOperation,
+) -> Result<Encoder, Refusal>
     ensures { result ≡ step e (condition_code_operation operation) }
 {
     match operation {
-        ConditionCodeOperation::ANDItoCCR => encode_state::operation(e, 0, 1, 0, 60),
-        ConditionCodeOperation::ORItoCCR => encode_state::operation(e, 0, 0, 0, 60),
-        ConditionCodeOperation::EORItoCCR => encode_state::operation(e, 0, 5, 0, 60),
+        ConditionCodeOperation::ANDItoCCR => Ok(e.operation(0, 1, 0, 60)),
+        ConditionCodeOperation::ORItoCCR => Ok(e.operation(0, 0, 0, 60)),
+        ConditionCodeOperation::EORItoCCR => Ok(e.operation(0, 5, 0, 60)),
     }
 }
 
 // ANDI, ORI and EORI to CCR.
-pub fn condition_code(e: Encoder, operation: ConditionCodeOperation, value: u8) -> Encoder
-    ensures { result ≡ run_parts (condition_code_parts operation value) e }
+#[tactic(auto, unfolding(encode_spec::specs::System::condition_code_parts))]
+pub fn condition_code(
+    e: Encoder,
+    operation: ConditionCodeOperation,
+    value: u8,
+) -> Result<Encoder, Refusal>
+    ensures { result ≡ run_parts (condition_code_parts operation value) (Ok e) }
 {
-    let e1 = condition_code_operation(e, operation);
-    encode_state::word(e1, value as u16)
+    let e = condition_code_operation(e, operation)?;
+    Ok(e.word(value as u16))
 }
 
 // TRAP and BKPT.
-pub fn vector(e: Encoder, operation: VectorOperation, value: u8) -> Encoder
-    ensures { result ≡ run_parts (vector_parts operation value) e }
+#[tactic(auto, unfolding(encode_spec::specs::System::vector_parts))]
+pub fn vector(e: Encoder, operation: VectorOperation, value: u8) -> Result<Encoder, Refusal>
+    ensures { result ≡ run_parts (vector_parts operation value) (Ok e) }
 {
     match operation {
         VectorOperation::TRAP => {
-            let e1 = encode_state::operation(e, 4, 7, 1, (value % 16) as u16);
-            encode_state::fits(e1, Field::TrapVector, value as i64)
+            let e = e.operation(4, 7, 1, (value % 16) as u16);
+            e.fits(Field::TrapVector, value as i64)
         }
         VectorOperation::BKPT => {
-            let e1 = encode_state::operation(e, 4, 4, 1, 8 + (value % 8) as u16);
-            encode_state::fits(e1, Field::BreakpointVector, value as i64)
+            let e = e.operation(4, 4, 1, 8 + (value % 8) as u16);
+            e.fits(Field::BreakpointVector, value as i64)
         }
     }
 }
@@ -74,84 +84,100 @@ fn usp_field(to_usp: bool) -> u16
 }
 
 // MOVE USP.
-pub fn moveusp(e: Encoder, to_usp: bool, register: RegisterOperand) -> Encoder
-    ensures { result ≡ run_parts (moveusp_parts to_usp register) e }
+#[tactic(auto, unfolding(encode_spec::specs::System::moveusp_parts))]
+pub fn moveusp(e: Encoder, to_usp: bool, register: RegisterOperand) -> Result<Encoder, Refusal>
+    ensures { result ≡ run_parts (moveusp_parts to_usp register) (Ok e) }
 {
-    let e1 = encode_state::operation(
-        e,
+    let e = e.operation(
         4,
         7,
         1,
         usp_field(to_usp) + encode_state::register_bits(register),
     );
-    encode_state::address_register(e1, register)
+    e.address_register(register)
 }
 
 // MOVEC.
-pub fn movec(e: Encoder, to_control: bool, control: u16, register: RegisterOperand) -> Encoder
-    ensures { result ≡ run_parts (movec_parts to_control control register) e }
+#[tactic(auto, unfolding(encode_spec::specs::System::movec_parts))]
+pub fn movec(
+    e: Encoder,
+    to_control: bool,
+    control: u16,
+    register: RegisterOperand,
+) -> Result<Encoder, Refusal>
+    ensures { result ≡ run_parts (movec_parts to_control control register) (Ok e) }
 {
-    let e1 = encode_state::operation(e, 4, 7, 1, 58 + encode_state::bit(to_control));
-    let e2 = encode_state::register(e1, encode_state::number_of_register(register));
-    encode_state::word(e2, encode_state::general(register) * 4096 + control % 4096)
+    let e = e.operation(4, 7, 1, 58 + encode_state::bit(to_control));
+    let e = e.register(encode_state::number_of_register(register))?;
+    Ok(e.word(encode_state::general(register) * 4096 + control % 4096))
 }
 
 // MOVES.
+#[tactic(auto, unfolding(encode_spec::specs::System::moves_parts))]
 pub fn moves(
     e: Encoder,
     direction: TargetDirection,
     size: Size,
     register: RegisterOperand,
     target: Operand,
-) -> Encoder
-    ensures { result ≡ run_parts (moves_parts direction size register target) e }
+) -> Result<Encoder, Refusal>
+    ensures { result ≡ run_parts (moves_parts direction size register target) (Ok e) }
 {
-    let e1 = encode_state::operation(
-        e,
+    let e = e.operation(
         0,
         7,
         encode_state::standard_size(size),
         isa_operands::ea_field(target),
     );
-    let e2 = encode_state::register(e1, encode_state::number_of_register(register));
-    let e3 = encode_state::word(
-        e2,
+    let e = e.register(encode_state::number_of_register(register))?;
+    let e = e.word(
         encode_state::general(register) * 4096 + encode_state::to_memory(direction) * 2048,
     );
-    encode_ea::effective(e3, target, size, isa_operands::MEMORY_ALTERABLE, 24)
+    encode_ea::effective(e, target, size, isa_operands::MEMORY_ALTERABLE, 24)
 }
 
 // CAS.
-pub fn cas(e: Encoder, compare: u8, update: u8, target: Operand, size: Size) -> Encoder
-    ensures { result ≡ run_parts (cas_parts compare update target size) e }
+#[tactic(auto, unfolding(encode_spec::specs::System::cas_parts))]
+pub fn cas(
+    e: Encoder,
+    compare: u8,
+    update: u8,
+    target: Operand,
+    size: Size,
+) -> Result<Encoder, Refusal>
+    ensures { result ≡ run_parts (cas_parts compare update target size) (Ok e) }
 {
-    let e1 = encode_state::operation(
-        e,
+    let e = e.operation(
         0,
         5 + encode_state::standard_size(size),
         3,
         isa_operands::ea_field(target),
     );
-    let e2 = encode_state::register(e1, update);
-    let e3 = encode_state::register(e2, compare);
-    let e4 = encode_state::word(e3, (update % 8) as u16 * 64 + (compare % 8) as u16);
-    encode_ea::effective(e4, target, size, isa_operands::MEMORY_ALTERABLE, 30)
+    let e = e.register(update)?;
+    let e = e.register(compare)?;
+    let e = e.word((update % 8) as u16 * 64 + (compare % 8) as u16);
+    encode_ea::effective(e, target, size, isa_operands::MEMORY_ALTERABLE, 30)
 }
 
 // One of the two extension words of CAS2.
-fn cas2_word(e: Encoder, compare: u8, update: u8, pointer: RegisterOperand) -> Encoder
-    ensures { result ≡ run (cas2_items compare update pointer) e }
+fn cas2_word(
+    e: Encoder,
+    compare: u8,
+    update: u8,
+    pointer: RegisterOperand,
+) -> Result<Encoder, Refusal>
+    ensures { result ≡ run (cas2_items compare update pointer) (Ok e) }
 {
-    let e1 = encode_state::register(e, encode_state::number_of_register(pointer));
-    let e2 = encode_state::register(e1, update);
-    let e3 = encode_state::register(e2, compare);
-    encode_state::word(
-        e3,
+    let e = e.register(encode_state::number_of_register(pointer))?;
+    let e = e.register(update)?;
+    let e = e.register(compare)?;
+    Ok(e.word(
         encode_state::general(pointer) * 4096 + (update % 8) as u16 * 64 + (compare % 8) as u16,
-    )
+    ))
 }
 
 // CAS2.
+#[tactic(auto, unfolding(encode_spec::specs::System::cas2_parts))]
 pub fn cas2(
     e: Encoder,
     compare1: u8,
@@ -161,44 +187,46 @@ pub fn cas2(
     pointer1: RegisterOperand,
     pointer2: RegisterOperand,
     size: Size,
-) -> Encoder
-    ensures { result ≡ run_parts (cas2_parts compare1 compare2 update1 update2 pointer1 pointer2 size) e }
+) -> Result<Encoder, Refusal>
+    ensures { result ≡ run_parts (cas2_parts compare1 compare2 update1 update2 pointer1 pointer2 size) (Ok e) }
 {
-    let e1 = encode_state::operation(e, 0, 6 + encode_state::long_bit(size), 3, 60);
-    let e2 = encode_state::allow(e1, !encode_state::is_byte(size), 31);
-    let e3 = cas2_word(e2, compare1, update1, pointer1);
-    cas2_word(e3, compare2, update2, pointer2)
+    let e = e.operation(0, 6 + encode_state::long_bit(size), 3, 60);
+    let e = e.allow(!encode_state::is_byte(size), 31)?;
+    let e = cas2_word(e, compare1, update1, pointer1)?;
+    cas2_word(e, compare2, update2, pointer2)
 }
 
 // LINEA and LINEF, which stay in their line, and any other word.
-pub fn raw(e: Encoder, operation: RawOperation, word: u16) -> Encoder
-    ensures { result ≡ run_parts (raw_parts operation word) e }
+#[tactic(auto, unfolding(encode_spec::specs::System::raw_parts))]
+pub fn raw(e: Encoder, operation: RawOperation, word: u16) -> Result<Encoder, Refusal>
+    ensures { result ≡ run_parts (raw_parts operation word) (Ok e) }
 {
     match operation {
         RawOperation::LINEA => {
-            let e1 = encode_state::well_formed(e, word / 4096 == 10);
-            encode_state::word(e1, word)
+            let e = e.well_formed(word / 4096 == 10)?;
+            Ok(e.word(word))
         }
         RawOperation::LINEF => {
-            let e1 = encode_state::well_formed(e, word / 4096 == 15);
-            encode_state::word(e1, word)
+            let e = e.well_formed(word / 4096 == 15)?;
+            Ok(e.word(word))
         }
-        RawOperation::IllegalWord => encode_state::word(e, word),
+        RawOperation::IllegalWord => Ok(e.word(word)),
     }
 }
 
 // Instructions without operands.
-pub fn no_operand(e: Encoder, operation: NoOperandOperation) -> Encoder
-    ensures { result ≡ run_parts (no_operand_parts operation) e }
+#[tactic(auto, unfolding(encode_spec::specs::System::no_operand_parts))]
+pub fn no_operand(e: Encoder, operation: NoOperandOperation) -> Result<Encoder, Refusal>
+    ensures { result ≡ run_parts (no_operand_parts operation) (Ok e) }
 {
     match operation {
-        NoOperandOperation::RTE => encode_state::operation(e, 4, 7, 1, 51),
-        NoOperandOperation::RESET => encode_state::operation(e, 4, 7, 1, 48),
-        NoOperandOperation::RTR => encode_state::operation(e, 4, 7, 1, 55),
-        NoOperandOperation::TRAPV => encode_state::operation(e, 4, 7, 1, 54),
-        NoOperandOperation::ILLEGAL => encode_state::operation(e, 4, 5, 3, 60),
-        NoOperandOperation::RTS => encode_state::operation(e, 4, 7, 1, 53),
-        NoOperandOperation::NOP => encode_state::operation(e, 4, 7, 1, 49),
-        NoOperandOperation::SIMHALT => encode_state::long(e, 4294967295),
+        NoOperandOperation::RTE => Ok(e.operation(4, 7, 1, 51)),
+        NoOperandOperation::RESET => Ok(e.operation(4, 7, 1, 48)),
+        NoOperandOperation::RTR => Ok(e.operation(4, 7, 1, 55)),
+        NoOperandOperation::TRAPV => Ok(e.operation(4, 7, 1, 54)),
+        NoOperandOperation::ILLEGAL => Ok(e.operation(4, 5, 3, 60)),
+        NoOperandOperation::RTS => Ok(e.operation(4, 7, 1, 53)),
+        NoOperandOperation::NOP => Ok(e.operation(4, 7, 1, 49)),
+        NoOperandOperation::SIMHALT => Ok(e.long(4294967295)),
     }
 }

@@ -4,10 +4,9 @@ use mathlib.Core.Path.{◌≡◌, refl, sym, ap, ◌∙◌}
 use mathlib.Core.Bool.{Bool, true, false, cond}
 use mathlib.Core.List.{List, [], ◌∷◌, ◌++◌, append_assoc}
 use native.Mathlib.Omega.{arith}
-use native.Mathlib.Numerals.{add-one}
 use lib.Dec.{eqb, leb}
-use lib.ListN.{length, take, drop, get_or, set, length-take, length-drop, take-append-drop}
-use lib.Seq.{take_all, paste, paste-suc, drop-paste, get_or-drop, take-suc}
+use lib.ListN.{length, take, drop, get_or, length-take, length-drop}
+use lib.Seq.{take_all, paste, take-suc}
 use borrow.Author.Tests.{eq-eqb, ne_eqb, lt-ltb, le-leb, lt-leb}
 use Rattle.base_facts.specs.Tests.{Eq, same, other, eq?, cond_true, cond_false}
 use Rattle.base_spec.specs.Written.{placed}
@@ -82,36 +81,11 @@ first_not (b ∷ t) h = go (eq? b 10) (λ k. first_not t k)
     go (same e g) i = absurd (omega (arith, none g, h))
     go (other e g) i = less g (i (omega (arith, long g, h)))
 
--- a byte is read before it is written over
-move_read : (d : List ℕ) (from i : ℕ) → i ≤ length (drop from d) → get_or (paste d 0 (drop from d) i) (from + i) 0 ≡ get_or (drop from d) i 0
-move_read d from i h =
-    let q : from + i ≡ i + from = omega arith in
-    let x = paste d 0 (drop from d) i in
-    let z : 0 + i ≡ i = omega arith in
-    let k : drop i x ≡ drop i d = ap (λ (n : ℕ). drop n x) (sym z) ∙ drop-paste d 0 (drop from d) i (omega arith) h ∙ ap (λ (n : ℕ). drop n d) z in
-    ap (λ (n : ℕ). get_or x n 0) q ∙ sym (get_or-drop i x from 0) ∙ ap (λ (l : List ℕ). get_or l from 0) k ∙ get_or-drop i d from 0
-    ∙ ap (λ (n : ℕ). get_or d n 0) (sym q) ∙ sym (get_or-drop from d i 0)
-
-pub move_next : (d : List ℕ) (from i : ℕ) → i < length d → i < length (drop from d)
-    → set (paste d 0 (drop from d) i) i (get_or (paste d 0 (drop from d) i) (from + i) 0) ≡ paste d 0 (drop from d) (i + 1)
-move_next d from i h g =
-    let z : i ≡ 0 + i = omega arith in
-    let x = paste d 0 (drop from d) i in
-    ap (set x i) (move_read d from i (omega arith)) ∙ ap (λ (n : ℕ). set x n (get_or (drop from d) i 0)) z
-    ∙ rw add-one (paste-suc d 0 (drop from d) i 0 (omega arith) g)
-
-pub moved : (d : List ℕ) (from to i : ℕ) → from ≤ to → to ≤ length d → i ≡ to - from → paste d 0 (drop from d) i ≡ placed d 0 (between from to d)
-moved d from to i h g e =
-    let n : i ≡ length (take (to - from) (drop from d)) = rw (length-take, length-drop) (omega arith) in
-    (λ j. take 0 d ++ take (e j) (drop from d) ++ drop (0 + n j) d)
-
-pub unmoved : (d : List ℕ) (from to : ℕ) → from ≡ 0 → to ≤ length d → d ≡ placed d 0 (between from to d)
-unmoved d from to e h =
-    let n : length (take (to - from) (drop from d)) ≡ to = rw (length-take, length-drop) (omega arith) in
-    let q : to ≡ to - from = omega arith in
-    let z : 0 ≡ from = sym e in
-    let m : to ≡ 0 + length (take (to - from) (drop from d)) = omega (arith, n) in
-    sym (take-append-drop to d) ∙ (λ j. take (q j) (drop (z j) d) ++ drop (m j) d)
+-- a part moved to the front
+pub moved : (d : List ℕ) (from to : ℕ) → from ≤ to → to ≤ length d → paste d 0 (drop from d) (to - from) ≡ placed d 0 (between from to d)
+moved d from to h g =
+    let n : to - from ≡ length (take (to - from) (drop from d)) = rw (length-take, length-drop) (omega arith) in
+    (λ j. take 0 d ++ take (to - from) (drop from d) ++ drop (0 + n j) d)
 
 -- a cut, case by case
 module _ (t : List ℕ) (p e : ℕ) (h : p ≤ length t) (g : e ≡ ended_of (take (length t - p) (drop p t))) where

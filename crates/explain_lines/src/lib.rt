@@ -133,13 +133,6 @@ pub fn keep(text: &mut [u8], from: usize, to: usize) -> usize
     requires { (from ≤ to) × (to ≤ length text.old) }
     ensures { (result ≡ to - from) × (text.new ≡ placed text.old 0 (between from to text.old)) }
 {
-    if from == 0 {
-        return to;
-    }
-    let mut i: usize = 0;
-    while i < to - from {
-        text[i] = text[from + i];
-        i += 1;
-    }
-    i
+    text.copy_within(from..to, 0);
+    to - from
 }

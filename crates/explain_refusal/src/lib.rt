@@ -2,19 +2,20 @@
 #![tactic(auto)]
 
 ghost use Rattle.std.specs.Prelude.{◌≡◌};
+ghost use Rattle.base_spec.specs.Number.{number_in};
 ghost use Rattle.base_text.specs.PartLaws.{parts_from};
 ghost use Rattle.base_spec.specs.Numbers as numbers;
 ghost use Rattle.explain_spec.specs.Refusal.{first_number, others, is_closed, is_below_zero, is_plain, no_refusal, refusal_of, three_or_four, refusal_from, refusal_in};
 
-use base_spec::Number;
+use base_spec::Literal;
 use explain_spec::Refusal;
 
 // What the field that begins at `from` says; none begins past the end.
-fn first_number(line: &[u8], from: usize) -> Number
-    ensures { result ≡ first_number (parts_from 9 line.now from) }
+fn first_number(line: &[u8], from: usize) -> Option<Literal>
+    ensures { number_in result ≡ first_number (parts_from 9 line.now from) }
 {
     if line.len() < from {
-        return Number::No;
+        return None;
     }
     let e = base_text::field_end(line, from);
     base_text::read_number(&line[from..e])
@@ -41,45 +42,33 @@ fn is_closed(line: &[u8], from: usize) -> bool
     sheet_field::equal(&line[from..e], b"=>")
 }
 
-fn is_number(n: Number) -> bool
-    ensures { result ≡ numbers.is_number n }
+fn is_number(n: Option<Literal>) -> bool
+    ensures { result ≡ numbers.is_number (number_in n) }
+{
+    n.is_some()
+}
+
+fn is_below_zero(n: Option<Literal>) -> bool
+    ensures { result ≡ is_below_zero (number_in n) }
 {
     match n {
-        Number::Is {
-            negative: _,
-            magnitude: _,
-        } => true,
-        Number::No => false,
+        Some(literal) => literal.negative,
+        None => false,
     }
 }
 
-fn is_below_zero(n: Number) -> bool
-    ensures { result ≡ is_below_zero n }
+fn magnitude_of(n: Option<Literal>) -> u64
+    ensures { result ≡ numbers.magnitude_of (number_in n) }
 {
     match n {
-        Number::Is {
-            negative,
-            magnitude: _,
-        } => negative,
-        Number::No => false,
-    }
-}
-
-fn magnitude_of(n: Number) -> u64
-    ensures { result ≡ numbers.magnitude_of n }
-{
-    match n {
-        Number::Is {
-            negative: _,
-            magnitude,
-        } => magnitude,
-        Number::No => 0,
+        Some(literal) => literal.magnitude,
+        None => 0,
     }
 }
 
 // A number with no sign.
-fn is_plain(n: Number) -> bool
-    ensures { result ≡ is_plain n }
+fn is_plain(n: Option<Literal>) -> bool
+    ensures { result ≡ is_plain (number_in n) }
 {
     is_number(n) & !is_below_zero(n)
 }
@@ -97,8 +86,14 @@ fn no_refusal() -> Refusal
     }
 }
 
-fn refusal_of(sheet: bool, number: Number, line: Number, detail: Number, value: Number) -> Refusal
-    ensures { result ≡ refusal_of sheet number line detail value }
+fn refusal_of(
+    sheet: bool,
+    number: Option<Literal>,
+    line: Option<Literal>,
+    detail: Option<Literal>,
+    value: Option<Literal>,
+) -> Refusal
+    ensures { result ≡ refusal_of sheet (number_in number) (number_in line) (number_in detail) (number_in value) }
 {
     if is_plain(number) & is_plain(line) & is_plain(detail) & is_number(value) {
         return Refusal {
@@ -114,14 +109,20 @@ fn refusal_of(sheet: bool, number: Number, line: Number, detail: Number, value: 
 }
 
 // Three numbers, or four; the field after the third begins at `from`.
-fn three_or_four(line: &[u8], from: usize, a: Number, b: Number, c: Number) -> Refusal
-    ensures { result ≡ three_or_four a b c (parts_from 9 line.now from) }
+fn three_or_four(
+    line: &[u8],
+    from: usize,
+    a: Option<Literal>,
+    b: Option<Literal>,
+    c: Option<Literal>,
+) -> Refusal
+    ensures { result ≡ three_or_four (number_in a) (number_in b) (number_in c) (parts_from 9 line.now from) }
 {
     if is_closed(line, from) {
-        let none = Number::Is {
+        let none = Some(Literal {
             negative: false,
             magnitude: 0,
-        };
+        });
         return refusal_of(false, a, none, b, c);
     }
     let next = next_field(line, from);

@@ -1,9 +1,7 @@
 -- The refusal that a line prints: `refused`, then number, detail and value, or number, line, detail and value; then the line ends, or `=>` follows.
 use Rattle.std.specs.Prelude.{ℕ, Bool, true, false, cond, not, ◌&&◌, List, [], ◌∷◌}
-use Rattle.base_spec.specs.declared.Number.{Number}
-use Rattle.base_spec.specs.declared.Number.TheVariants.{Is, No}
 use Rattle.base_spec.specs.Parts.{fields}
-use Rattle.base_spec.specs.Number.{number_of}
+use Rattle.base_spec.specs.Number.{Number, Is, No, number_of}
 use Rattle.base_spec.specs.Numbers.{is_number, magnitude_of}
 use Rattle.sheet_spec.specs.Names.{bytes}
 use Rattle.sheet_spec.specs.Line.{equal}

@@ -1,44 +1,44 @@
-// The instructions of the MC68020, as the Rust's encoded.rs has them. Instructions of one shape share a variant.
+// The instructions of the MC68020. Those of one shape share a variant.
 #![tactic(auto)]
 
-// The width an instruction works at.
+/// The width an instruction works at, by its two bits.
 #[derive(Clone, Copy)]
 pub enum Size {
-    Byte,
-    Word,
-    Long,
+    Byte = 0,
+    Word = 1,
+    Long = 2,
 }
 
-// Which way a transfer between registers and memory goes.
+/// Which way a transfer between registers and memory goes.
 #[derive(Clone, Copy)]
 pub enum TargetDirection {
     ToMemory,
     FromMemory,
 }
 
-// One of the sixteen general registers.
+/// One of the sixteen general registers.
 #[derive(Clone, Copy)]
 pub enum RegisterOperand {
     Address(u8),
     Data(u8),
 }
 
-// An index register and the width it is read at.
+/// An index register and the width it is read at.
 #[derive(Clone, Copy)]
 pub struct IndexRegister {
     pub register: RegisterOperand,
     pub size: Size,
 }
 
-// How wide an absolute address is encoded.
+/// How wide an absolute address is encoded.
 #[derive(Clone, Copy)]
 pub enum AddressWidth {
     Word,
     Long,
 }
 
-// An addressing mode with its registers and its value. In Extended, base is an IndexBase (A0 to A7 as 0 to 7, the
-// program counter as 8) and word an ExtensionWord.
+/// An addressing mode with its registers and its value. In Extended, base is an IndexBase (A0 to A7 as 0 to 7, the
+/// program counter as 8) and word an ExtensionWord.
 #[derive(Clone, Copy)]
 pub enum Operand {
     Immediate(u32),
@@ -74,15 +74,15 @@ pub enum Operand {
     },
 }
 
-// How wide a displacement of the full extension word is.
+/// How wide a displacement of the full extension word is, by the two bits that say it.
 #[derive(Clone, Copy)]
 pub enum DisplacementSize {
-    Null,
-    Word,
-    Long,
+    Null = 1,
+    Word = 2,
+    Long = 3,
 }
 
-// Whether and how an Extended operand reads its address from memory.
+/// Whether and how an Extended operand reads its address from memory.
 #[derive(Clone, Copy)]
 pub enum Indirection {
     None,
@@ -90,7 +90,7 @@ pub enum Indirection {
     Postindexed,
 }
 
-// How a branch encodes its displacement.
+/// How a branch encodes its displacement.
 #[derive(Clone, Copy)]
 pub enum BranchSize {
     Short,
@@ -98,69 +98,69 @@ pub enum BranchSize {
     Long,
 }
 
-// The condition of a Bcc, DBcc, Scc or TRAPcc, in the order of its code.
+/// The condition of a Bcc, DBcc, Scc or TRAPcc, by its four-bit code.
 #[derive(Clone, Copy)]
 pub enum Condition {
-    True,
-    False,
-    High,
-    LowOrSame,
-    CarryClear,
-    CarrySet,
-    NotEqual,
-    Equal,
-    OverflowClear,
-    OverflowSet,
-    Plus,
-    Minus,
-    GreaterThanOrEqual,
-    LessThan,
-    GreaterThan,
-    LessThanOrEqual,
+    True = 0,
+    False = 1,
+    High = 2,
+    LowOrSame = 3,
+    CarryClear = 4,
+    CarrySet = 5,
+    NotEqual = 6,
+    Equal = 7,
+    OverflowClear = 8,
+    OverflowSet = 9,
+    Plus = 10,
+    Minus = 11,
+    GreaterThanOrEqual = 12,
+    LessThan = 13,
+    GreaterThan = 14,
+    LessThanOrEqual = 15,
 }
 
-// Which way a shift or rotate moves its bits.
+/// Which way a shift or rotate moves its bits.
 #[derive(Clone, Copy)]
 pub enum ShiftDirection {
     Right,
     Left,
 }
 
-// How a multiply or divide reads its operands.
+/// How a multiply or divide reads its operands.
 #[derive(Clone, Copy)]
 pub enum Sign {
     Signed,
     Unsigned,
 }
 
-// The offset or the width of a bit field: a number, or a data register that holds it.
+/// The offset or the width of a bit field: a number, or a data register that holds it.
 #[derive(Clone, Copy)]
 pub enum FieldValue {
     Immediate(u8),
     Register(u8),
 }
 
-// The offset and the width of a bit field.
+/// The offset and the width of a bit field.
 #[derive(Clone, Copy)]
 pub struct BitField {
     pub offset: FieldValue,
     pub width: FieldValue,
 }
 
-// The eight bit-field instructions, in the order of their code.
+/// The eight bit-field instructions, by their three-bit code.
 #[derive(Clone, Copy)]
 pub enum BitFieldOperation {
-    Test,
-    ExtractUnsigned,
-    Change,
-    ExtractSigned,
-    Clear,
-    FindFirstOne,
-    Set,
-    Insert,
+    Test = 0,
+    ExtractUnsigned = 1,
+    Change = 2,
+    ExtractSigned = 3,
+    Clear = 4,
+    FindFirstOne = 5,
+    Set = 6,
+    Insert = 7,
 }
 
-// The operand of TRAPcc.
+/// The operand of TRAPcc.
 #[derive(Clone, Copy)]
 pub enum TrapOperand {
     None,
@@ -168,172 +168,165 @@ pub enum TrapOperand {
     Long(u32),
 }
 
-// A register number that may be missing.
-#[derive(Clone, Copy)]
-pub enum RegisterChoice {
-    None,
-    Some(u8),
-}
-
-// The operations of each shape.
+// The operations of each shape, numbered by their places among the instructions of encoded.rs.
 #[derive(Clone, Copy)]
 pub enum RegisterOperation {
-    ADDA,
-    SUBA,
-    CMPA,
-    MOVEA,
-    CMP,
-    CHK2,
-    CMP2,
+    ADDA = 0,
+    SUBA = 1,
+    CMPA = 2,
+    MOVEA = 3,
+    CMP = 34,
+    CHK2 = 93,
+    CMP2 = 94,
 }
 
 #[derive(Clone, Copy)]
 pub enum TransferOperation {
-    MOVEP,
-    MOVES,
+    MOVEP = 63,
+    MOVES = 86,
 }
 
 #[derive(Clone, Copy)]
 pub enum PairOperation {
-    MOVE,
-    ADD,
-    SUB,
-    ADDX,
-    SUBX,
-    CMPM,
-    OR,
-    AND,
-    EOR,
+    MOVE = 5,
+    ADD = 6,
+    SUB = 7,
+    ADDX = 8,
+    SUBX = 9,
+    CMPM = 19,
+    OR = 42,
+    AND = 43,
+    EOR = 44,
 }
 
 #[derive(Clone, Copy)]
 pub enum QuickOperation {
-    ADDQ,
-    SUBQ,
+    ADDQ = 10,
+    SUBQ = 12,
 }
 
 #[derive(Clone, Copy)]
 pub enum ImmediateOperation {
-    ADDI,
-    SUBI,
-    ANDI,
-    ORI,
-    EORI,
-    CMPI,
+    ADDI = 13,
+    SUBI = 14,
+    ANDI = 15,
+    ORI = 16,
+    EORI = 17,
+    CMPI = 18,
 }
 
 #[derive(Clone, Copy)]
 pub enum WordOperation {
-    DIVx,
-    MULx,
+    DIVx = 20,
+    MULx = 21,
 }
 
 #[derive(Clone, Copy)]
 pub enum UnsizedRegisterOperation {
-    LEA,
-    CHK,
-    CHKL,
+    LEA = 25,
+    CHK = 76,
+    CHKL = 87,
 }
 
 #[derive(Clone, Copy)]
 pub enum UnsizedOneOperation {
-    PEA,
-    NBCD,
-    JSR,
-    JMP,
-    TAS,
-    MOVEtoCCR,
-    MOVEfromCCR,
-    MOVEtoSR,
-    MOVEfromSR,
+    PEA = 26,
+    NBCD = 31,
+    JSR = 45,
+    JMP = 54,
+    TAS = 74,
+    MOVEtoCCR = 64,
+    MOVEfromCCR = 65,
+    MOVEtoSR = 66,
+    MOVEfromSR = 67,
 }
 
 #[derive(Clone, Copy)]
 pub enum UnsizedPairOperation {
-    ABCD,
-    SBCD,
-    BTST,
-    BCLR,
-    BSET,
-    BCHG,
+    ABCD = 29,
+    SBCD = 30,
+    BTST = 50,
+    BCLR = 51,
+    BSET = 52,
+    BCHG = 53,
 }
 
 #[derive(Clone, Copy)]
 pub enum OneOperation {
-    CLR,
-    NEG,
-    NEGX,
-    NOT,
-    TST,
+    CLR = 23,
+    NEG = 27,
+    NEGX = 28,
+    NOT = 41,
+    TST = 33,
 }
 
 #[derive(Clone, Copy)]
 pub enum ShiftOperation {
-    ASd,
-    ROd,
-    LSd,
-    ROXd,
+    ASd = 46,
+    ROd = 47,
+    LSd = 48,
+    ROXd = 49,
 }
 
 #[derive(Clone, Copy)]
 pub enum PackOperation {
-    PACK,
-    UNPK,
+    PACK = 91,
+    UNPK = 92,
 }
 
 #[derive(Clone, Copy)]
 pub enum BranchOperation {
-    BRA,
-    BSR,
+    BRA = 38,
+    BSR = 55,
 }
 
 #[derive(Clone, Copy)]
 pub enum LinkOperation {
-    LINK,
-    LINKL,
+    LINK = 39,
+    LINKL = 88,
 }
 
 #[derive(Clone, Copy)]
 pub enum StatusOperation {
-    ANDItoSR,
-    ORItoSR,
-    EORItoSR,
-    STOP,
+    ANDItoSR = 71,
+    ORItoSR = 72,
+    EORItoSR = 73,
+    STOP = 58,
 }
 
 #[derive(Clone, Copy)]
 pub enum ConditionCodeOperation {
-    ANDItoCCR,
-    ORItoCCR,
-    EORItoCCR,
+    ANDItoCCR = 68,
+    ORItoCCR = 69,
+    EORItoCCR = 70,
 }
 
 #[derive(Clone, Copy)]
 pub enum VectorOperation {
-    TRAP,
-    BKPT,
+    TRAP = 56,
+    BKPT = 84,
 }
 
 #[derive(Clone, Copy)]
 pub enum RawOperation {
-    LINEA,
-    LINEF,
-    IllegalWord,
+    LINEA = 61,
+    LINEF = 62,
+    IllegalWord = 79,
 }
 
 #[derive(Clone, Copy)]
 pub enum NoOperandOperation {
-    RTE,
-    RESET,
-    RTR,
-    TRAPV,
-    ILLEGAL,
-    RTS,
-    NOP,
-    SIMHALT,
+    RTE = 57,
+    RESET = 59,
+    RTR = 75,
+    TRAPV = 77,
+    ILLEGAL = 78,
+    RTS = 80,
+    NOP = 81,
+    SIMHALT = 82,
 }
 
-// One instruction.
+/// One instruction.
 #[derive(Clone, Copy)]
 pub enum Instruction {
     IntoRegister(RegisterOperation, Operand, RegisterOperand, Size),
@@ -388,7 +381,7 @@ pub enum Instruction {
     MULL {
         source: Operand,
         low: u8,
-        high: RegisterChoice,
+        high: Option<u8>,
         sign: Sign,
     },
     Pack(PackOperation, Operand, Operand, u16),
@@ -422,7 +415,7 @@ pub enum Instruction {
     },
 }
 
-// The fields that hold a number, in the order of their numbers 1 to 20.
+/// The fields that hold a number, in the order of their numbers 1 to 20.
 #[derive(Clone, Copy)]
 pub enum Field {
     ShortBranch,
@@ -447,14 +440,14 @@ pub enum Field {
     BitField,
 }
 
-// A lowest and a highest value.
+/// A lowest and a highest value.
 #[derive(Clone, Copy)]
 pub struct Range {
     pub low: i64,
     pub high: i64,
 }
 
-// The words of an instruction, or the refusal: number, detail and value.
+/// The words of an instruction, or the refusal: number, detail and value.
 #[derive(Clone, Copy)]
 pub struct Encoded {
     pub words: [u16; 11],
@@ -464,7 +457,7 @@ pub struct Encoded {
     pub value: i64,
 }
 
-// The size of an instruction in bytes, or the refusal.
+/// The size of an instruction in bytes, or the refusal.
 #[derive(Clone, Copy)]
 pub struct Measured {
     pub size: u32,

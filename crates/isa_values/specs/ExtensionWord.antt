@@ -11,8 +11,8 @@ use Rattle.isa.specs.declared.Indirection.TheVariants as indirect
 use Rattle.isa_spec.specs.Code.{long_bit, general, bit}
 use Rattle.isa_spec.specs.ExtensionWord.{is_full, index_suppressed, base_size, outer_size}
 use Rattle.isa_values.specs.DisplacementSize.{displacement_bytes, displacement_code}
-use Rattle.isa_values.specs.declared.extension_word.IndexChoice.{IndexChoice}
-use Rattle.isa_values.specs.declared.extension_word.IndexChoice.TheVariants as choice
+use Rattle.std.specs.declared.option.Option.{Option}
+use Rattle.std.specs.declared.option.Option.TheVariants as choice
 
 -- D/A, bit 15, and REGISTER, bits 14 to 12
 abbrev pub index_operand : ℕ → RegisterOperand
@@ -29,7 +29,7 @@ index_register w = record { register = index_operand w; size = index_size w }
 abbrev pub scale_shift : ℕ → ℕ
 scale_shift w = w / 512 % 4
 
-abbrev pub index : ℕ → IndexChoice
+abbrev pub index : ℕ → Option IndexRegister
 index w = cond (index_suppressed w) choice.None (choice.Some (index_register w))
 
 -- the word and the displacements that follow it

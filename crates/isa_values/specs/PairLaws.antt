@@ -1,4 +1,4 @@
--- The pairs that the code works out are those of the definition.
+-- The pairs that sign and width give are those of the definition.
 use Rattle.std.specs.Prelude.{ℕ, zero, suc, ◌+◌, ◌-◌, ◌<◌, ◌≡◌, refl, List, [], ◌∷◌, map, get_or, pos}
 use Rattle.std.proofs.Common.{sym, ap, ◌∙◌, arith}
 use Rattle.isa.specs.declared.Range.{Range}

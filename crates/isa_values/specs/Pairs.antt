@@ -1,5 +1,5 @@
--- How the code works out the pair of a field (02, N3): the field's number gives sign, width in bits and the first value, and
--- these give the pair. That the pairs are those of the definition is `by_number`.
+-- The pair of a field by formula: the field's number gives sign, width in bits and the first value, and these give the
+-- pair. That the pairs are those of the definition is `by_number`.
 use Rattle.std.specs.Prelude.{ℕ, ◌+◌, ◌-◌, ◌^◌, Bool, cond, ◌||◌, ltb, eqb, pos, negsuc}
 use Rattle.isa.specs.declared.Range.{Range}
 use Rattle.isa_spec.specs.Code.{bit}

@@ -4,45 +4,40 @@ ghost use Rattle.isa_spec.specs.Code.{size_code, move_code, is_byte, is_word, lo
 
 use isa::{RegisterOperand, Size, TargetDirection};
 
-// The number of a register.
+/// The number of a register.
 pub fn number_of_register(r: RegisterOperand) -> u8
     ensures { result ≡ number_of_register r }
 {
     match r {
-        RegisterOperand::Data(n) => n,
-        RegisterOperand::Address(n) => n,
+        RegisterOperand::Data(n) | RegisterOperand::Address(n) => n,
     }
 }
 
-// Its three bits.
+/// Its three bits.
 pub fn register_bits(r: RegisterOperand) -> u16
     ensures { (result ≡ register_bits r) × (result < 8) }
 {
-    (number_of_register(r) % 8) as u16
+    u16::from(number_of_register(r) % 8)
 }
 
-// D/A and the three bits.
+/// D/A and the three bits.
 pub fn general(r: RegisterOperand) -> u16
     ensures { (result ≡ general r) × (result < 16) }
 {
     match r {
-        RegisterOperand::Data(n) => (n % 8) as u16,
-        RegisterOperand::Address(n) => 8 + (n % 8) as u16,
+        RegisterOperand::Data(n) => u16::from(n % 8),
+        RegisterOperand::Address(n) => 8 + u16::from(n % 8),
     }
 }
 
-// The size in two bits: byte 00, word 01, long 10.
+/// The size in two bits: byte 00, word 01, long 10.
 pub fn standard_size(size: Size) -> u16
     ensures { (result ≡ size_code size) × (result < 3) }
 {
-    match size {
-        Size::Byte => 0,
-        Size::Word => 1,
-        Size::Long => 2,
-    }
+    size as u16
 }
 
-// The size of MOVE and MOVEA: byte 01, word 11, long 10.
+/// The size of MOVE and MOVEA: byte 01, word 11, long 10.
 pub fn move_size(size: Size) -> u16
     ensures { (result ≡ move_code size) × (result < 4) }
 {
@@ -56,56 +51,38 @@ pub fn move_size(size: Size) -> u16
 pub fn is_byte(size: Size) -> bool
     ensures { result ≡ is_byte size }
 {
-    match size {
-        Size::Byte => true,
-        Size::Word => false,
-        Size::Long => false,
-    }
+    matches!(size, Size::Byte)
 }
 
 pub fn is_word(size: Size) -> bool
     ensures { result ≡ is_word size }
 {
-    match size {
-        Size::Byte => false,
-        Size::Word => true,
-        Size::Long => false,
-    }
+    matches!(size, Size::Word)
 }
 
-// The bit that says long.
+/// The bit that says long.
 pub fn long_bit(size: Size) -> u16
     ensures { (result ≡ long_bit size) × (result < 2) }
 {
-    match size {
-        Size::Byte => 0,
-        Size::Word => 0,
-        Size::Long => 1,
-    }
+    bit(matches!(size, Size::Long))
 }
 
 pub fn bit(b: bool) -> u16
     ensures { (result ≡ bit b) × (result < 2) }
 {
-    if b { 1 } else { 0 }
+    u16::from(b)
 }
 
-// The bit that says to memory.
+/// The bit that says to memory.
 pub fn to_memory(direction: TargetDirection) -> u16
     ensures { (result ≡ to_memory direction) × (result < 2) }
 {
-    match direction {
-        TargetDirection::ToMemory => 1,
-        TargetDirection::FromMemory => 0,
-    }
+    bit(matches!(direction, TargetDirection::ToMemory))
 }
 
-// The bit that says from memory.
+/// The bit that says from memory.
 pub fn from_memory(direction: TargetDirection) -> u16
     ensures { (result ≡ from_memory direction) × (result < 2) }
 {
-    match direction {
-        TargetDirection::ToMemory => 0,
-        TargetDirection::FromMemory => 1,
-    }
+    bit(matches!(direction, TargetDirection::FromMemory))
 }

@@ -5,7 +5,7 @@ ghost use Rattle.isa_values.specs.DisplacementSize.{displacement_bytes, displace
 
 use isa::DisplacementSize;
 
-// The bytes it takes.
+/// The bytes it takes.
 pub fn bytes(size: DisplacementSize) -> u32
     ensures { (result ≡ displacement_bytes size) × (result < 5) }
 {
@@ -16,18 +16,14 @@ pub fn bytes(size: DisplacementSize) -> u32
     }
 }
 
-// The two bits that say it.
+/// The two bits that say it.
 pub fn code(size: DisplacementSize) -> u16
     ensures { (result ≡ displacement_code size) × (result < 4) }
 {
-    match size {
-        DisplacementSize::Null => 1,
-        DisplacementSize::Word => 2,
-        DisplacementSize::Long => 3,
-    }
+    size as u16
 }
 
-// The size that the low two bits say.
+/// The size that the low two bits say.
 pub fn of_code(code: u16) -> DisplacementSize
     ensures { result ≡ size_of_code code }
 {

@@ -7,57 +7,50 @@ use crate::code::{bit, general, long_bit};
 use crate::displacement_size;
 use isa::{DisplacementSize, IndexRegister, Indirection, RegisterOperand, Size};
 
-// The word as it is encoded.
+/// The word as it is encoded.
 #[derive(Clone, Copy)]
 pub struct ExtensionWord(pub u16);
 
-// The bit of the full format, and its BS and IS.
+/// The bit of the full format, and its BS and IS.
 pub const FULL: u16 = 0x0100;
 
 pub const BASE_SUPPRESSED: u16 = 0x0080;
 
 pub const INDEX_SUPPRESSED: u16 = 0x0040;
 
-// How far the extension word of a PC-relative operand usually stands from the instruction.
+/// How far the extension word of a PC-relative operand usually stands from the instruction.
 pub const EXTENSION_WORD_OFFSET: i32 = 2;
 
-// An index register that may be missing.
-#[derive(Clone, Copy)]
-pub enum IndexChoice {
-    None,
-    Some(IndexRegister),
-}
-
 impl ExtensionWord {
-    // Whether it is the full format.
+    /// Whether it is the full format.
     pub fn is_full(self) -> bool
         ensures { result ≡ is_full self.0 }
     {
-        self.0 / FULL % 2 == 1
+        self.0 >> 8 & 1 == 1
     }
 
-    // Whether the base register is suppressed.
+    /// Whether the base register is suppressed.
     pub fn base_suppressed(self) -> bool
         ensures { result ≡ base_suppressed self.0 }
     {
-        self.is_full() & (self.0 / BASE_SUPPRESSED % 2 == 1)
+        self.is_full() && self.0 >> 7 & 1 == 1
     }
 
-    // Whether the index is suppressed.
+    /// Whether the index is suppressed.
     pub fn index_suppressed(self) -> bool
         ensures { result ≡ index_suppressed self.0 }
     {
-        self.is_full() & (self.0 / INDEX_SUPPRESSED % 2 == 1)
+        self.is_full() && self.0 >> 6 & 1 == 1
     }
 
-    // The width of the base displacement of a full word.
+    /// The width of the base displacement of a full word.
     pub fn base_displacement_size(self) -> DisplacementSize
         ensures { result ≡ base_size self.0 }
     {
-        displacement_size::of_code(self.0 / 16)
+        displacement_size::of_code(self.0 >> 4)
     }
 
-    // Whether and how the address is read from memory.
+    /// Whether and how the address is read from memory.
     pub fn indirection(self) -> Indirection
         ensures { result ≡ indirection_of self.0 }
     {
@@ -71,15 +64,15 @@ impl ExtensionWord {
         }
     }
 
-    // The width of the outer displacement, null where there is no indirection.
+    /// The width of the outer displacement, null where there is no indirection.
     pub fn outer_displacement_size(self) -> DisplacementSize
         ensures { result ≡ outer_size self.0 }
     {
-        let indirection = self.indirection();
-        match indirection {
+        match self.indirection() {
             Indirection::None => DisplacementSize::Null,
-            Indirection::Preindexed => displacement_size::of_code(self.0),
-            Indirection::Postindexed => displacement_size::of_code(self.0),
+            Indirection::Preindexed | Indirection::Postindexed => {
+                displacement_size::of_code(self.0)
+            }
         }
     }
 
@@ -89,18 +82,18 @@ impl ExtensionWord {
     {
         let word = self.0;
         if self.index_suppressed() {
-            (4 <= word % 8) | (word / 512 != 0)
+            (4 <= word % 8) | (word >> 9 != 0)
         } else {
             word % 8 == 4
         }
     }
 
-    // Whether an assembler writes this word.
+    /// Whether an assembler writes this word.
     pub fn is_canonical(self) -> bool
         ensures { result ≡ is_canonical self.0 }
     {
         let word = self.0;
-        let reserved = (word / 16 % 4 == 0) | (word / 8 % 2 == 1) | self.index_reserved();
+        let reserved = (word >> 4 & 3 == 0) | (word >> 3 & 1 == 1) | self.index_reserved();
         !self.is_full() | !reserved
     }
 
@@ -109,8 +102,8 @@ impl ExtensionWord {
         ensures { result ≡ index_operand self.0 }
     {
         let word = self.0;
-        let number = (word / 4096 % 8) as u8;
-        if word / 32768 % 2 == 1 {
+        let number = (word >> 12 & 7) as u8;
+        if word >> 15 == 1 {
             RegisterOperand::Address(number)
         } else {
             RegisterOperand::Data(number)
@@ -121,14 +114,14 @@ impl ExtensionWord {
     fn index_size(self) -> Size
         ensures { result ≡ index_size self.0 }
     {
-        if self.0 / 2048 % 2 == 1 {
+        if self.0 >> 11 & 1 == 1 {
             Size::Long
         } else {
             Size::Word
         }
     }
 
-    // The index register, suppressed or not.
+    /// The index register, suppressed or not.
     pub fn index_register(self) -> IndexRegister
         ensures { result ≡ index_register self.0 }
     {
@@ -138,17 +131,18 @@ impl ExtensionWord {
         }
     }
 
-    // How far the index is shifted left.
+    /// How far the index is shifted left.
     pub fn scale_shift(self) -> u32
         ensures { (result ≡ scale_shift self.0) × (result < 4) }
     {
-        (self.0 / 512 % 4) as u32
+        u32::from(self.0 >> 9 & 3)
     }
 
-    // The scale: 1, 2, 4 or 8.
+    /// The scale: 1, 2, 4 or 8.
     pub fn scale(self) -> u8
         ensures { (result ≡ 2 ^ scale_shift self.0) × (result < 9) }
     {
+        // `1 << shift`: the proof did not close
         match self.scale_shift() {
             0 => 1,
             1 => 2,
@@ -157,19 +151,18 @@ impl ExtensionWord {
         }
     }
 
-    // The index register, none where it is suppressed.
-    pub fn index(self) -> IndexChoice
+    /// The index register, none where it is suppressed.
+    pub fn index(self) -> Option<IndexRegister>
         ensures { result ≡ index self.0 }
     {
-        let register = self.index_register();
         if self.index_suppressed() {
-            IndexChoice::None
+            None
         } else {
-            IndexChoice::Some(register)
+            Some(self.index_register())
         }
     }
 
-    // The bytes of extension words, itself included.
+    /// The bytes of extension words, itself included.
     pub fn bytes(self) -> u32
         ensures { (result ≡ extension_bytes self.0) × (result < 11) }
     {
@@ -178,23 +171,21 @@ impl ExtensionWord {
         if self.is_full() { 2 + base + outer } else { 2 }
     }
 
-    // Bits 15 to 9: the index register, its width and its scale.
+    /// Bits 15 to 9: the index register, its width and its scale.
     pub fn index_bits(index: IndexRegister, scale: u8) -> u16
         ensures { (result ≡ index_bits index scale) × (result < 65025) }
     {
-        let register = index.register;
-        let size = index.size;
-        general(register) * 4096 + long_bit(size) * 2048 + scale_code(scale) * 512
+        general(index.register) * 4096 + long_bit(index.size) * 2048 + scale_code(scale) * 512
     }
 
-    // The brief word of an index register with a scale; its displacement is left 0.
+    /// The brief word of an index register with a scale; its displacement is left 0.
     pub fn brief(index: IndexRegister, scale: u8) -> ExtensionWord
         ensures { result.0 ≡ index_bits index scale }
     {
         ExtensionWord(ExtensionWord::index_bits(index, scale))
     }
 
-    // The full word of these parts.
+    /// The full word of these parts.
     pub fn full(
         index: IndexRegister,
         scale: u8,

@@ -1,13 +1,14 @@
 // The fields that hold a number.
 ghost use Rattle.std.specs.Prelude.{◌≡◌, ◌<◌};
-ghost use Rattle.isa_values.specs.Pairs.{is_signed, signed_width, unsigned_width, signed_pair, unsigned_pair, pair_of_number};
+ghost use Rattle.isa_values.specs.Pairs.{signed_pair, unsigned_pair};
 ghost use Rattle.isa_spec.specs.Field.{field_number, immediate_size, lowest, highest, also_holds, excludes, holds};
 
-use crate::code::bit;
 use crate::size::to_bits;
 use isa::{Field, Range, Size};
 
-// The number of a field, 1 to 20.
+const TWO_TO_32: i64 = 1 << 32;
+
+/// The number of a field, 1 to 20.
 pub fn number(field: Field) -> u8
     ensures { (result ≡ field_number field) × (0 < result) × (result < 21) }
 {
@@ -35,44 +36,6 @@ pub fn number(field: Field) -> u8
     }
 }
 
-// Whether the field with this number is signed: a displacement that has bits, or a short address.
-fn is_signed(number: u8) -> bool
-    ensures { result ≡ is_signed number }
-{
-    (number < 8) | (number == 13) | (number == 15) | (number == 17) | (number == 18)
-}
-
-// The bits of a signed field: a byte in a short branch, d8(PC,Xn) and d8(An,Xn), or else a word.
-fn signed_width(number: u8) -> usize
-    ensures { (result ≡ signed_width number) × (0 < result) × (result < 33) }
-{
-    if (number == 1) | (number == 4) | (number == 6) {
-        8
-    } else {
-        16
-    }
-}
-
-// The bits of any other field: a long address and an Immediate of Long have a long, a bit number a
-// byte, a trap vector 4 bits, a bit field 5, a null displacement none; the others have 3.
-fn unsigned_width(number: u8) -> usize
-    ensures { (result ≡ unsigned_width number) × (result < 33) }
-{
-    if number < 10 {
-        return 32;
-    }
-    if number == 11 {
-        return 4;
-    }
-    if number == 12 {
-        return 8;
-    }
-    if number == 19 {
-        return 0;
-    }
-    if number == 20 { 5 } else { 3 }
-}
-
 // The pair of so many bits, half of its values below 0.
 fn signed_pair(width: usize) -> Range
     requires { (0 < width) × (width < 33) }
@@ -96,24 +59,31 @@ fn unsigned_pair(width: usize, first: u64) -> Range
     }
 }
 
-// The pair of the field with this number, from its sign and its width; Count begins at 1.
-fn pair_of_number(number: u8) -> Range
-    ensures { result ≡ pair_of_number number }
-{
-    if is_signed(number) {
-        return signed_pair(signed_width(number));
-    }
-    unsigned_pair(unsigned_width(number), bit(number == 10) as u64)
-}
-
-// The pair of a field; an Immediate has the bits of its size.
+/// The pair of a field, from its sign and its width: a displacement is signed, a byte in a short branch, d8(PC,Xn)
+/// and d8(An,Xn), or else a word; an Immediate has the bits of its size; Count begins at 1.
+#[tactic(auto, unfolding(isa_spec::specs::Field::ranges))]
 pub fn range(field: Field) -> Range
     ensures { (result.low ≡ lowest field) × (result.high ≡ highest field) }
 {
-    let Field::Immediate(size) = field else {
-        return pair_of_number(number(field));
-    };
-    unsigned_pair(to_bits(size), 0)
+    match field {
+        Field::ShortBranch | Field::PcIndex | Field::IndexDisplacement => signed_pair(8),
+        Field::WordBranch
+        | Field::PcDisplacement
+        | Field::Displacement
+        | Field::ShortAddress
+        | Field::LinkDisplacement
+        | Field::RtdDisplacement
+        | Field::BaseDisplacement
+        | Field::OuterDisplacement => signed_pair(16),
+        Field::LongAddress => unsigned_pair(32, 0),
+        Field::Immediate(size) => unsigned_pair(to_bits(size), 0),
+        Field::Count => unsigned_pair(3, 1),
+        Field::TrapVector => unsigned_pair(4, 0),
+        Field::BitNumber => unsigned_pair(8, 0),
+        Field::Register | Field::BreakpointVector => unsigned_pair(3, 0),
+        Field::NullDisplacement => unsigned_pair(0, 0),
+        Field::BitField => unsigned_pair(5, 0),
+    }
 }
 
 // Whether an Immediate holds the value beside its pair: -128 to -1 as a byte, -32768 to -1 as a
@@ -125,8 +95,8 @@ fn also_holds(field: Field, value: i64) -> bool
         return false;
     };
     match size {
-        Size::Byte => (4294967168 <= value) & (value <= 4294967295),
-        Size::Word => (4294934528 <= value) & (value <= 4294967295),
+        Size::Byte => (TWO_TO_32 - 128 <= value) & (value < TWO_TO_32),
+        Size::Word => (TWO_TO_32 - 32768 <= value) & (value < TWO_TO_32),
         Size::Long => false,
     }
 }
@@ -136,16 +106,15 @@ fn also_holds(field: Field, value: i64) -> bool
 fn excludes(field: Field, value: i64) -> bool
     ensures { result ≡ excludes field value }
 {
-    (number(field) == 1) & ((value == 0) | (value == -1))
+    matches!(field, Field::ShortBranch) && matches!(value, -1 | 0)
 }
 
-// Whether the field holds the value.
+/// Whether the field holds the value.
 pub fn holds(field: Field, value: i64) -> bool
     ensures { result ≡ holds field value }
 {
     let ends = range(field);
-    let low = ends.low;
-    let high = ends.high;
     let also = also_holds(field, value);
-    ((low <= value) & (value <= high) | also) & !excludes(field, value)
+    // one test without branches: with && and || the proof did not close
+    ((ends.low <= value) & (value <= ends.high) | also) & !excludes(field, value)
 }

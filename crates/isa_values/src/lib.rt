@@ -1,6 +1,4 @@
-// The functions on the values of an instruction, as the Rust's encoded.rs has them, and those on
-// its fields, with encode.rs's results but for `field::holds`, which also holds N2's ranges and
-// excludes -1 (N5): a module for each type.
+// The functions on the values of an instruction and on its fields: a module for each type.
 #![tactic(auto)]
 
 pub mod bit_field_operation;

@@ -1,14 +1,7 @@
-// The processors, oldest first.
+/// The processors, oldest first.
 #[derive(Clone, Copy)]
 pub enum Processor {
     M68000,
     M68010,
     M68020,
-}
-
-// A processor, or none.
-#[derive(Clone, Copy)]
-pub enum ProcessorChoice {
-    None,
-    Some(Processor),
 }

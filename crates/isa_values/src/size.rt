@@ -4,7 +4,7 @@ ghost use Rattle.isa_values.specs.Size.{byte_count, bit_count};
 
 use isa::Size;
 
-// How many bytes it covers.
+/// How many bytes it covers.
 pub fn to_bytes(size: Size) -> usize
     ensures { (result ≡ byte_count size) × (result < 5) }
 {
@@ -15,7 +15,7 @@ pub fn to_bytes(size: Size) -> usize
     }
 }
 
-// How many bits it covers.
+/// How many bits it covers.
 pub fn to_bits(size: Size) -> usize
     ensures { (result ≡ bit_count size) × (result < 33) }
 {

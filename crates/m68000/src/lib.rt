@@ -2,13 +2,16 @@
 #![tactic(auto)]
 
 ghost use Rattle.std.specs.Prelude.{◌≡◌};
+ghost use Rattle.m68000_spec.specs.Reading68000.{as_reading_68000};
 ghost use Rattle.m68000_spec.specs.Read68000.{read_68000_of};
 
-use m68000_spec::Reading68000;
+use m68000_spec::Unread68000;
+use read_spec::Read;
 
-// What `read` gives, or 15 where that is an instruction that is not of the MC68000.
-pub fn read_68000(words: &[u16], address: u32) -> Reading68000
-    ensures { result ≡ read_68000_of words.now address }
+/// What `read` gives; an instruction that is not of the MC68000 is refused.
+#[tactic(auto, unfolding(m68000_spec::specs::Read68000::read_68000_of))]
+pub fn read_68000(words: &[u16], address: u32) -> Result<Read, Unread68000>
+    ensures { as_reading_68000 result ≡ read_68000_of words.now address }
 {
     m68000_instruction::restricted(m68k_read::read(words, address))
 }

@@ -3,6 +3,8 @@
 
 ghost use Rattle.std.specs.Prelude.{◌≡◌};
 ghost use Rattle.m68000_spec.specs.Of68000.{into_register_of_68000, transfer_of_68000, immediate_into_of_68000, unsized_into_register_of_68000, unsized_one_of_68000, ext_of_68000, one_operand_of_68000, branch_of_68000, link_of_68000, vector_of_68000, operand_of_68000, of68000};
+ghost use Rattle.read_spec.specs.Reading.{as_reading};
+ghost use Rattle.m68000_spec.specs.Reading68000.{as_reading_68000};
 ghost use Rattle.m68000_spec.specs.Read68000.{restricted};
 
 use isa::{
@@ -12,20 +14,19 @@ use isa::{
 };
 use isa_operands::{DATA_ALTERABLE, permitted};
 use isa_values::code;
-use m68000_spec::Reading68000;
-use read_spec::Reading;
+use m68000_spec::Unread68000;
+use read_spec::{Read, Unread};
 
 fn into_register(op: RegisterOperation) -> bool
     ensures { result ≡ into_register_of_68000 op }
 {
     match op {
-        RegisterOperation::ADDA => true,
-        RegisterOperation::SUBA => true,
-        RegisterOperation::CMPA => true,
-        RegisterOperation::MOVEA => true,
-        RegisterOperation::CMP => true,
-        RegisterOperation::CHK2 => false,
-        RegisterOperation::CMP2 => false,
+        RegisterOperation::ADDA
+        | RegisterOperation::SUBA
+        | RegisterOperation::CMPA
+        | RegisterOperation::MOVEA
+        | RegisterOperation::CMP => true,
+        RegisterOperation::CHK2 | RegisterOperation::CMP2 => false,
     }
 }
 
@@ -42,11 +43,11 @@ fn immediate_into(op: ImmediateOperation, o: Operand) -> bool
     ensures { result ≡ immediate_into_of_68000 op o }
 {
     match op {
-        ImmediateOperation::ADDI => true,
-        ImmediateOperation::SUBI => true,
-        ImmediateOperation::ANDI => true,
-        ImmediateOperation::ORI => true,
-        ImmediateOperation::EORI => true,
+        ImmediateOperation::ADDI
+        | ImmediateOperation::SUBI
+        | ImmediateOperation::ANDI
+        | ImmediateOperation::ORI
+        | ImmediateOperation::EORI => true,
         ImmediateOperation::CMPI => permitted(DATA_ALTERABLE, o),
     }
 }
@@ -55,8 +56,7 @@ fn unsized_into_register(op: UnsizedRegisterOperation) -> bool
     ensures { result ≡ unsized_into_register_of_68000 op }
 {
     match op {
-        UnsizedRegisterOperation::LEA => true,
-        UnsizedRegisterOperation::CHK => true,
+        UnsizedRegisterOperation::LEA | UnsizedRegisterOperation::CHK => true,
         UnsizedRegisterOperation::CHKL => false,
     }
 }
@@ -65,15 +65,15 @@ fn unsized_one(op: UnsizedOneOperation) -> bool
     ensures { result ≡ unsized_one_of_68000 op }
 {
     match op {
-        UnsizedOneOperation::PEA => true,
-        UnsizedOneOperation::NBCD => true,
-        UnsizedOneOperation::JSR => true,
-        UnsizedOneOperation::JMP => true,
-        UnsizedOneOperation::TAS => true,
-        UnsizedOneOperation::MOVEtoCCR => true,
+        UnsizedOneOperation::PEA
+        | UnsizedOneOperation::NBCD
+        | UnsizedOneOperation::JSR
+        | UnsizedOneOperation::JMP
+        | UnsizedOneOperation::TAS
+        | UnsizedOneOperation::MOVEtoCCR
+        | UnsizedOneOperation::MOVEtoSR
+        | UnsizedOneOperation::MOVEfromSR => true,
         UnsizedOneOperation::MOVEfromCCR => false,
-        UnsizedOneOperation::MOVEtoSR => true,
-        UnsizedOneOperation::MOVEfromSR => true,
     }
 }
 
@@ -82,8 +82,7 @@ fn ext(from: Size, to: Size) -> bool
 {
     match from {
         Size::Byte => code::is_word(to),
-        Size::Word => true,
-        Size::Long => true,
+        Size::Word | Size::Long => true,
     }
 }
 
@@ -91,10 +90,7 @@ fn one_operand(op: OneOperation, o: Operand) -> bool
     ensures { result ≡ one_operand_of_68000 op o }
 {
     match op {
-        OneOperation::CLR => true,
-        OneOperation::NEG => true,
-        OneOperation::NEGX => true,
-        OneOperation::NOT => true,
+        OneOperation::CLR | OneOperation::NEG | OneOperation::NEGX | OneOperation::NOT => true,
         OneOperation::TST => permitted(DATA_ALTERABLE, o),
     }
 }
@@ -103,8 +99,7 @@ fn branch(size: BranchSize) -> bool
     ensures { result ≡ branch_of_68000 size }
 {
     match size {
-        BranchSize::Short => true,
-        BranchSize::Word => true,
+        BranchSize::Short | BranchSize::Word => true,
         BranchSize::Long => false,
     }
 }
@@ -177,19 +172,19 @@ fn of_68000(i: Instruction) -> bool
     }
 }
 
-// What the first reader gave, or 15.
-pub fn restricted(reading: Reading) -> Reading68000
-    ensures { result ≡ restricted reading }
+/// What the first reader read, where it is of the MC68000; what it refuses is refused.
+#[tactic(auto, using(crate::proofs::First::refused_restricted))]
+pub fn restricted(reading: Result<Read, Unread>) -> Result<Read, Unread68000>
+    ensures { as_reading_68000 result ≡ restricted (as_reading reading) }
 {
     match reading {
-        Reading::Read(i, _) => {
-            if of_68000(i) {
-                Reading68000::First(reading)
+        Ok(read) => {
+            if of_68000(read.instruction) {
+                Ok(read)
             } else {
-                Reading68000::NotOf68000
+                Err(Unread68000::NotOf68000)
             }
         }
-        Reading::Short => Reading68000::First(reading),
-        Reading::Nothing => Reading68000::First(reading),
+        Err(unread) => Err(Unread68000::First(unread)),
     }
 }

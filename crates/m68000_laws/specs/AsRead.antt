@@ -5,8 +5,7 @@ use Rattle.base_spec.specs.Parts.{fields}
 use Rattle.base_spec.specs.Number.{number_of}
 use Rattle.base_spec.specs.Numbers.{magnitude_of}
 use Rattle.base_spec.specs.Refused.{not_in_form}
-use Rattle.read_spec.specs.declared.Reading.{Reading}
-use Rattle.read_spec.specs.declared.Reading.TheVariants.{Read, Short, Nothing}
+use Rattle.read_spec.specs.Reading.{Reading, Read, Short, Nothing}
 use Rattle.read_spec.specs.ReadingRefusal.{refused_run}
 use Rattle.read_spec.specs.Read.{read_of}
 use Rattle.print_spec.specs.EncodeAnswer.{measured_text}
@@ -14,7 +13,7 @@ use Rattle.print_spec.specs.Run.{is_address_field, are_words, field_words}
 use Rattle.print_spec.specs.ReadAnswer.{read_text, reading_text, answer_to, read_answer_of}
 use Rattle.numeric_spec.specs.Form.{numbers_of}
 use Rattle.base_facts.specs.Tests.{cond_true}
-use Rattle.m68000_spec.specs.declared.Reading68000.TheVariants.{First, NotOf68000}
+use Rattle.m68000_spec.specs.Reading68000.{First, NotOf68000}
 use Rattle.m68000_spec.specs.Of68000.{of68000}
 use Rattle.m68000_spec.specs.Read68000.{restricted, read_68000_of}
 use Rattle.m68000_spec.specs.Answer68000.{reading_68000_text, answer_68000_to, read_68000_answer_of}

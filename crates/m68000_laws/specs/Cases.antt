@@ -4,11 +4,11 @@ use Rattle.isa.specs.declared.BranchSize.TheVariants as branch
 use Rattle.isa.specs.declared.BranchOperation.TheVariants.{BRA}
 use Rattle.isa.specs.declared.Instruction.TheVariants.{Branch}
 use Rattle.isa.specs.declared.Measured.{Measured}
-use Rattle.read_spec.specs.declared.Reading.TheVariants.{Read}
+use Rattle.read_spec.specs.Reading.{Read}
 use Rattle.read_spec.specs.Map.{group_at, map as code_map}
 use Rattle.read_spec.specs.Read.{read_of}
 use Rattle.encode_spec.specs.Ea.{permits}
-use Rattle.m68000_spec.specs.declared.Reading68000.TheVariants.{NotOf68000}
+use Rattle.m68000_spec.specs.Reading68000.{NotOf68000}
 use Rattle.m68000_spec.specs.Of68000.{of68000}
 use Rattle.m68000_spec.specs.Read68000.{read_68000_of, refusal68000}
 

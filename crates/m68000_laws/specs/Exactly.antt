@@ -2,11 +2,9 @@
 use Rattle.std.specs.Prelude.{ℕ, ◌≡◌, refl, Bool, true, false, cond, List}
 use Rattle.std.proofs.Common.{sym, ap, ◌∙◌, arith}
 use Rattle.isa.specs.declared.Instruction.{Instruction}
-use Rattle.read_spec.specs.declared.Reading.{Reading}
-use Rattle.read_spec.specs.declared.Reading.TheVariants.{Read, Short, Nothing}
+use Rattle.read_spec.specs.Reading.{Reading, Read, Short, Nothing}
 use Rattle.read_spec.specs.Read.{read_of}
-use Rattle.m68000_spec.specs.declared.Reading68000.{Reading68000}
-use Rattle.m68000_spec.specs.declared.Reading68000.TheVariants.{First, NotOf68000}
+use Rattle.m68000_spec.specs.Reading68000.{Reading68000, First, NotOf68000}
 use Rattle.m68000_spec.specs.Of68000.{of68000}
 use Rattle.m68000_spec.specs.Read68000.{restricted, read_68000_of, refusal68000}
 use Rattle.m68000_spec.specs.Promises.{Unmarked}

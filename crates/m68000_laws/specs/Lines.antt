@@ -5,11 +5,11 @@ use Rattle.isa.specs.declared.RawOperation.TheVariants.{LINEA, LINEF}
 use Rattle.isa.specs.declared.Instruction.TheVariants.{Raw}
 use Rattle.isa_facts.specs.Ordinary.{ordinary}
 use Rattle.encode_spec.specs.System.{raw_parts}
-use Rattle.read_spec.specs.declared.Reading.TheVariants.{Read}
+use Rattle.read_spec.specs.Reading.{Read}
 use Rattle.read_spec.specs.Read.{read_of}
 use Rattle.read_spec.specs.Accepted.{Accepted}
 use Rattle.read_laws.specs.ReaderLaws.{complete}
-use Rattle.m68000_spec.specs.declared.Reading68000.TheVariants.{First}
+use Rattle.m68000_spec.specs.Reading68000.{First}
 use Rattle.m68000_spec.specs.Of68000.{of68000}
 use Rattle.m68000_spec.specs.Read68000.{read_68000_of}
 use Rattle.m68000_laws.specs.Exactly.{shown_exactly}

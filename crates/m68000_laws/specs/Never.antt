@@ -17,12 +17,12 @@ use Rattle.isa_spec.specs.Condition.{condition_of}
 use Rattle.isa_spec.specs.ExtensionWord.{is_full}
 use Rattle.base_facts.specs.Tests.{cond_false, and-true, and-false}
 use Rattle.encode_spec.specs.Encode.{words_of}
-use Rattle.read_spec.specs.declared.Reading.TheVariants.{Read, Short}
+use Rattle.read_spec.specs.Reading.{Read, Short}
 use Rattle.read_spec.specs.Plain.{plain, plain_operand, plain_index}
 use Rattle.read_spec.specs.Decoded.{branch_to}
 use Rattle.read_spec.specs.Accepted.{Accepted}
 use Rattle.read_laws.specs.ByteFF.{byte_ff_reads}
-use Rattle.m68000_spec.specs.declared.Reading68000.TheVariants.{First, NotOf68000}
+use Rattle.m68000_spec.specs.Reading68000.{First, NotOf68000}
 use Rattle.m68000_spec.specs.Of68000.{operand_of_68000, operands_of, all_of_68000, instruction_of_68000, of68000}
 use Rattle.m68000_spec.specs.Read68000.{read_68000_of}
 use Rattle.m68000_spec.specs.Promises.{HasOperand, is_full_or_scaled}

@@ -4,13 +4,13 @@ use Rattle.std.proofs.Common.{sym, ap, ◌∙◌, arith}
 use Rattle.isa.specs.declared.Instruction.{Instruction}
 use Rattle.encode_spec.specs.Item.{fine}
 use Rattle.encode_spec.specs.Encode.{encode_of, refusal_of, words_of}
-use Rattle.read_spec.specs.declared.Reading.TheVariants.{Read}
+use Rattle.read_spec.specs.Reading.{Read}
 use Rattle.read_spec.specs.Plain.{plain}
 use Rattle.read_spec.specs.Read.{read_of}
 use Rattle.read_spec.specs.Accepted.{Accepted, Words}
 use Rattle.read_laws.specs.ReaderLaws.{complete, sound}
 use Rattle.m68k_facts.specs.Laws.{accepted_words}
-use Rattle.m68000_spec.specs.declared.Reading68000.TheVariants.{First}
+use Rattle.m68000_spec.specs.Reading68000.{First}
 use Rattle.m68000_spec.specs.Read68000.{restricted, read_68000_of}
 use Rattle.m68000_laws.specs.Exactly.{as_restricted, shown_exactly}
 

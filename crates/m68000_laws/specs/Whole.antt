@@ -7,6 +7,7 @@ use Rattle.base_spec.specs.Numbers.{magnitude_of}
 use Rattle.base_spec.specs.Lines.{answered_of, step_of}
 use Rattle.base_spec.specs.Refused.{not_in_form}
 use Rattle.read_laws.specs.Kept.{read_kept}
+use Rattle.print_spec.specs.Programs.{answers_output_of}
 use Rattle.print_spec.specs.Run.{is_address_field, are_words, field_words}
 use Rattle.read_runs.specs.Kept.{kept_run, no_run, run_in, run_of}
 use Rattle.read_runs.specs.RunLaws.{kept_words}
@@ -47,3 +48,7 @@ answer_68000_whole line = answer_if (fields line)
 pub answers_68000_whole : (need : ℕ) (text : List ℕ) (from room : ℕ)
     → (step_of kept_68000_answer_of need text from room ≡ step_of read_68000_answer_of need text from room) × (answered_of kept_68000_answer_of need text from room ≡ answered_of read_68000_answer_of need text from room)
 answers_68000_whole need text from room = ((λ i. step_of (λ line. answer_68000_whole line i) need text from room), (λ i. answered_of (λ line. answer_68000_whole line i) need text from room))
+
+-- and so of all that `read_68000` writes
+pub output_68000_whole : (text : List ℕ) → answers_output_of kept_68000_answer_of text ≡ answers_output_of read_68000_answer_of text
+output_68000_whole text = λ i. answers_output_of (λ line. answer_68000_whole line i) text

@@ -7,8 +7,7 @@ use Rattle.base_spec.specs.Refused.{not_in_form}
 use Rattle.print_spec.specs.EncodeAnswer.{measured_text}
 use Rattle.print_spec.specs.Run.{is_address_field, are_words, field_words}
 use Rattle.print_spec.specs.ReadAnswer.{reading_text}
-use Rattle.m68000_spec.specs.declared.Reading68000.{Reading68000}
-use Rattle.m68000_spec.specs.declared.Reading68000.TheVariants.{First, NotOf68000}
+use Rattle.m68000_spec.specs.Reading68000.{Reading68000, First, NotOf68000}
 use Rattle.m68000_spec.specs.Read68000.{read_68000_of, refusal68000}
 
 abbrev pub reading_68000_text : Reading68000 → List ℕ

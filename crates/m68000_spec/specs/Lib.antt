@@ -1,4 +1,5 @@
 pub mod Of68000
+pub mod Reading68000
 pub mod Read68000
 pub mod Answer68000
 pub mod Promises

@@ -6,7 +6,7 @@ use Rattle.isa.specs.declared.ShiftDirection.{ShiftDirection}
 use Rattle.isa.specs.declared.Sign.{Sign}
 use Rattle.isa.specs.declared.Condition.{Condition}
 use Rattle.isa.specs.declared.RegisterOperand.{RegisterOperand}
-use Rattle.isa.specs.declared.RegisterChoice.{RegisterChoice}
+use Rattle.std.specs.declared.option.Option.{Option}
 use Rattle.isa.specs.declared.BitField.{BitField}
 use Rattle.isa.specs.declared.BitFieldOperation.{BitFieldOperation}
 use Rattle.isa.specs.declared.RegisterOperation.{RegisterOperation}
@@ -25,8 +25,7 @@ use Rattle.isa.specs.declared.Operand.{Operand}
 use Rattle.isa.specs.declared.Instruction.{Instruction}
 use Rattle.isa.specs.declared.Instruction.TheVariants.{IntoRegister, MOVEM, Transfer, Pair, Quick, ImmediateInto, WordIntoData, UnsizedIntoRegister, UnsizedOne, UnsizedPair, OneOperand, Scc, Shift, MULL, Pack, CAS, BF, DIVL}
 use Rattle.isa_spec.specs.ExtensionWord.{is_full}
-use Rattle.read_spec.specs.declared.Reading.{Reading}
-use Rattle.read_spec.specs.declared.Reading.TheVariants.{Read}
+use Rattle.read_spec.specs.Reading.{Reading, Read}
 use Rattle.m68000_spec.specs.Of68000.{of68000}
 
 -- it reads an instruction that is not of the MC68000
@@ -51,7 +50,7 @@ pub data HasOperand (o : Operand) : Instruction → Type 0 where
   scc : (condition : Condition) → HasOperand o (Scc o condition)
   shift_count : (op : ShiftOperation) (x : Operand) (direction : ShiftDirection) (s : Size) → HasOperand o (Shift op o x direction s)
   shift_operand : (op : ShiftOperation) (count : Operand) (direction : ShiftDirection) (s : Size) → HasOperand o (Shift op count o direction s)
-  mull : (low : ℕ) (high : RegisterChoice) (sign : Sign) → HasOperand o (MULL o low high sign)
+  mull : (low : ℕ) (high : Option ℕ) (sign : Sign) → HasOperand o (MULL o low high sign)
   pack_source : (op : PackOperation) (d : Operand) (adjustment : ℕ) → HasOperand o (Pack op o d adjustment)
   pack_destination : (op : PackOperation) (x : Operand) (adjustment : ℕ) → HasOperand o (Pack op x o adjustment)
   cas : (compare update : ℕ) (s : Size) → HasOperand o (CAS compare update o s)

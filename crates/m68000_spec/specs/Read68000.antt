@@ -1,12 +1,10 @@
 -- What the second reader answers, for boards with an MC68000 (02, N4).
 use Rattle.std.specs.Prelude.{ℕ, cond, List}
 use Rattle.isa.specs.declared.Measured.{Measured}
-use Rattle.read_spec.specs.declared.Reading.{Reading}
-use Rattle.read_spec.specs.declared.Reading.TheVariants.{Read, Short, Nothing}
+use Rattle.read_spec.specs.Reading.{Reading, Read, Short, Nothing}
 use Rattle.read_spec.specs.ReadingRefusal.{refused_run, reading_refusal}
 use Rattle.read_spec.specs.Read.{read_of}
-use Rattle.m68000_spec.specs.declared.Reading68000.{Reading68000}
-use Rattle.m68000_spec.specs.declared.Reading68000.TheVariants.{First, NotOf68000}
+use Rattle.m68000_spec.specs.Reading68000.{Reading68000, First, NotOf68000}
 use Rattle.m68000_spec.specs.Of68000.{of68000}
 
 -- of the first reader's answer: 15 comes after 5 and 6, so only where it reads

@@ -1,11 +1,11 @@
-// The answer of the reader of MC68000 boards.
+// The refusals of the reader of MC68000 boards.
 #![tactic(auto)]
 
-use read_spec::Reading;
+use read_spec::Unread;
 
-// What the first reader answers, or, where that reads, refusal 15.
-#[derive(Clone, Copy)]
-pub enum Reading68000 {
-    First(Reading),
+/// What the first reader refuses, or an instruction that is not of the MC68000.
+#[derive(Clone, Copy, Debug, PartialEq, Eq)]
+pub enum Unread68000 {
+    First(Unread),
     NotOf68000,
 }

@@ -6,33 +6,31 @@ ghost use Rattle.encode_spec.specs.Encode.{encoded_as, refusal_of, words_of, enc
 ghost use Rattle.encode_state.specs.Laws.{finished};
 ghost use Rattle.m68k_facts.specs.Measure.{measured};
 
-use encode_state::Encoder;
+use encode_state::{Encoder, Refusal};
 use isa::{Encoded, Instruction, Measured};
 
 // The words, or the refusal without words.
-pub fn finish(e: Encoder) -> Encoded
+pub fn finish(e: Result<Encoder, Refusal>) -> Encoded
     ensures { result ≡ finished e }
 {
-    if e.number == 0 {
-        let words = e.words;
-        Encoded {
-            words: [
-                words[0], words[1], words[2], words[3], words[4], words[5], words[6], words[7],
-                words[8], words[9], words[10],
-            ],
-            count: e.count,
-            number: 0,
-            detail: 0,
-            value: 0,
+    match e {
+        Ok(e) => {
+            let words = e.words;
+            Encoded {
+                words,
+                count: e.count,
+                number: 0,
+                detail: 0,
+                value: 0,
+            }
         }
-    } else {
-        Encoded {
+        Err(refusal) => Encoded {
             words: [0; 11],
             count: 0,
-            number: e.number,
-            detail: e.detail,
-            value: e.value,
-        }
+            number: refusal.number(),
+            detail: refusal.detail(),
+            value: refusal.value(),
+        },
     }
 }
 
@@ -66,7 +64,7 @@ fn put_bytes(lent: &mut [u8], words: [u16; 11], count: usize)
 fn encoded(instruction: Instruction, address: u32, check: bool) -> Encoded
     ensures { (result ≡ encoded_as (refusal_of check instruction address) (words_of instruction address)) × (result.count < 12) }
 {
-    finish(encode_instruction::instruction_words(encode_state::begin(address, check), instruction))
+    finish(encode_instruction::instruction_words(Encoder::begin(address, check), instruction))
 }
 
 // The words of an instruction at an address.

@@ -6,8 +6,7 @@ use Rattle.isa.specs.declared.Encoded.{Encoded}
 use Rattle.isa.specs.declared.Measured.{Measured}
 use Rattle.encode_spec.specs.Item.{Verdict, fine, malformed, out_of_range, no_encoding}
 use Rattle.encode_spec.specs.Encode.{encoded_as, encode_of, size_of, refusal_of, words_of}
-use Rattle.read_spec.specs.declared.Reading.{Reading}
-use Rattle.read_spec.specs.declared.Reading.TheVariants.{Read}
+use Rattle.read_spec.specs.Reading.{Reading, Read}
 use Rattle.read_spec.specs.Plain.{plain}
 use Rattle.read_spec.specs.Read.{read_of}
 use Rattle.m68k_facts.specs.Laws.{size_law}

@@ -4,15 +4,16 @@
 ghost use Rattle.std.specs.Prelude.{◌≡◌};
 ghost use Rattle.read_spec.specs.ReadingRefusal.{refused_run};
 ghost use Rattle.read_spec.specs.Read.{read_of};
+ghost use Rattle.read_spec.specs.Reading.{as_reading};
 ghost use Rattle.read_spec.specs.RoundTrip.{read_back_of, ReadsBack, refused_back, written_back, WritesBack};
 
 use isa::{Encoded, Instruction};
-use read_spec::Reading;
+use read_spec::{Read, Unread};
 
 // What `read` gives of the words that `encode` lays down: the plain form and the size. A refused instruction has no words,
 // which read as nothing yet (5).
-pub fn read_back(instruction: Instruction, address: u32) -> Reading
-    ensures { (result ≡ read_back_of instruction address) × ReadsBack instruction address result }
+pub fn read_back(instruction: Instruction, address: u32) -> Result<Read, Unread>
+    ensures { (as_reading result ≡ read_back_of instruction address) × ReadsBack instruction address (as_reading result) }
 {
     let e = m68k::encode(instruction, address);
     let words = e.words;
@@ -38,8 +39,8 @@ pub fn write_back(words: &[u16], address: u32) -> Encoded
 {
     let reading = m68k::read(words, address);
     match reading {
-        Reading::Read(instruction, _) => m68k::encode(instruction, address),
-        Reading::Short => refused(5),
-        Reading::Nothing => refused(6),
+        Ok(read) => m68k::encode(read.instruction, address),
+        Err(Unread::Short) => refused(5),
+        Err(Unread::Nothing) => refused(6),
     }
 }

@@ -1,5 +1,5 @@
 -- How many numbers an instruction has. Assumes nothing.
-use Rattle.std.specs.Prelude.{◌≤◌, ◌≡◌, refl, length}
+use Rattle.std.specs.Prelude.{ℕ, ◌≤◌, ◌≡◌, refl, length}
 use Rattle.std.proofs.Common.{arith, length-append}
 use Rattle.isa.specs.declared.RegisterOperand.{RegisterOperand}
 use Rattle.isa.specs.declared.RegisterOperand.TheVariants.{Address, Data}
@@ -7,8 +7,8 @@ use Rattle.isa.specs.declared.FieldValue.{FieldValue}
 use Rattle.isa.specs.declared.FieldValue.TheVariants as value
 use Rattle.isa.specs.declared.TrapOperand.{TrapOperand}
 use Rattle.isa.specs.declared.TrapOperand.TheVariants as trap
-use Rattle.isa.specs.declared.RegisterChoice.{RegisterChoice}
-use Rattle.isa.specs.declared.RegisterChoice.TheVariants as choice
+use Rattle.std.specs.declared.option.Option.{Option}
+use Rattle.std.specs.declared.option.Option.TheVariants as choice
 use Rattle.isa.specs.declared.Operand.{Operand}
 use Rattle.isa.specs.declared.Operand.TheVariants.{Immediate, Register, Indirect, PostIndirect, PreIndirect, IndirectDisplacement, IndirectIndex, PcDisplacement, PcIndex, Extended, Absolute}
 use Rattle.isa.specs.declared.Instruction.{Instruction}
@@ -29,7 +29,7 @@ trap_operand_length trap.None = omega arith
 trap_operand_length (trap.Word n) = omega arith
 trap_operand_length (trap.Long n) = omega arith
 
-register_choice_length : (x : RegisterChoice) → length (register_choice_form x) ≤ 2
+register_choice_length : (x : Option ℕ) → length (register_choice_form x) ≤ 2
 register_choice_length choice.None = omega arith
 register_choice_length (choice.Some n) = omega arith
 

@@ -23,8 +23,8 @@ use Rattle.isa.specs.declared.FieldValue.{FieldValue}
 use Rattle.isa.specs.declared.FieldValue.TheVariants as value
 use Rattle.isa.specs.declared.TrapOperand.{TrapOperand}
 use Rattle.isa.specs.declared.TrapOperand.TheVariants as trap
-use Rattle.isa.specs.declared.RegisterChoice.{RegisterChoice}
-use Rattle.isa.specs.declared.RegisterChoice.TheVariants as choice
+use Rattle.std.specs.declared.option.Option.{Option}
+use Rattle.std.specs.declared.option.Option.TheVariants as choice
 use Rattle.isa.specs.declared.Operand.{Operand}
 use Rattle.isa.specs.declared.Operand.TheVariants.{Immediate, Register, Indirect, PostIndirect, PreIndirect, IndirectDisplacement, IndirectIndex, PcDisplacement, PcIndex, Extended, Absolute}
 use Rattle.isa.specs.declared.IndexRegister.{IndexRegister}
@@ -197,13 +197,13 @@ pub trap_operand_exact : Exact trap_operand_form take_trap_operand
 unfolding take_trap_operand
 trap_operand_exact = chosen 2 trap_operand_place trap_operand_payload (λ p. get_or (given trap.None ∷ make1 trap.Word take_word ∷ make1 trap.Long take_long ∷ []) p none) trap_there trap_back
 
-choice_there : (p : ℕ) → p ≤ 1 → (zs : List ℤ) (x : RegisterChoice) (end : List ℤ) → get_or (given choice.None ∷ make1 choice.Some take_byte ∷ []) p none zs ≡ taken x end
+choice_there : (p : ℕ) → p ≤ 1 → (zs : List ℤ) (x : Option ℕ) (end : List ℤ) → get_or (given choice.None ∷ make1 choice.Some take_byte ∷ []) p none zs ≡ taken x end
     → (zs ≡ before (register_choice_payload x) end) × Inside (register_choice_payload x) × (register_choice_place x ≡ p)
 choice_there zero h = given_sound choice.None register_choice_payload (λ x. register_choice_place x ≡ 0) refl refl
 choice_there (suc zero) h = made_sound choice.Some register_choice_payload (λ x. register_choice_place x ≡ 1) byte_exact (λ n. refl) (λ n. refl)
 choice_there (suc (suc p)) h = absurd (omega arith)
 
-choice_back : (x : RegisterChoice) (end : List ℤ) → Inside (register_choice_payload x)
+choice_back : (x : Option ℕ) (end : List ℤ) → Inside (register_choice_payload x)
     → get_or (given choice.None ∷ make1 choice.Some take_byte ∷ []) (register_choice_place x) none (before (register_choice_payload x) end) ≡ taken x end
 choice_back choice.None end i = refl
 choice_back (choice.Some n) end i = made_back choice.Some byte_exact n end i

@@ -1,7 +1,7 @@
 -- Enums and registers: the variant's place, then its fields.
 use Rattle.std.specs.Prelude.{ℕ, [], ◌∷◌, true, ◌&&◌, get_or}
 use Rattle.isa.specs.declared.TrapOperand.TheVariants as trap
-use Rattle.isa.specs.declared.RegisterChoice.TheVariants as choice
+use Rattle.std.specs.declared.option.Option.TheVariants as choice
 use Rattle.numeric_places.specs.declared.Numbers.{Numbers}
 use Rattle.numeric_fields.specs.declared.SizeAt.{SizeAt}
 use Rattle.numeric_fields.specs.declared.AddressWidthAt.{AddressWidthAt}

@@ -9,7 +9,7 @@ use Rattle.std.proofs.Math.ListN.{get_or, length-take}
 use Rattle.std.proofs.Math.Seq.{get_or-take}
 use Rattle.isa.specs.declared.Operand.TheVariants.{Immediate, Register, Indirect, PostIndirect, PreIndirect, IndirectDisplacement, IndirectIndex, PcDisplacement, PcIndex, Extended, Absolute}
 use Rattle.isa.specs.declared.TrapOperand.TheVariants as trap
-use Rattle.isa.specs.declared.RegisterChoice.TheVariants as choice
+use Rattle.std.specs.declared.option.Option.TheVariants as choice
 use Rattle.base_facts.specs.Tests.{Lt, lt?, less, past, and-true, never}
 use Rattle.numeric_places.specs.declared.Numbers.{Numbers}
 use Rattle.numeric_spec.specs.Entry.{is_i32}

@@ -3,8 +3,7 @@
 #![tactic(auto)]
 
 use isa::{
-    AddressWidth, BitField, FieldValue, IndexRegister, Operand, RegisterChoice, RegisterOperand,
-    Size, TrapOperand,
+    AddressWidth, BitField, FieldValue, IndexRegister, Operand, RegisterOperand, Size, TrapOperand,
 };
 pub use numeric_places::Numbers;
 
@@ -100,7 +99,7 @@ pub struct TrapOperandAt {
 #[derive(Clone, Copy)]
 pub struct RegisterChoiceAt {
     pub ok: bool,
-    pub register: RegisterChoice,
+    pub register: Option<u8>,
     pub next: usize,
 }
 

@@ -9,10 +9,7 @@ use crate::{
     AddressWidthAt, BitFieldAt, FieldValueAt, IndexAt, RegisterAt, RegisterChoiceAt, SizeAt,
     TrapOperandAt,
 };
-use isa::{
-    AddressWidth, BitField, FieldValue, IndexRegister, RegisterChoice, RegisterOperand, Size,
-    TrapOperand,
-};
+use isa::{AddressWidth, BitField, FieldValue, IndexRegister, RegisterOperand, Size, TrapOperand};
 
 fn size_of(place: u64) -> Size
     ensures { result ≡ size_by_place place }
@@ -206,20 +203,20 @@ fn register_choice_of(
     match place {
         0 => RegisterChoiceAt {
             ok: true,
-            register: RegisterChoice::None,
+            register: None,
             next: k,
         },
         1 => {
             let n = byte_at(count, negative, magnitude, k);
             RegisterChoiceAt {
                 ok: n.ok,
-                register: RegisterChoice::Some(n.value),
+                register: Some(n.value),
                 next: n.next,
             }
         }
         _ => RegisterChoiceAt {
             ok: true,
-            register: RegisterChoice::None,
+            register: None,
             next: k,
         },
     }

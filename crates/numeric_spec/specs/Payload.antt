@@ -22,8 +22,8 @@ use Rattle.isa.specs.declared.FieldValue.{FieldValue}
 use Rattle.isa.specs.declared.FieldValue.TheVariants as value
 use Rattle.isa.specs.declared.TrapOperand.{TrapOperand}
 use Rattle.isa.specs.declared.TrapOperand.TheVariants as trap
-use Rattle.isa.specs.declared.RegisterChoice.{RegisterChoice}
-use Rattle.isa.specs.declared.RegisterChoice.TheVariants as choice
+use Rattle.std.specs.declared.option.Option.{Option}
+use Rattle.std.specs.declared.option.Option.TheVariants as choice
 use Rattle.isa.specs.declared.Operand.{Operand}
 use Rattle.isa.specs.declared.Operand.TheVariants.{Immediate, Register, Indirect, PostIndirect, PreIndirect, IndirectDisplacement, IndirectIndex, PcDisplacement, PcIndex, Extended, Absolute}
 use Rattle.isa.specs.declared.IndexRegister.{IndexRegister}
@@ -175,15 +175,15 @@ trap_operand_payload (trap.Long n) = long_form n
 abbrev pub trap_operand_form : TrapOperand → List Entry
 trap_operand_form x = unsigned 2 (trap_operand_place x) ∷ trap_operand_payload x
 
-abbrev pub register_choice_place : RegisterChoice → ℕ
+abbrev pub register_choice_place : Option ℕ → ℕ
 register_choice_place choice.None = 0
 register_choice_place (choice.Some n) = 1
 
-abbrev pub register_choice_payload : RegisterChoice → List Entry
+abbrev pub register_choice_payload : Option ℕ → List Entry
 register_choice_payload choice.None = []
 register_choice_payload (choice.Some n) = byte_form n
 
-abbrev pub register_choice_form : RegisterChoice → List Entry
+abbrev pub register_choice_form : Option ℕ → List Entry
 register_choice_form x = unsigned 1 (register_choice_place x) ∷ register_choice_payload x
 
 abbrev pub operand_place : Operand → ℕ

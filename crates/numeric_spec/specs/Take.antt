@@ -12,8 +12,8 @@ use Rattle.isa.specs.declared.RegisterOperand.{RegisterOperand}
 use Rattle.isa.specs.declared.FieldValue.{FieldValue}
 use Rattle.isa.specs.declared.TrapOperand.{TrapOperand}
 use Rattle.isa.specs.declared.TrapOperand.TheVariants as trap
-use Rattle.isa.specs.declared.RegisterChoice.{RegisterChoice}
-use Rattle.isa.specs.declared.RegisterChoice.TheVariants as choice
+use Rattle.std.specs.declared.option.Option.{Option}
+use Rattle.std.specs.declared.option.Option.TheVariants as choice
 use Rattle.isa.specs.declared.Operand.{Operand}
 use Rattle.isa.specs.declared.Operand.TheVariants.{Immediate, Register, Indirect, PostIndirect, PreIndirect, IndirectDisplacement, IndirectIndex, PcDisplacement, PcIndex, Extended, Absolute}
 use Rattle.isa.specs.declared.IndexRegister.{IndexRegister}
@@ -124,7 +124,7 @@ take_bit_field = make2 (λ offset width. record { offset = offset; width = width
 unfoldable pub take_trap_operand : Take TrapOperand
 take_trap_operand = variant 2 (λ place. get_or (given trap.None ∷ make1 trap.Word take_word ∷ make1 trap.Long take_long ∷ []) place none)
 
-unfoldable pub take_register_choice : Take RegisterChoice
+unfoldable pub take_register_choice : Take (Option ℕ)
 take_register_choice = variant 1 (λ place. get_or (given choice.None ∷ make1 choice.Some take_byte ∷ []) place none)
 
 unfoldable pub operand_payloads : List (Take Operand)

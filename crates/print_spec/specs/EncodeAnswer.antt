@@ -7,9 +7,8 @@ use Rattle.numeric_spec.specs.declared.Built.{Built}
 use Rattle.numeric_spec.specs.declared.Built.TheVariants.{Instruction, NotInForm}
 use Rattle.numeric_spec.specs.Take.{Taken, taken, not_there, take_long}
 use Rattle.numeric_spec.specs.Build.{built_of}
-use Rattle.base_spec.specs.declared.Number.{Number}
 use Rattle.base_spec.specs.Parts.{fields}
-use Rattle.base_spec.specs.Number.{number_of}
+use Rattle.base_spec.specs.Number.{Number, number_of}
 use Rattle.base_spec.specs.Numbers.{all_numbers, integer_of}
 use Rattle.base_spec.specs.Written.{hex4_of, decimal_of}
 use Rattle.base_spec.specs.Refused.{tab, refused_text, not_in_form}

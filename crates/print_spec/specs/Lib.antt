@@ -3,3 +3,4 @@ pub mod BytesAnswer
 pub mod Run
 pub mod ReadAnswer
 pub mod Printed
+pub mod Programs

@@ -6,8 +6,7 @@ use Rattle.base_spec.specs.Parts.{fields}
 use Rattle.base_spec.specs.Number.{number_of}
 use Rattle.base_spec.specs.Numbers.{magnitude_of}
 use Rattle.numeric_spec.specs.Form.{numbers_of}
-use Rattle.read_spec.specs.declared.Reading.{Reading}
-use Rattle.read_spec.specs.declared.Reading.TheVariants.{Read, Short, Nothing}
+use Rattle.read_spec.specs.Reading.{Reading, Read, Short, Nothing}
 use Rattle.read_spec.specs.ReadingRefusal.{reading_refusal}
 use Rattle.read_spec.specs.Read.{read_of}
 use Rattle.print_spec.specs.EncodeAnswer.{measured_text}

@@ -1,7 +1,6 @@
 -- The run that a line writes: an address in decimal, then words of four hexadecimal digits, parted by tabs.
 use Rattle.std.specs.Prelude.{Bool, true, false, cond, not, ◌&&◌, List, [], ◌∷◌, map, ℕ, ◌+◌, ◌*◌, ◌-◌, ◌^◌, leb, ltb, eqb, length}
-use Rattle.base_spec.specs.declared.Number.{Number}
-use Rattle.base_spec.specs.declared.Number.TheVariants.{Is, No}
+use Rattle.base_spec.specs.Number.{Number, Is, No}
 
 abbrev pub within : ℕ → ℕ → ℕ → Bool
 within low high b = leb low b && leb b high

@@ -1,22 +1,22 @@
 -- What is written of numbers held as signs and magnitudes.
-use Rattle.std.specs.Prelude.{Bool, false, cond, List, [], ◌∷◌, ◌++◌, ℕ, zero, suc, get_or}
+use Rattle.std.specs.Prelude.{Bool, cond, List, [], ◌∷◌, ◌++◌, ℕ}
+use Rattle.base_spec.specs.declared.Literal.{Literal}
 use Rattle.base_spec.specs.Written.{decimal_of}
 use Rattle.base_spec.specs.Refused.{tab}
-use Rattle.numeric_places.specs.declared.Numbers.{Numbers}
 
 -- `-` where it is negative
 abbrev pub minus_if : Bool → List ℕ
 minus_if negative = cond negative (45 ∷ []) []
 
 -- a number, and a tab
-abbrev pub held_text : Bool → ℕ → List ℕ
-held_text negative n = minus_if negative ++ decimal_of n ++ tab
+abbrev pub literal_text : Literal → List ℕ
+literal_text l = minus_if l.negative ++ decimal_of l.magnitude ++ tab
 
--- the first k of them
-abbrev pub first_numbers : Numbers → ℕ → List ℕ
-first_numbers ns zero = []
-first_numbers ns (suc k) = first_numbers ns k ++ held_text (get_or ns.negative k false) (get_or ns.magnitude k 0)
+-- each of them
+abbrev pub literals_text : List Literal → List ℕ
+literals_text [] = []
+literals_text (l ∷ ls) = literal_text l ++ literals_text ls
 
 -- all of them, => and the length
-unfoldable pub put_text : Numbers → ℕ → List ℕ
-put_text ns n = first_numbers ns ns.count ++ (61 ∷ 62 ∷ 9 ∷ []) ++ decimal_of n ++ (10 ∷ [])
+unfoldable pub put_text : List Literal → ℕ → List ℕ
+put_text ls n = literals_text ls ++ (61 ∷ 62 ∷ 9 ∷ []) ++ decimal_of n ++ (10 ∷ [])

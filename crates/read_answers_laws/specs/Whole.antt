@@ -12,6 +12,7 @@ use Rattle.print_spec.specs.Run.{is_address_field, are_words, field_words}
 use Rattle.read_runs.specs.Kept.{kept_run, no_run, run_in, run_of, run_text, kept_answer_of}
 use Rattle.read_runs.specs.RunLaws.{kept_words}
 use Rattle.print_spec.specs.ReadAnswer.{reading_text, read_answer_of, answer_to}
+use Rattle.print_spec.specs.Programs.{answers_output_of}
 
 kept_address : (a : ℕ) (ws : List ℕ) → read_of (take 16 ws) (kept_run a ws).address ≡ read_of ws a
 unfolding kept_run
@@ -46,3 +47,7 @@ answer_whole line = answer_if (fields line)
 pub answers_whole : (need : ℕ) (text : List ℕ) (from room : ℕ)
     → (step_of kept_answer_of need text from room ≡ step_of read_answer_of need text from room) × (answered_of kept_answer_of need text from room ≡ answered_of read_answer_of need text from room)
 answers_whole need text from room = ((λ i. step_of (λ line. answer_whole line i) need text from room), (λ i. answered_of (λ line. answer_whole line i) need text from room))
+
+-- and so of all that `read` writes
+pub output_whole : (text : List ℕ) → answers_output_of kept_answer_of text ≡ answers_output_of read_answer_of text
+output_whole text = λ i. answers_output_of (λ line. answer_whole line i) text

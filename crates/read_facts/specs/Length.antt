@@ -3,7 +3,7 @@ use Rattle.std.specs.Prelude.{ℕ, zero, suc, ◌+◌, ◌*◌, ◌/◌, ◌%◌
 use Rattle.std.proofs.Common.{arith}
 use Rattle.isa.specs.declared.Instruction.{Instruction}
 use Rattle.encode_spec.specs.Item.{word_address}
-use Rattle.read_spec.specs.declared.Reading.TheVariants.{Read}
+use Rattle.read_spec.specs.Reading.{Read}
 use Rattle.read_spec.specs.Tree.{Tree, ret, fail, more, bind, run, Out, got, short, none}
 use Rattle.read_spec.specs.Map.{group_at}
 use Rattle.read_spec.specs.Layout.{tail_tree}

@@ -1,13 +1,13 @@
 -- The reading as the code does it, by place: what follows the operation word, and the instruction that it forms.
-use Rattle.std.specs.Prelude.{ℕ, ◌+◌, ◌/◌, ◌%◌, ◌<◌, ◌≡◌, refl, List, [], ◌∷◌, get_or, length, drop}
+use Rattle.std.specs.Prelude.{Result, Ok, Err, ℕ, ◌+◌, ◌/◌, ◌%◌, ◌<◌, ◌≡◌, refl, List, [], ◌∷◌, get_or, length, drop}
 use Rattle.std.proofs.Common.{arith, add-one, drop_of_length-le, drop-cons}
 use Rattle.isa.specs.declared.Instruction.{Instruction}
 use Rattle.encode_spec.specs.Item.{word_address}
 use Rattle.base_facts.specs.Tests.{Lt, less, past, lt?}
 use Rattle.read_spec.specs.declared.Group.{Group}
 use Rattle.read_spec.specs.declared.Tail.{Tail}
-use Rattle.read_spec.specs.declared.Reading.{Reading}
-use Rattle.read_spec.specs.declared.Reading.TheVariants.{Short, Nothing}
+use Rattle.read_spec.specs.declared.Unread.{Unread}
+use Rattle.read_spec.specs.Reading.{Reading, Short, Nothing, as_reading}
 use Rattle.read_spec.specs.Tree.{Tree, ret, fail, more, bind, run}
 use Rattle.read_places.specs.RunAt.{At, found, ended, refused, run_at}
 use Rattle.read_spec.specs.Map.{group_at}
@@ -17,26 +17,26 @@ use Rattle.read_spec.specs.Layouts.{layout_of}
 use Rattle.read_spec.specs.Decoded.{decoded}
 use Rattle.read_spec.specs.Read.{reading_of, read_of}
 use Rattle.read_places.specs.Depth.{Within, depth_within, tail_depth}
-use Rattle.read_operands.specs.declared.TailRead.{TailRead}
-use Rattle.read_operands.specs.declared.TailRead.TheVariants.{Got}
-use Rattle.read_operands.specs.declared.TailRead.TheVariants as follow
-use Rattle.read_operands.specs.Read.{followed}
+use Rattle.read_values.specs.OperationWord.{line_in, x_in, opmode_in, ea_in}
+use Rattle.read_operands.specs.Read.{read_of_at}
 
 -- r is what the tree reads after n words, whatever words are left
 abbrev pub Ends : Tree Instruction → ℕ → ℕ → Reading → Type 0
 Ends t a n r = (rest : List ℕ) → r ≡ reading_of (run t a n rest)
 
+-- what the group of the operation word w forms with what was read behind it
+abbrev pub decoded_in : ℕ → Group → ℕ → Tail → Tree Instruction
+decoded_in a s w t = decoded a s (line_in w) (x_in w) (opmode_in w) (ea_in w) t.value t.source t.destination
+
 -- at most 13 words are read, so a place modulo 16 is the place
-abbrev pub ReadsAs : ℕ → Group → ℕ → ℕ → ℕ → ℕ → TailRead → Reading → Type 0
-ReadsAs a s line x opmode ea (Got f n) r = Ends (decoded a s line x opmode ea f.value f.source f.destination) a (n % 16) r
-ReadsAs a s line x opmode ea follow.Short r = r ≡ Short
-ReadsAs a s line x opmode ea follow.Nothing r = r ≡ Nothing
+abbrev pub ReadsAs : ℕ → Group → ℕ → Result (Tail × ℕ) Unread → Reading → Type 0
+ReadsAs a s w (Ok t) r = Ends (decoded_in a s w t.0) a (t.1 % 16) r
+ReadsAs a s w (Err e) r = r ≡ as_reading (Err e)
 
 -- the words behind the operation word w of a run
 abbrev pub FollowsAs : ℕ → List ℕ → ℕ → Reading → Type 0
 FollowsAs a ws w r =
-    ReadsAs a (group_of (w / 64)) (w / 4096) (w / 512 % 8) (w / 64 % 8) (w % 64)
-    (followed (run_at (tail_tree (layout_of (group_of (w / 64)) (w / 4096) (w / 512 % 8) (w / 64 % 8) (w % 64))) a ws 1)) r
+    ReadsAs a (group_of (w / 64)) w (read_of_at (run_at (tail_tree (layout_of (group_of (w / 64)) (line_in w) (x_in w) (opmode_in w) (ea_in w))) a ws 1)) r
 
 -- ---- one tree after another, the first run by place
 module _ {A : Type 0} (f : A → Tree Instruction) (a : ℕ) where
@@ -59,13 +59,10 @@ module _ {A : Type 0} (f : A → Tree Instruction) (a : ℕ) where
           let g : r ≡ Short = rw e at h in
           rw (drop_of_length-le ws p) g
 
--- ---- the fields, and the instruction that they form
-module _ (a : ℕ) (s : Group) (line x opmode ea : ℕ) where
-  abbrev decoded_of : Tail → Tree Instruction
-  decoded_of f = decoded a s line x opmode ea f.value f.source f.destination
-
-  within-read : (o : At Tail) (r : Reading) → Within o 13 → ReadsAs a s line x opmode ea (followed o) r → After decoded_of a o r
-  within-read (found f n) r h g = let e : n % 16 ≡ n = omega arith in rw e at g
+-- ---- what is found, and the instruction that it forms
+module _ (a : ℕ) (s : Group) (w : ℕ) where
+  within-read : (o : At Tail) (r : Reading) → Within o 13 → ReadsAs a s w (read_of_at o) r → After (decoded_in a s w) a o r
+  within-read (found t n) r h g = let e : n % 16 ≡ n = omega arith in rw e at g
   within-read ended r h g = g
   within-read refused r h g = g
 
@@ -89,4 +86,4 @@ read_some a (w ∷ ws) r l h =
     let s = group_at (w / 4096) (w / 512 % 8) (w / 64 % 8) in
     let t = tail_tree (layout_of s (w / 4096) (w / 512 % 8) (w / 64 % 8) (w % 64)) in
     let d : Within (run_at t a (w ∷ ws) 1) 13 = depth_within t 12 (tail_depth (layout_of s (w / 4096) (w / 512 % 8) (w / 64 % 8) (w % 64))) a (w ∷ ws) 1 in
-    then_read (decoded_of a s (w / 4096) (w / 512 % 8) (w / 64 % 8) (w % 64)) a t (w ∷ ws) 1 r (within-read a s (w / 4096) (w / 512 % 8) (w / 64 % 8) (w % 64) (run_at t a (w ∷ ws) 1) r d (rw (group_same w) at h))
+    then_read (decoded_in a s w) a t (w ∷ ws) 1 r (within-read a s w (run_at t a (w ∷ ws) 1) r d (rw (group_same w) at h))

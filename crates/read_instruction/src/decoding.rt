@@ -1,18 +1,19 @@
-// From the group of an operation word, its fields and what was read behind it to the instruction.
+// From the group of an operation word, the word and what was read behind it to the instruction.
 ghost use Rattle.std.specs.Prelude.{true, ◌≡◌, ℕ, ◌<◌, eqb};
 ghost use Rattle.encode_spec.specs.Ea.{mode_of};
-ghost use Rattle.read_spec.specs.Decoded.{decoded};
+ghost use Rattle.read_values.specs.OperationWord.{ea_in};
 ghost use Rattle.read_places.specs.Groups.{group_number};
 ghost use Rattle.read_spec.specs.Tree.{ret};
+ghost use Rattle.read_spec.specs.Reading.{as_reading};
 ghost use Rattle.read_instruction.specs.Takes.{takes};
-ghost use Rattle.read_instruction.specs.ReadAt.{Ends};
+ghost use Rattle.read_instruction.specs.ReadAt.{decoded_in, Ends};
 
 use isa::{Instruction, Operand, RawOperation};
 use read_opcodes_0_3::{immediate, movement};
 use read_opcodes_4_7::{conditional, miscellaneous, system};
 use read_opcodes_8_f::{arithmetic, shift};
-use read_spec::{Group, Reading};
-use read_values::operation::word_of;
+use read_spec::{Group, Read, Tail, Unread};
+use read_values::operation_word::OperationWord;
 
 // d16(An).
 fn is_displaced(operand: Operand) -> bool
@@ -47,110 +48,76 @@ fn takes(group: Group, ea: u8, source: Operand, destination: Operand) -> bool
 }
 
 // The instruction of a group of lines 8 to F.
-fn high_lines(
-    group: Group,
-    line: u8,
-    x: u8,
-    opmode: u8,
-    ea: u8,
-    value: u32,
-    source: Operand,
-    destination: Operand,
-) -> Instruction
-    requires { (line < 16) × (x < 8) × (opmode < 8) × (ea < 64) × (takes group ea source destination ≡ true) × (21 < group_number group) }
-    ensures { (a : ℕ) → decoded a group line x opmode ea value source destination ≡ ret result }
+fn high_lines(group: Group, w: OperationWord, tail: Tail) -> Instruction
+    requires { (takes group (ea_in w.0) tail.source tail.destination ≡ true) × (21 < group_number group) }
+    ensures { (a : ℕ) → decoded_in a group w.0 tail ≡ ret result }
 {
     match group {
-        Group::IntoData => return arithmetic::into_data(line, x, opmode, source),
-        Group::ArithmeticExtended => return arithmetic::arithmetic(line, x, opmode, ea, source),
-        Group::LogicDecimal => return arithmetic::logic_decimal(line, x, ea, source),
-        Group::LogicPack => return arithmetic::logic_pack(x, opmode, ea, value, source),
-        Group::LogicExchange => return arithmetic::logic_exchange(x, opmode, ea, source),
-        Group::LogicCompare => return arithmetic::logic_compare(x, opmode, ea, source, destination),
-        Group::WordIntoData => return arithmetic::word_into_data(line, x, opmode, source),
-        Group::IntoAddress => return arithmetic::into_address(line, x, opmode, source),
-        Group::ShiftRegister => return shift::shift_register(x, opmode, ea),
-        Group::ShiftMemory => return shift::shift_memory(x, opmode, source),
-        Group::BitField => return shift::bit_field(x, opmode, value, source),
-        Group::LineA => return shift::raw(RawOperation::LINEA, word_of(line, x, opmode, ea)),
-        _ => return shift::raw(RawOperation::LINEF, word_of(line, x, opmode, ea)),
+        Group::IntoData => arithmetic::into_data(w, tail),
+        Group::ArithmeticExtended => arithmetic::arithmetic(w, tail),
+        Group::LogicDecimal => arithmetic::logic_decimal(w, tail),
+        Group::LogicPack => arithmetic::logic_pack(w, tail),
+        Group::LogicExchange => arithmetic::logic_exchange(w, tail),
+        Group::LogicCompare => arithmetic::logic_compare(w, tail),
+        Group::WordIntoData => arithmetic::word_into_data(w, tail),
+        Group::IntoAddress => arithmetic::into_address(w, tail),
+        Group::ShiftRegister => shift::shift_register(w),
+        Group::ShiftMemory => shift::shift_memory(w, tail),
+        Group::BitField => shift::bit_field(w, tail),
+        Group::LineA => shift::raw(RawOperation::LINEA, w),
+        _ => shift::raw(RawOperation::LINEF, w),
     }
 }
 
 // The instruction of a group of lines 0 to 7, or else of the others.
-fn instruction_of(
-    group: Group,
-    address: u32,
-    line: u8,
-    x: u8,
-    opmode: u8,
-    ea: u8,
-    value: u32,
-    source: Operand,
-    destination: Operand,
-) -> Instruction
-    requires { (line < 16) × (x < 8) × (opmode < 8) × (ea < 64) × (takes group ea source destination ≡ true) }
-    ensures { decoded address group line x opmode ea value source destination ≡ ret result }
+fn instruction_of(group: Group, address: u32, w: OperationWord, tail: Tail) -> Instruction
+    requires { takes group (ea_in w.0) tail.source tail.destination ≡ true }
+    ensures { decoded_in address group w.0 tail ≡ ret result }
 {
-    let code = x * 2 + opmode / 4;
-    let byte = opmode % 4 * 64 + ea;
     match group {
-        Group::ImmediateInto => return immediate::immediate_into(x, opmode, ea, value, source),
-        Group::StaticBit => return immediate::static_bit(opmode, value, source),
-        Group::DynamicBitMovep => return immediate::dynamic_bit(x, opmode, ea, source),
-        Group::MOVES => return immediate::moves(opmode, value, source),
-        Group::Bounds => return immediate::bounds(x, value, source),
-        Group::CAS => return immediate::cas(x, ea, value, source),
-        Group::MOVE => return movement::move_data(line, x, opmode, source, destination),
-        Group::OneOperand => return miscellaneous::one_operand(x, opmode, source),
-        Group::UnsizedOneIllegal => return miscellaneous::unsized_one_illegal(
-            x, opmode, ea, source,
-        ),
-        Group::NbcdLink => return miscellaneous::nbcd_link(ea, value, source),
-        Group::PeaSwapBkpt => return miscellaneous::pea_swap_bkpt(ea, source),
-        Group::MovemExt => return miscellaneous::movem_ext(x, opmode, ea, value, source),
-        Group::MULL => return miscellaneous::mull(value, source),
-        Group::DIVL => return miscellaneous::divl(value, source),
-        Group::System => return system::system(ea, value),
-        Group::LeaExtb => return miscellaneous::lea_extb(x, ea, source),
-        Group::CHK => return miscellaneous::chk(x, opmode, source),
-        Group::Quick => return conditional::quick(x, opmode, source),
-        Group::Conditional => return conditional::conditional(address, code, ea, value, source),
-        Group::Branch => return conditional::branch(address, code, byte, value),
-        Group::MOVEQ => return conditional::moveq(x, byte),
-        _ => return high_lines(group, line, x, opmode, ea, value, source, destination),
+        Group::ImmediateInto => immediate::immediate_into(w, tail),
+        Group::StaticBit => immediate::static_bit(w, tail),
+        Group::DynamicBitMovep => immediate::dynamic_bit(w, tail),
+        Group::MOVES => immediate::moves(w, tail),
+        Group::Bounds => immediate::bounds(w, tail),
+        Group::CAS => immediate::cas(w, tail),
+        Group::MOVE => movement::move_data(w, tail),
+        Group::OneOperand => miscellaneous::one_operand(w, tail),
+        Group::UnsizedOneIllegal => miscellaneous::unsized_one_illegal(w, tail),
+        Group::NbcdLink => miscellaneous::nbcd_link(w, tail),
+        Group::PeaSwapBkpt => miscellaneous::pea_swap_bkpt(w, tail),
+        Group::MovemExt => miscellaneous::movem_ext(w, tail),
+        Group::MULL => miscellaneous::mull(tail),
+        Group::DIVL => miscellaneous::divl(tail),
+        Group::System => system::system(w, tail),
+        Group::LeaExtb => miscellaneous::lea_extb(w, tail),
+        Group::CHK => miscellaneous::chk(w, tail),
+        Group::Quick => conditional::quick(w, tail),
+        Group::Conditional => conditional::conditional(address, w, tail),
+        Group::Branch => conditional::branch(address, w, tail),
+        Group::MOVEQ => conditional::moveq(w),
+        _ => high_lines(group, w, tail),
     }
 }
 
-// The instruction and its length in bytes, after `count` words, or nothing.
+/// The instruction and its length in bytes, after `count` words, or nothing.
 pub fn decode(
     group: Group,
     address: u32,
-    line: u8,
-    x: u8,
-    opmode: u8,
-    ea: u8,
-    value: u32,
-    source: Operand,
-    destination: Operand,
+    w: OperationWord,
+    tail: Tail,
     count: u32,
-) -> Reading
-    requires { (line < 16) × (x < 8) × (opmode < 8) × (ea < 64) × (count < 16) }
-    ensures { Ends (decoded address group line x opmode ea value source destination) address count result }
+) -> Result<Read, Unread>
+    requires { count < 16 }
+    ensures { Ends (decoded_in address group w.0 tail) address count (as_reading result) }
 {
-    if takes(group, ea, source, destination) {
-        let instruction = instruction_of(
-            group,
-            address,
-            line,
-            x,
-            opmode,
-            ea,
-            value,
-            source,
-            destination,
-        );
-        return Reading::Read(instruction, 2 * count);
+    if takes(group, w.ea(), tail.source, tail.destination) {
+        let instruction = instruction_of(group, address, w, tail);
+        Ok(Read {
+            instruction,
+            bytes: 2 * count,
+        })
+    } else {
+        Err(Unread::Nothing)
     }
-    Reading::Nothing
 }

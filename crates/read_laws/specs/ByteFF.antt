@@ -7,7 +7,7 @@ use Rattle.encode_spec.specs.Item.{word_address}
 use Rattle.read_spec.specs.declared.Specifier.TheVariants as specifier
 use Rattle.read_spec.specs.declared.Group.{Group}
 use Rattle.read_spec.specs.declared.Group.TheVariants as group
-use Rattle.read_spec.specs.declared.Reading.TheVariants.{Read, Short}
+use Rattle.read_spec.specs.Reading.{Read, Short}
 use Rattle.read_spec.specs.Tree.{ret, bind, run}
 use Rattle.read_spec.specs.Number.{reach}
 use Rattle.read_spec.specs.Layout.{tail_tree, alone}

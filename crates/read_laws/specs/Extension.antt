@@ -35,8 +35,8 @@ use Rattle.encode_spec.specs.System.{cas2_items, moves_parts, cas_parts, cas2_pa
 use Rattle.isa.specs.declared.Size.TheVariants.{Long, Byte, Word}
 use Rattle.isa.specs.declared.Sign.{Sign}
 use Rattle.isa.specs.declared.Sign.TheVariants.{Signed, Unsigned}
-use Rattle.isa.specs.declared.RegisterChoice.{RegisterChoice}
-use Rattle.isa.specs.declared.RegisterChoice.TheVariants.{None, Some}
+use Rattle.std.specs.declared.option.Option.{Option}
+use Rattle.std.specs.declared.option.Option.TheVariants.{None, Some}
 use Rattle.read_operand_laws.specs.TailStands.{SpecifierStands}
 use Rattle.isa.specs.declared.Instruction.{Instruction}
 use Rattle.read_laws.specs.Tests.{equal, yes, no, known, says, implies, facts_below, modes_say}
@@ -200,19 +200,19 @@ divl_sound a line x opmode ea hl hx ho he e f h p i r =
     h p (λ n. n) refl (λ e. rw e))
 
 -- MULL
-abbrev high_bit : RegisterChoice → ℕ
+abbrev high_bit : Option ℕ → ℕ
 high_bit None = 0
 high_bit (Some n) = 1
 
-abbrev mull_word : ℕ → RegisterChoice → Sign → ℕ
+abbrev mull_word : ℕ → Option ℕ → Sign → ℕ
 mull_word low high sign = low % 8 * 4096 + signed_bit sign * 2048 + high_bits high
 
-mull_as : (low : ℕ) (high : RegisterChoice) (sign : Sign) → mull_word low high sign ≡ long_word (low % 8) (signed_bit sign) (high_bit high) (high_number high % 8)
+mull_as : (low : ℕ) (high : Option ℕ) (sign : Sign) → mull_word low high sign ≡ long_word (low % 8) (signed_bit sign) (high_bit high) (high_number high % 8)
 mull_as low None sign = omega arith
 mull_as low (Some n) sign = omega arith
 
 -- the choice by its bit and its number, and back
-high_is : (high : RegisterChoice) → high_number high < 8
+high_is : (high : Option ℕ) → high_number high < 8
     → (high_bit high < 2) × (cond (eqb (high_bit high) 1) (Some (high_number high % 8)) None ≡ high)
     × ((eqb (high_bit high) 1 || eqb (high_number high % 8) 0) ≡ true)
 high_is None h = (omega arith, refl, refl)
@@ -226,13 +226,13 @@ is-high v e = go (eq? (v / 1024 % 2) 1)
     go (Eq.same p g) = rw g (sym p, omega arith, omega arith)
     go (Eq.other p g) = let z = eqb_eq (v % 8) 0 (rw g at e) in rw g (omega (arith, p), sym z, omega arith)
 
-mull_laying : (a : ℕ) (o : Operand) (low : ℕ) (high : RegisterChoice) (sign : Sign) (v : ℕ) → mull_word low high sign ≡ v
+mull_laying : (a : ℕ) (o : Operand) (low : ℕ) (high : Option ℕ) (sign : Sign) (v : ℕ) → mull_word low high sign ≡ v
     → Laying a (MULL o low high sign) 4 6 0 specifier.Multiply Long (bits data_column) v o (Passing (register (high_number high) ∷ register low ∷ []))
 unfolding mull_parts
 mull_laying a o low high sign v e =
     form_word (register (high_number high) ∷ register low ∷ word (mull_word low high sign) ∷ []) 28 refl refl (ap (λ (w : ℕ). w ∷ []) e)
 
-pub mull_reads : (a : ℕ) (o : Operand) (low : ℕ) (high : RegisterChoice) (sign : Sign) → Accepted a (MULL o low high sign) → Reads a (MULL o low high sign)
+pub mull_reads : (a : ℕ) (o : Operand) (low : ℕ) (high : Option ℕ) (sign : Sign) → Accepted a (MULL o low high sign) → Reads a (MULL o low high sign)
 unfolding group_at map
 mull_reads a o low high sign (n, e, l) =
     let s = sign_bit sign in

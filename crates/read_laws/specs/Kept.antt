@@ -2,8 +2,7 @@
 use Rattle.std.specs.Prelude.{ℕ, zero, suc, ◌*◌, ◌≡◌, refl, List, take}
 use Rattle.std.proofs.Common.{ap, sym, ◌∙◌}
 use Rattle.isa.specs.declared.Instruction.{Instruction}
-use Rattle.read_spec.specs.declared.Reading.{Reading}
-use Rattle.read_spec.specs.declared.Reading.TheVariants.{Read, Short, Nothing}
+use Rattle.read_spec.specs.Reading.{Reading, Read, Short, Nothing}
 use Rattle.read_spec.specs.Tree.{Tree, ret, fail, more, run, Out, got, short, none}
 use Rattle.read_places.specs.RunAt.{At, found, ended, refused}
 use Rattle.read_places.specs.Depth.{Depth, at_out, depth_take}

@@ -5,7 +5,7 @@ use Rattle.isa.specs.declared.Instruction.{Instruction}
 use Rattle.encode_spec.specs.Encode.{words_of}
 use Rattle.read_spec.specs.declared.Group.{Group}
 use Rattle.read_spec.specs.declared.Tail.{Tail}
-use Rattle.read_spec.specs.declared.Reading.TheVariants.{Read, Short, Nothing}
+use Rattle.read_spec.specs.Reading.{Read, Short, Nothing}
 use Rattle.read_spec.specs.Tree.{Tree, run, Out, got, short, none}
 use Rattle.read_spec.specs.Plain.{plain}
 use Rattle.read_spec.specs.Map.{group_at}

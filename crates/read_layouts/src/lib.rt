@@ -1,5 +1,4 @@
 // What an operation word is, and what follows it (the manual, sections 4 and 6, each instruction's format; section 8).
-// line, x, opmode and ea are bits 15 to 12, 11 to 9, 8 to 6 and 5 to 0 of the operation word.
 #![tactic(auto)]
 
 ghost use Rattle.std.specs.Prelude.{cond, ◌≡◌, ◌<◌};
@@ -8,6 +7,7 @@ ghost use Rattle.isa_spec.specs.Code.{unsized_size};
 ghost use Rattle.read_spec.specs.Modes.{readable_modes, static_modes_at, unsized_modes};
 ghost use Rattle.read_spec.specs.Layout.{two, one, alone, bare, no_layout};
 ghost use Rattle.read_spec.specs.Layouts.{immediate_specifier, immediate_layout, dynamic_bit_movep_layout, cas_layout, movea_layout, move_layout, one_layout, unsized_layout, unsized_one_illegal_layout, nbcd_link_layout, pea_swap_bkpt_layout, movem_ext_layout, system_specifier, system_layout, lea_extb_layout, quick_layout, trap_specifier, conditional_layout, branch_layout, into_data_layout, from_data_layout, logic_exchange_layout, logic_compare_layout, bit_field_layout, layout_of};
+ghost use Rattle.read_values.specs.OperationWord.{line_in, x_in, opmode_in, ea_in};
 
 use isa::{BitFieldOperation, Size, UnsizedOneOperation};
 use isa_operands::{
@@ -18,8 +18,9 @@ use isa_values::bit_field_operation;
 use isa_values::code::is_byte;
 use read_spec::{Group, Layout, Specifier};
 use read_values::operation::{
-    bit_field_at, is_exchange, less, move_size, size_at, to_status, unsized_at,
+    bit_field_of, is_exchange, move_size, size_at, to_status, unsized_at,
 };
+use read_values::operation_word::OperationWord;
 
 pub mod map; // the group of an operation word
 
@@ -128,41 +129,46 @@ fn static_modes(kind: u8) -> u16
 }
 
 // ORI, ANDI, SUBI, ADDI, EORI and CMPI, and to CCR and SR.
-fn immediate_layout(x: u8, opmode: u8, ea: u8) -> Layout
-    ensures { result ≡ immediate_layout x opmode ea }
+fn immediate_layout(w: OperationWord) -> Layout
+    ensures { result ≡ immediate_layout (x_in w.0) (opmode_in w.0) (ea_in w.0) }
 {
-    let size = size_at(opmode);
+    let size = size_at(w.opmode());
     let specifier = immediate_specifier(size);
-    let modes = modes_if(x == 6, DATA_NOT_IMMEDIATE, DATA_ALTERABLE);
-    if to_status(x, opmode, ea) {
+    let modes = modes_if(w.x() == 6, DATA_NOT_IMMEDIATE, DATA_ALTERABLE);
+    if to_status(w) {
         alone(specifier)
     } else {
-        one(specifier, size, ea, modes)
+        one(specifier, size, w.ea(), modes)
     }
 }
 
 // BTST, BCHG, BCLR and BSET with a data register, and MOVEP.
-fn dynamic_bit_movep_layout(opmode: u8, ea: u8) -> Layout
-    ensures { result ≡ dynamic_bit_movep_layout opmode ea }
+fn dynamic_bit_movep_layout(w: OperationWord) -> Layout
+    ensures { result ≡ dynamic_bit_movep_layout (opmode_in w.0) (ea_in w.0) }
 {
-    let kind = less(opmode, 4);
+    let kind = w.opmode().saturating_sub(4);
     let modes = modes_if(kind == 0, DATA, DATA_ALTERABLE);
-    if ea / 8 == 1 {
-        one(Specifier::Nothing, Size::Word, 40 + ea % 8, DISPLACEMENT)
+    if w.ea() / 8 == 1 {
+        one(
+            Specifier::Nothing,
+            Size::Word,
+            40 + w.ea() % 8,
+            DISPLACEMENT,
+        )
     } else {
-        one(Specifier::Nothing, Size::Byte, ea, modes)
+        one(Specifier::Nothing, Size::Byte, w.ea(), modes)
     }
 }
 
 // CAS and CAS2.
-fn cas_layout(x: u8, ea: u8) -> Layout
-    ensures { result ≡ cas_layout x ea }
+fn cas_layout(w: OperationWord) -> Layout
+    ensures { result ≡ cas_layout (x_in w.0) (ea_in w.0) }
 {
-    let size = size_at(less(x, 5));
-    if (ea == 60) & (6 <= x) {
+    let size = size_at(w.x().saturating_sub(5));
+    if (w.ea() == 60) & (6 <= w.x()) {
         alone(Specifier::CompareTwo)
     } else {
-        one(Specifier::Compare, size, ea, MEMORY_ALTERABLE)
+        one(Specifier::Compare, size, w.ea(), MEMORY_ALTERABLE)
     }
 }
 
@@ -178,46 +184,42 @@ fn movea_layout(size: Size, ea: u8) -> Layout
 }
 
 // MOVE: the destination's register before its mode.
-fn move_layout(size: Size, x: u8, opmode: u8, ea: u8) -> Layout
-    requires { (x < 8) × (opmode < 8) }
-    ensures { result ≡ move_layout size x opmode ea }
+fn move_layout(size: Size, w: OperationWord) -> Layout
+    ensures { result ≡ move_layout size (x_in w.0) (opmode_in w.0) (ea_in w.0) }
 {
     let modes = readable_modes(size);
-    if opmode == 1 {
-        movea_layout(size, ea)
+    if w.opmode() == 1 {
+        movea_layout(size, w.ea())
     } else {
         two(
             Specifier::Nothing,
             size,
-            ea,
+            w.ea(),
             modes,
-            opmode * 8 + x,
+            w.opmode() * 8 + w.x(),
             DATA_ALTERABLE,
         )
     }
 }
 
 // NEGX, CLR, NEG, NOT and TST.
-fn one_layout(size: Size, x: u8, ea: u8) -> Layout
-    ensures { result ≡ one_layout size x ea }
+fn one_layout(size: Size, w: OperationWord) -> Layout
+    ensures { result ≡ one_layout size (x_in w.0) (ea_in w.0) }
 {
-    let modes = modes_if(x == 5, readable_modes(size), DATA_ALTERABLE);
-    one(Specifier::Nothing, size, ea, modes)
+    let modes = modes_if(w.x() == 5, readable_modes(size), DATA_ALTERABLE);
+    one(Specifier::Nothing, size, w.ea(), modes)
 }
 
 fn unsized_modes(operation: UnsizedOneOperation) -> u16
     ensures { result ≡ unsized_modes operation }
 {
     match operation {
-        UnsizedOneOperation::PEA => CONTROL,
-        UnsizedOneOperation::NBCD => DATA_ALTERABLE,
-        UnsizedOneOperation::JSR => CONTROL,
-        UnsizedOneOperation::JMP => CONTROL,
-        UnsizedOneOperation::TAS => DATA_ALTERABLE,
-        UnsizedOneOperation::MOVEtoCCR => DATA,
-        UnsizedOneOperation::MOVEfromCCR => DATA_ALTERABLE,
-        UnsizedOneOperation::MOVEtoSR => DATA,
-        UnsizedOneOperation::MOVEfromSR => DATA_ALTERABLE,
+        UnsizedOneOperation::PEA | UnsizedOneOperation::JSR | UnsizedOneOperation::JMP => CONTROL,
+        UnsizedOneOperation::NBCD
+        | UnsizedOneOperation::TAS
+        | UnsizedOneOperation::MOVEfromCCR
+        | UnsizedOneOperation::MOVEfromSR => DATA_ALTERABLE,
+        UnsizedOneOperation::MOVEtoCCR | UnsizedOneOperation::MOVEtoSR => DATA,
     }
 }
 
@@ -225,15 +227,13 @@ fn unsized_size(operation: UnsizedOneOperation) -> Size
     ensures { result ≡ unsized_size operation }
 {
     match operation {
-        UnsizedOneOperation::PEA => Size::Long,
-        UnsizedOneOperation::NBCD => Size::Byte,
-        UnsizedOneOperation::JSR => Size::Long,
-        UnsizedOneOperation::JMP => Size::Long,
-        UnsizedOneOperation::TAS => Size::Byte,
-        UnsizedOneOperation::MOVEtoCCR => Size::Word,
-        UnsizedOneOperation::MOVEfromCCR => Size::Word,
-        UnsizedOneOperation::MOVEtoSR => Size::Word,
-        UnsizedOneOperation::MOVEfromSR => Size::Word,
+        UnsizedOneOperation::PEA | UnsizedOneOperation::JSR | UnsizedOneOperation::JMP =>
+            Size::Long,
+        UnsizedOneOperation::NBCD | UnsizedOneOperation::TAS => Size::Byte,
+        UnsizedOneOperation::MOVEtoCCR
+        | UnsizedOneOperation::MOVEfromCCR
+        | UnsizedOneOperation::MOVEtoSR
+        | UnsizedOneOperation::MOVEfromSR => Size::Word,
     }
 }
 
@@ -249,13 +249,13 @@ fn unsized_layout(operation: UnsizedOneOperation, ea: u8) -> Layout
 }
 
 // ILLEGAL stands where TAS would have an immediate operand.
-fn unsized_one_illegal_layout(x: u8, opmode: u8, ea: u8) -> Layout
-    ensures { result ≡ unsized_one_illegal_layout x opmode ea }
+fn unsized_one_illegal_layout(w: OperationWord) -> Layout
+    ensures { result ≡ unsized_one_illegal_layout (x_in w.0) (opmode_in w.0) (ea_in w.0) }
 {
-    if (x == 5) & (ea == 60) {
+    if (w.x() == 5) & (w.ea() == 60) {
         bare()
     } else {
-        unsized_layout(unsized_at(x, opmode), ea)
+        unsized_layout(unsized_at(w), w.ea())
     }
 }
 
@@ -282,15 +282,15 @@ fn pea_swap_bkpt_layout(ea: u8) -> Layout
 }
 
 // MOVEM, and EXT.
-fn movem_ext_layout(x: u8, opmode: u8, ea: u8) -> Layout
-    ensures { result ≡ movem_ext_layout x opmode ea }
+fn movem_ext_layout(w: OperationWord) -> Layout
+    ensures { result ≡ movem_ext_layout (x_in w.0) (opmode_in w.0) (ea_in w.0) }
 {
-    let size = size_at(less(opmode, 1));
-    let modes = modes_if(x == 4, MOVEM_TO_MEMORY, MOVEM_FROM_MEMORY);
-    if (x == 4) & (ea < 8) {
+    let size = size_at(w.opmode().saturating_sub(1));
+    let modes = modes_if(w.x() == 4, MOVEM_TO_MEMORY, MOVEM_FROM_MEMORY);
+    if (w.x() == 4) & (w.ea() < 8) {
         bare()
     } else {
-        one(Specifier::Word, size, ea, modes)
+        one(Specifier::Word, size, w.ea(), modes)
     }
 }
 
@@ -317,13 +317,13 @@ fn system_layout(ea: u8) -> Layout
 }
 
 // LEA, and EXTB.L.
-fn lea_extb_layout(x: u8, ea: u8) -> Layout
-    ensures { result ≡ lea_extb_layout x ea }
+fn lea_extb_layout(w: OperationWord) -> Layout
+    ensures { result ≡ lea_extb_layout (x_in w.0) (ea_in w.0) }
 {
-    if (x == 4) & (ea < 8) {
+    if (w.x() == 4) & (w.ea() < 8) {
         bare()
     } else {
-        one(Specifier::Nothing, Size::Long, ea, CONTROL)
+        one(Specifier::Nothing, Size::Long, w.ea(), CONTROL)
     }
 }
 
@@ -375,11 +375,15 @@ fn branch_layout(byte: u8) -> Layout
 }
 
 // <ea>,Dn of OR, AND, SUB, CMP and ADD.
-fn into_data_layout(line: u8, size: Size, ea: u8) -> Layout
-    ensures { result ≡ into_data_layout line size ea }
+fn into_data_layout(size: Size, w: OperationWord) -> Layout
+    ensures { result ≡ into_data_layout (line_in w.0) size (ea_in w.0) }
 {
-    let modes = modes_if((line == 8) | (line == 12), DATA, readable_modes(size));
-    one(Specifier::Nothing, size, ea, modes)
+    let modes = modes_if(
+        (w.line() == 8) | (w.line() == 12),
+        DATA,
+        readable_modes(size),
+    );
+    one(Specifier::Nothing, size, w.ea(), modes)
 }
 
 // Dn,<ea> of these; below 16 stand the forms Dy,Dx and -(Ay),-(Ax) of others.
@@ -393,34 +397,33 @@ fn from_data_layout(specifier: Specifier, size: Size, ea: u8) -> Layout
     }
 }
 
-fn logic_exchange_layout(opmode: u8, ea: u8) -> Layout
-    ensures { result ≡ logic_exchange_layout opmode ea }
+fn logic_exchange_layout(w: OperationWord) -> Layout
+    ensures { result ≡ logic_exchange_layout (opmode_in w.0) (ea_in w.0) }
 {
-    let size = size_at(less(opmode, 4));
-    if is_exchange(opmode, ea) {
+    let size = size_at(w.opmode().saturating_sub(4));
+    if is_exchange(w) {
         bare()
     } else {
-        one(Specifier::Nothing, size, ea, MEMORY_ALTERABLE)
+        one(Specifier::Nothing, size, w.ea(), MEMORY_ALTERABLE)
     }
 }
 
 // CMPM takes two (An)+ only; EOR.
-fn logic_compare_layout(x: u8, opmode: u8, ea: u8) -> Layout
-    requires { x < 8 }
-    ensures { result ≡ logic_compare_layout x opmode ea }
+fn logic_compare_layout(w: OperationWord) -> Layout
+    ensures { result ≡ logic_compare_layout (x_in w.0) (opmode_in w.0) (ea_in w.0) }
 {
-    let size = size_at(less(opmode, 4));
-    if ea / 8 == 1 {
+    let size = size_at(w.opmode().saturating_sub(4));
+    if w.ea() / 8 == 1 {
         two(
             Specifier::Nothing,
             Size::Byte,
-            24 + ea % 8,
+            24 + w.ea() % 8,
             POSTINCREMENT,
-            24 + x,
+            24 + w.x(),
             POSTINCREMENT,
         )
     } else {
-        one(Specifier::Nothing, size, ea, DATA_ALTERABLE)
+        one(Specifier::Nothing, size, w.ea(), DATA_ALTERABLE)
     }
 }
 
@@ -435,47 +438,60 @@ fn bit_field_layout(operation: BitFieldOperation, ea: u8) -> Layout
     one(Specifier::BitField, Size::Byte, ea, modes)
 }
 
-// What follows the operation words of a group.
-pub fn layout(group: Group, line: u8, x: u8, opmode: u8, ea: u8) -> Layout
-    requires { (x < 8) × (opmode < 8) × (ea < 64) }
-    ensures { result ≡ layout_of group line x opmode ea }
+/// What follows the operation words of a group.
+pub fn layout(group: Group, w: OperationWord) -> Layout
+    ensures { result ≡ layout_of group (line_in w.0) (x_in w.0) (opmode_in w.0) (ea_in w.0) }
 {
     match group {
         Group::Unused => no_layout(),
-        Group::ImmediateInto => immediate_layout(x, opmode, ea),
-        Group::StaticBit => one(Specifier::Byte, Size::Byte, ea, static_modes(opmode)),
-        Group::DynamicBitMovep => dynamic_bit_movep_layout(opmode, ea),
-        Group::MOVES => one(Specifier::General, size_at(opmode), ea, MEMORY_ALTERABLE),
-        Group::Bounds => one(Specifier::General, size_at(x), ea, CONTROL),
-        Group::CAS => cas_layout(x, ea),
-        Group::MOVE => move_layout(move_size(line), x, opmode, ea),
-        Group::OneOperand => one_layout(size_at(opmode), x, ea),
-        Group::UnsizedOneIllegal => unsized_one_illegal_layout(x, opmode, ea),
-        Group::NbcdLink => nbcd_link_layout(ea),
-        Group::PeaSwapBkpt => pea_swap_bkpt_layout(ea),
-        Group::MovemExt => movem_ext_layout(x, opmode, ea),
-        Group::MULL => one(Specifier::Multiply, Size::Long, ea, DATA),
-        Group::DIVL => one(Specifier::Divide, Size::Long, ea, DATA),
-        Group::System => system_layout(ea),
-        Group::LeaExtb => lea_extb_layout(x, ea),
-        Group::CHK => one(Specifier::Nothing, long_if(opmode == 4), ea, DATA),
-        Group::Quick => quick_layout(size_at(opmode % 4), ea),
-        Group::Conditional => conditional_layout(ea),
-        Group::Branch => branch_layout(opmode % 4 * 64 + ea),
-        Group::IntoData => into_data_layout(line, size_at(opmode), ea),
+        Group::ImmediateInto => immediate_layout(w),
+        Group::StaticBit => one(
+            Specifier::Byte,
+            Size::Byte,
+            w.ea(),
+            static_modes(w.opmode()),
+        ),
+        Group::DynamicBitMovep => dynamic_bit_movep_layout(w),
+        Group::MOVES => one(
+            Specifier::General,
+            size_at(w.opmode()),
+            w.ea(),
+            MEMORY_ALTERABLE,
+        ),
+        Group::Bounds => one(Specifier::General, size_at(w.x()), w.ea(), CONTROL),
+        Group::CAS => cas_layout(w),
+        Group::MOVE => move_layout(move_size(w.line()), w),
+        Group::OneOperand => one_layout(size_at(w.opmode()), w),
+        Group::UnsizedOneIllegal => unsized_one_illegal_layout(w),
+        Group::NbcdLink => nbcd_link_layout(w.ea()),
+        Group::PeaSwapBkpt => pea_swap_bkpt_layout(w.ea()),
+        Group::MovemExt => movem_ext_layout(w),
+        Group::MULL => one(Specifier::Multiply, Size::Long, w.ea(), DATA),
+        Group::DIVL => one(Specifier::Divide, Size::Long, w.ea(), DATA),
+        Group::System => system_layout(w.ea()),
+        Group::LeaExtb => lea_extb_layout(w),
+        Group::CHK => one(Specifier::Nothing, long_if(w.opmode() == 4), w.ea(), DATA),
+        Group::Quick => quick_layout(size_at(w.opmode() % 4), w.ea()),
+        Group::Conditional => conditional_layout(w.ea()),
+        Group::Branch => branch_layout(w.low_byte()),
+        Group::IntoData => into_data_layout(size_at(w.opmode()), w),
         Group::ArithmeticExtended => from_data_layout(
             Specifier::Nothing,
-            size_at(less(opmode, 4)),
-            ea,
+            size_at(w.opmode().saturating_sub(4)),
+            w.ea(),
         ),
-        Group::LogicDecimal => from_data_layout(Specifier::Nothing, Size::Byte, ea),
-        Group::LogicPack => from_data_layout(Specifier::Word, size_at(less(opmode, 4)), ea),
-        Group::LogicExchange => logic_exchange_layout(opmode, ea),
-        Group::LogicCompare => logic_compare_layout(x, opmode, ea),
-        Group::WordIntoData => one(Specifier::Nothing, Size::Word, ea, DATA),
-        Group::IntoAddress => one(Specifier::Nothing, long_if(opmode == 7), ea, ALL),
-        Group::ShiftMemory => one(Specifier::Nothing, Size::Word, ea, MEMORY_ALTERABLE),
-        Group::BitField => bit_field_layout(bit_field_at(less(x, 4) * 2 + opmode / 4), ea),
+        Group::LogicDecimal => from_data_layout(Specifier::Nothing, Size::Byte, w.ea()),
+        Group::LogicPack => from_data_layout(
+            Specifier::Word,
+            size_at(w.opmode().saturating_sub(4)),
+            w.ea(),
+        ),
+        Group::LogicExchange => logic_exchange_layout(w),
+        Group::LogicCompare => logic_compare_layout(w),
+        Group::WordIntoData => one(Specifier::Nothing, Size::Word, w.ea(), DATA),
+        Group::IntoAddress => one(Specifier::Nothing, long_if(w.opmode() == 7), w.ea(), ALL),
+        Group::ShiftMemory => one(Specifier::Nothing, Size::Word, w.ea(), MEMORY_ALTERABLE),
+        Group::BitField => bit_field_layout(bit_field_of(w), w.ea()),
         Group::MOVEQ | Group::ShiftRegister | Group::LineA | Group::LineF => bare(),
     }
 }

@@ -5,101 +5,103 @@ ghost use Rattle.isa.specs.declared.Operand.TheVariants.{Immediate};
 ghost use Rattle.read_spec.specs.Decoded.{status_decoded, immediate_decoded, bounds_decoded, moves_decoded, cas2_decoded, cas_decoded};
 ghost use Rattle.read_spec.specs.Operation.{bit_at};
 ghost use Rattle.read_opcodes_0_3.specs.Parts.{dynamic_instruction};
+ghost use Rattle.read_values.specs.OperationWord.{x_in, opmode_in, ea_in};
 
 use isa::{Instruction, Operand, RegisterOperand, TransferOperation};
+use read_spec::Tail;
 use read_values::operation::{
-    bit_at, bounds_at, condition_code_at, immediate_at, less, size_at, status_at, to_memory_at,
-    to_status,
+    bit_at, bounds_at, condition_code_at, immediate_at, size_at, status_at, to_memory_at, to_status,
 };
+use read_values::operation_word::OperationWord;
 use read_values::register::{data_operand, general_in};
 
-// ORI, ANDI and EORI to CCR, and to SR.
-pub fn status(x: u8, opmode: u8, value: u32) -> Instruction
-    ensures { result ≡ status_decoded x opmode value }
+/// ORI, ANDI and EORI to CCR, and to SR.
+pub fn status(w: OperationWord, value: u32) -> Instruction
+    ensures { result ≡ status_decoded (x_in w.0) (opmode_in w.0) value }
 {
-    if opmode == 0 {
-        let operation = condition_code_at(x);
+    if w.opmode() == 0 {
+        let operation = condition_code_at(w.x());
         return Instruction::ConditionCode(operation, (value % 256) as u8);
     }
-    let operation = status_at(x);
+    let operation = status_at(w.x());
     Instruction::Status(operation, (value % 65536) as u16)
 }
 
-// ORI, ANDI, SUBI, ADDI, EORI and CMPI, and those.
-pub fn immediate_into(x: u8, opmode: u8, ea: u8, value: u32, source: Operand) -> Instruction
-    ensures { result ≡ immediate_decoded x opmode ea value source }
+/// ORI, ANDI, SUBI, ADDI, EORI and CMPI, and those.
+pub fn immediate_into(w: OperationWord, tail: Tail) -> Instruction
+    ensures { result ≡ immediate_decoded (x_in w.0) (opmode_in w.0) (ea_in w.0) tail.value tail.source }
 {
-    if to_status(x, opmode, ea) {
-        return status(x, opmode, value);
+    if to_status(w) {
+        return status(w, tail.value);
     }
-    let operation = immediate_at(x);
-    let size = size_at(opmode);
-    Instruction::ImmediateInto(operation, value, source, size)
+    let operation = immediate_at(w.x());
+    let size = size_at(w.opmode());
+    Instruction::ImmediateInto(operation, tail.value, tail.source, size)
 }
 
-// BTST, BCHG, BCLR and BSET by an immediate number.
-pub fn static_bit(opmode: u8, value: u32, source: Operand) -> Instruction
-    ensures { result ≡ UnsizedPair (bit_at opmode) (Immediate value) source }
+/// BTST, BCHG, BCLR and BSET by an immediate number.
+pub fn static_bit(w: OperationWord, tail: Tail) -> Instruction
+    ensures { result ≡ UnsizedPair (bit_at (opmode_in w.0)) (Immediate tail.value) tail.source }
 {
-    let operation = bit_at(opmode);
-    let number = Operand::Immediate(value);
-    Instruction::UnsizedPair(operation, number, source)
+    let operation = bit_at(w.opmode());
+    let number = Operand::Immediate(tail.value);
+    Instruction::UnsizedPair(operation, number, tail.source)
 }
 
-// The same by a data register, and MOVEP.
-pub fn dynamic_bit(x: u8, opmode: u8, ea: u8, source: Operand) -> Instruction
-    ensures { result ≡ dynamic_instruction x opmode ea source }
+/// The same by a data register, and MOVEP.
+pub fn dynamic_bit(w: OperationWord, tail: Tail) -> Instruction
+    ensures { result ≡ dynamic_instruction (x_in w.0) (opmode_in w.0) (ea_in w.0) tail.source }
 {
-    if ea / 8 == 1 {
-        let direction = to_memory_at(opmode / 2 % 2);
-        let size = size_at(1 + opmode % 2);
-        let register = RegisterOperand::Data(x);
+    if w.ea() / 8 == 1 {
+        let direction = to_memory_at(w.opmode() / 2 % 2);
+        let size = size_at(1 + w.opmode() % 2);
+        let register = RegisterOperand::Data(w.x());
         return Instruction::Transfer {
             operation: TransferOperation::MOVEP,
             direction,
             size,
             register,
-            target: source,
+            target: tail.source,
         };
     }
-    let operation = bit_at(less(opmode, 4));
-    let number = data_operand(x);
-    Instruction::UnsizedPair(operation, number, source)
+    let operation = bit_at(w.opmode().saturating_sub(4));
+    let number = data_operand(w.x());
+    Instruction::UnsizedPair(operation, number, tail.source)
 }
 
-// MOVES.
-pub fn moves(opmode: u8, value: u32, source: Operand) -> Instruction
-    ensures { result ≡ moves_decoded opmode value source }
+/// MOVES.
+pub fn moves(w: OperationWord, tail: Tail) -> Instruction
+    ensures { result ≡ moves_decoded (opmode_in w.0) tail.value tail.source }
 {
-    let direction = to_memory_at((value / 2048 % 2) as u8);
-    let size = size_at(opmode);
-    let register = general_in(value);
+    let direction = to_memory_at((tail.value / 2048 % 2) as u8);
+    let size = size_at(w.opmode());
+    let register = general_in(tail.value);
     Instruction::Transfer {
         operation: TransferOperation::MOVES,
         direction,
         size,
         register,
-        target: source,
+        target: tail.source,
     }
 }
 
-// CHK2 and CMP2.
-pub fn bounds(x: u8, value: u32, source: Operand) -> Instruction
-    ensures { result ≡ bounds_decoded x value source }
+/// CHK2 and CMP2.
+pub fn bounds(w: OperationWord, tail: Tail) -> Instruction
+    ensures { result ≡ bounds_decoded (x_in w.0) tail.value tail.source }
 {
-    let operation = bounds_at(value);
-    let register = general_in(value);
-    let size = size_at(x);
-    Instruction::IntoRegister(operation, source, register, size)
+    let operation = bounds_at(tail.value);
+    let register = general_in(tail.value);
+    let size = size_at(w.x());
+    Instruction::IntoRegister(operation, tail.source, register, size)
 }
 
-// CAS2, by the words of its two comparisons.
-pub fn cas2(x: u8, first: u32, second: u32) -> Instruction
-    ensures { result ≡ cas2_decoded x first second }
+/// CAS2, by the words of its two comparisons.
+pub fn cas2(w: OperationWord, first: u32, second: u32) -> Instruction
+    ensures { result ≡ cas2_decoded (x_in w.0) first second }
 {
     let pointer1 = general_in(first);
     let pointer2 = general_in(second);
-    let size = size_at(less(x, 5));
+    let size = size_at(w.x().saturating_sub(5));
     Instruction::CAS2 {
         compare1: (first % 8) as u8,
         compare2: (second % 8) as u8,
@@ -111,18 +113,18 @@ pub fn cas2(x: u8, first: u32, second: u32) -> Instruction
     }
 }
 
-// CAS and CAS2.
-pub fn cas(x: u8, ea: u8, value: u32, source: Operand) -> Instruction
-    ensures { result ≡ cas_decoded x ea value source }
+/// CAS and CAS2.
+pub fn cas(w: OperationWord, tail: Tail) -> Instruction
+    ensures { result ≡ cas_decoded (x_in w.0) (ea_in w.0) tail.value tail.source }
 {
-    if (ea == 60) & (6 <= x) {
-        return cas2(x, value / 65536, value % 65536);
+    if (w.ea() == 60) & (6 <= w.x()) {
+        return cas2(w, tail.value / 65536, tail.value % 65536);
     }
-    let size = size_at(less(x, 5));
+    let size = size_at(w.x().saturating_sub(5));
     Instruction::CAS {
-        compare: (value % 8) as u8,
-        update: (value / 64 % 8) as u8,
-        target: source,
+        compare: (tail.value % 8) as u8,
+        update: (tail.value / 64 % 8) as u8,
+        target: tail.source,
         size,
     }
 }

@@ -4,36 +4,39 @@ ghost use Rattle.read_opcodes_4_7.specs.Parts.{branch_target, branch_size, branc
 ghost use Rattle.isa.specs.declared.Instruction.TheVariants.{MOVEQ};
 ghost use Rattle.isa.specs.declared.RegisterOperand.TheVariants.{Data};
 ghost use Rattle.read_spec.specs.Decoded.{quick_decoded, conditional_decoded, branch_decoded};
+ghost use Rattle.read_values.specs.OperationWord.{x_in, opmode_in, ea_in, condition_in, byte_in};
 
 use isa::{BranchOperation, BranchSize, Instruction, Operand, RegisterOperand};
 use isa_values::condition::from_code;
+use read_spec::Tail;
 use read_values::number::{byte_target, long_target, word_target};
 use read_values::operation::{count_at, quick_at, size_at, trap_at};
+use read_values::operation_word::OperationWord;
 
-// ADDQ and SUBQ.
-pub fn quick(x: u8, opmode: u8, source: Operand) -> Instruction
-    ensures { result ≡ quick_decoded x opmode source }
+/// ADDQ and SUBQ.
+pub fn quick(w: OperationWord, tail: Tail) -> Instruction
+    ensures { result ≡ quick_decoded (x_in w.0) (opmode_in w.0) tail.source }
 {
-    let operation = quick_at(opmode);
-    let count = count_at(x);
-    let size = size_at(opmode % 4);
-    Instruction::Quick(operation, count, source, size)
+    let operation = quick_at(w.opmode());
+    let count = count_at(w.x());
+    let size = size_at(w.opmode() % 4);
+    Instruction::Quick(operation, count, tail.source, size)
 }
 
-// DBcc, TRAPcc and Scc, by the condition's code.
-pub fn conditional(address: u32, code: u8, ea: u8, value: u32, source: Operand) -> Instruction
-    ensures { result ≡ conditional_decoded address code ea value source }
+/// DBcc, TRAPcc and Scc, by the condition's code.
+pub fn conditional(address: u32, w: OperationWord, tail: Tail) -> Instruction
+    ensures { result ≡ conditional_decoded address (condition_in w.0) (ea_in w.0) tail.value tail.source }
 {
-    let condition = from_code(code as u16);
-    if ea / 8 == 1 {
-        let register = RegisterOperand::Data(ea % 8);
-        return Instruction::DBcc(register, word_target(address, value), condition);
+    let condition = from_code(w.condition_code() as u16);
+    if w.ea() / 8 == 1 {
+        let register = RegisterOperand::Data(w.ea() % 8);
+        return Instruction::DBcc(register, word_target(address, tail.value), condition);
     }
-    if (58 <= ea) & (ea <= 60) {
-        let operand = trap_at(ea, value);
+    if (58 <= w.ea()) & (w.ea() <= 60) {
+        let operand = trap_at(w.ea(), tail.value);
         return Instruction::TRAPcc(condition, operand);
     }
-    Instruction::Scc(source, condition)
+    Instruction::Scc(tail.source, condition)
 }
 
 // A branch goes by a word, a long or the byte of its operation word.
@@ -72,24 +75,24 @@ fn branch_at(code: u8) -> BranchOperation
     }
 }
 
-// BRA, BSR and Bcc, by the condition's code.
-pub fn branch(address: u32, code: u8, byte: u8, value: u32) -> Instruction
-    ensures { result ≡ branch_decoded address code byte value }
+/// BRA, BSR and Bcc, by the condition's code.
+pub fn branch(address: u32, w: OperationWord, tail: Tail) -> Instruction
+    ensures { result ≡ branch_decoded address (condition_in w.0) (byte_in w.0) tail.value }
 {
-    let target = branch_target(address, byte, value);
-    let size = branch_size(byte);
-    if code < 2 {
-        let operation = branch_at(code);
+    let target = branch_target(address, w.low_byte(), tail.value);
+    let size = branch_size(w.low_byte());
+    if w.condition_code() < 2 {
+        let operation = branch_at(w.condition_code());
         return Instruction::Branch(operation, target, size);
     }
-    let condition = from_code(code as u16);
+    let condition = from_code(w.condition_code() as u16);
     Instruction::Bcc(target, condition, size)
 }
 
-// MOVEQ.
-pub fn moveq(x: u8, byte: u8) -> Instruction
-    ensures { result ≡ MOVEQ byte (Data x) }
+/// MOVEQ.
+pub fn moveq(w: OperationWord) -> Instruction
+    ensures { result ≡ MOVEQ (byte_in w.0) (Data (x_in w.0)) }
 {
-    let register = RegisterOperand::Data(x);
-    Instruction::MOVEQ(byte, register)
+    let register = RegisterOperand::Data(w.x());
+    Instruction::MOVEQ(w.low_byte(), register)
 }

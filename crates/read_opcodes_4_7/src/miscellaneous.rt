@@ -4,124 +4,125 @@ ghost use Rattle.isa.specs.declared.Instruction.TheVariants.{OneOperand, Unsized
 ghost use Rattle.isa.specs.declared.RegisterOperand.TheVariants.{Data};
 ghost use Rattle.read_spec.specs.Decoded.{unsized_one_illegal_decoded, nbcd_link_decoded, pea_swap_bkpt_decoded, movem_ext_decoded, mull_decoded, divl_decoded, lea_extb_decoded};
 ghost use Rattle.read_spec.specs.Operation.{size_at, one_at, chk_at};
+ghost use Rattle.read_values.specs.OperationWord.{x_in, opmode_in, ea_in};
 
 use isa::{
     Instruction, LinkOperation, NoOperandOperation, Operand, RegisterOperand, Size,
     UnsizedOneOperation, UnsizedRegisterOperation, VectorOperation,
 };
-use read_values::operation::{
-    chk_at, high_at, less, one_at, sign_at, size_at, to_memory_at, unsized_at,
-};
+use read_spec::Tail;
+use read_values::operation::{chk_at, high_at, one_at, sign_at, size_at, to_memory_at, unsized_at};
+use read_values::operation_word::OperationWord;
 
-// NEGX, CLR, NEG, NOT and TST.
-pub fn one_operand(x: u8, opmode: u8, source: Operand) -> Instruction
-    ensures { result ≡ OneOperand (one_at x) source (size_at opmode) }
+/// NEGX, CLR, NEG, NOT and TST.
+pub fn one_operand(w: OperationWord, tail: Tail) -> Instruction
+    ensures { result ≡ OneOperand (one_at (x_in w.0)) tail.source (size_at (opmode_in w.0)) }
 {
-    let operation = one_at(x);
-    let size = size_at(opmode);
-    Instruction::OneOperand(operation, source, size)
+    let operation = one_at(w.x());
+    let size = size_at(w.opmode());
+    Instruction::OneOperand(operation, tail.source, size)
 }
 
-// MOVE from and to SR and CCR, JSR, JMP, TAS and ILLEGAL.
-pub fn unsized_one_illegal(x: u8, opmode: u8, ea: u8, source: Operand) -> Instruction
-    ensures { result ≡ unsized_one_illegal_decoded x opmode ea source }
+/// MOVE from and to SR and CCR, JSR, JMP, TAS and ILLEGAL.
+pub fn unsized_one_illegal(w: OperationWord, tail: Tail) -> Instruction
+    ensures { result ≡ unsized_one_illegal_decoded (x_in w.0) (opmode_in w.0) (ea_in w.0) tail.source }
 {
-    if (x == 5) & (ea == 60) {
+    if (w.x() == 5) & (w.ea() == 60) {
         return Instruction::NoOperand(NoOperandOperation::ILLEGAL);
     }
-    let operation = unsized_at(x, opmode);
-    Instruction::UnsizedOne(operation, source)
+    let operation = unsized_at(w);
+    Instruction::UnsizedOne(operation, tail.source)
 }
 
-// NBCD, and LINK by a long.
-pub fn nbcd_link(ea: u8, value: u32, source: Operand) -> Instruction
-    ensures { result ≡ nbcd_link_decoded ea value source }
+/// NBCD, and LINK by a long.
+pub fn nbcd_link(w: OperationWord, tail: Tail) -> Instruction
+    ensures { result ≡ nbcd_link_decoded (ea_in w.0) tail.value tail.source }
 {
-    if ea / 8 == 1 {
-        let register = RegisterOperand::Address(ea % 8);
-        return Instruction::Link(LinkOperation::LINKL, register, value);
+    if w.ea() / 8 == 1 {
+        let register = RegisterOperand::Address(w.ea() % 8);
+        return Instruction::Link(LinkOperation::LINKL, register, tail.value);
     }
-    Instruction::UnsizedOne(UnsizedOneOperation::NBCD, source)
+    Instruction::UnsizedOne(UnsizedOneOperation::NBCD, tail.source)
 }
 
-// PEA, SWAP and BKPT.
-pub fn pea_swap_bkpt(ea: u8, source: Operand) -> Instruction
-    ensures { result ≡ pea_swap_bkpt_decoded ea source }
+/// PEA, SWAP and BKPT.
+pub fn pea_swap_bkpt(w: OperationWord, tail: Tail) -> Instruction
+    ensures { result ≡ pea_swap_bkpt_decoded (ea_in w.0) tail.source }
 {
-    if ea < 8 {
-        let register = RegisterOperand::Data(ea);
+    if w.ea() < 8 {
+        let register = RegisterOperand::Data(w.ea());
         return Instruction::SWAP(register);
     }
-    if ea < 16 {
-        return Instruction::Vector(VectorOperation::BKPT, ea % 8);
+    if w.ea() < 16 {
+        return Instruction::Vector(VectorOperation::BKPT, w.ea() % 8);
     }
-    Instruction::UnsizedOne(UnsizedOneOperation::PEA, source)
+    Instruction::UnsizedOne(UnsizedOneOperation::PEA, tail.source)
 }
 
-// MOVEM and EXT.
-pub fn movem_ext(x: u8, opmode: u8, ea: u8, value: u32, source: Operand) -> Instruction
-    ensures { result ≡ movem_ext_decoded x opmode ea value source }
+/// MOVEM and EXT.
+pub fn movem_ext(w: OperationWord, tail: Tail) -> Instruction
+    ensures { result ≡ movem_ext_decoded (x_in w.0) (opmode_in w.0) (ea_in w.0) tail.value tail.source }
 {
-    let size = size_at(less(opmode, 1));
-    if (x == 4) & (ea < 8) {
-        let register = RegisterOperand::Data(ea);
-        let from = size_at(less(opmode, 2));
+    let size = size_at(w.opmode().saturating_sub(1));
+    if (w.x() == 4) & (w.ea() < 8) {
+        let register = RegisterOperand::Data(w.ea());
+        let from = size_at(w.opmode().saturating_sub(2));
         return Instruction::EXT(register, from, size);
     }
-    let direction = to_memory_at(less(5, x));
+    let direction = to_memory_at(5u8.saturating_sub(w.x()));
     Instruction::MOVEM {
         direction,
         size,
-        registers_mask: (value % 65536) as u16,
-        target: source,
+        registers_mask: (tail.value % 65536) as u16,
+        target: tail.source,
     }
 }
 
-// MULU and MULS of longs.
-pub fn mull(value: u32, source: Operand) -> Instruction
-    ensures { result ≡ mull_decoded value source }
+/// MULU and MULS of longs.
+pub fn mull(tail: Tail) -> Instruction
+    ensures { result ≡ mull_decoded tail.value tail.source }
 {
-    let high = high_at(value);
-    let sign = sign_at((value / 2048 % 2) as u8);
+    let high = high_at(tail.value);
+    let sign = sign_at((tail.value / 2048 % 2) as u8);
     Instruction::MULL {
-        source,
-        low: (value / 4096 % 8) as u8,
+        source: tail.source,
+        low: (tail.value / 4096 % 8) as u8,
         high,
         sign,
     }
 }
 
-// DIVU, DIVS, DIVUL and DIVSL of longs.
-pub fn divl(value: u32, source: Operand) -> Instruction
-    ensures { result ≡ divl_decoded value source }
+/// DIVU, DIVS, DIVUL and DIVSL of longs.
+pub fn divl(tail: Tail) -> Instruction
+    ensures { result ≡ divl_decoded tail.value tail.source }
 {
-    let sign = sign_at((value / 2048 % 2) as u8);
+    let sign = sign_at((tail.value / 2048 % 2) as u8);
     Instruction::DIVL {
-        source,
-        quotient: (value / 4096 % 8) as u8,
-        remainder: (value % 8) as u8,
-        wide: value / 1024 % 2 == 1,
+        source: tail.source,
+        quotient: (tail.value / 4096 % 8) as u8,
+        remainder: (tail.value % 8) as u8,
+        wide: tail.value / 1024 % 2 == 1,
         sign,
     }
 }
 
-// LEA, and EXTB.
-pub fn lea_extb(x: u8, ea: u8, source: Operand) -> Instruction
-    ensures { result ≡ lea_extb_decoded x ea source }
+/// LEA, and EXTB.
+pub fn lea_extb(w: OperationWord, tail: Tail) -> Instruction
+    ensures { result ≡ lea_extb_decoded (x_in w.0) (ea_in w.0) tail.source }
 {
-    if (x == 4) & (ea < 8) {
-        let register = RegisterOperand::Data(ea);
+    if (w.x() == 4) & (w.ea() < 8) {
+        let register = RegisterOperand::Data(w.ea());
         return Instruction::EXT(register, Size::Byte, Size::Long);
     }
-    let register = RegisterOperand::Address(x);
-    Instruction::UnsizedIntoRegister(UnsizedRegisterOperation::LEA, source, register)
+    let register = RegisterOperand::Address(w.x());
+    Instruction::UnsizedIntoRegister(UnsizedRegisterOperation::LEA, tail.source, register)
 }
 
-// CHK.
-pub fn chk(x: u8, opmode: u8, source: Operand) -> Instruction
-    ensures { result ≡ UnsizedIntoRegister (chk_at opmode) source (Data x) }
+/// CHK.
+pub fn chk(w: OperationWord, tail: Tail) -> Instruction
+    ensures { result ≡ UnsizedIntoRegister (chk_at (opmode_in w.0)) tail.source (Data (x_in w.0)) }
 {
-    let operation = chk_at(opmode);
-    let register = RegisterOperand::Data(x);
-    Instruction::UnsizedIntoRegister(operation, source, register)
+    let operation = chk_at(w.opmode());
+    let register = RegisterOperand::Data(w.x());
+    Instruction::UnsizedIntoRegister(operation, tail.source, register)
 }

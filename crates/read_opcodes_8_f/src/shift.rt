@@ -5,53 +5,55 @@ ghost use Rattle.isa.specs.declared.Operand.TheVariants.{Immediate};
 ghost use Rattle.isa.specs.declared.Size.TheVariants.{Word};
 ghost use Rattle.read_spec.specs.Decoded.{shift_decoded, bit_field_decoded};
 ghost use Rattle.read_spec.specs.Operation.{shift_at, direction_at};
+ghost use Rattle.read_values.specs.OperationWord.{x_in, opmode_in, ea_in};
 
 use isa::{Instruction, Operand, RawOperation, Size};
+use read_spec::Tail;
 use read_values::operation::{
-    bit_field_at, direction_at, field_in, less, shift_at, shift_count, size_at,
+    bit_field_of, direction_at, field_in, shift_at, shift_count, size_at,
 };
+use read_values::operation_word::OperationWord;
 use read_values::register::data_operand;
 
-// A shift of a data register.
-pub fn shift_register(x: u8, opmode: u8, ea: u8) -> Instruction
-    ensures { result ≡ shift_decoded x opmode ea }
+/// A shift of a data register.
+pub fn shift_register(w: OperationWord) -> Instruction
+    ensures { result ≡ shift_decoded (x_in w.0) (opmode_in w.0) (ea_in w.0) }
 {
-    let operation = shift_at(ea / 8 % 4);
-    let count = shift_count(ea, x);
-    let target = data_operand(ea % 8);
-    let direction = direction_at(opmode / 4);
-    let size = size_at(opmode % 4);
+    let operation = shift_at(w.ea() / 8 % 4);
+    let count = shift_count(w);
+    let target = data_operand(w.ea() % 8);
+    let direction = direction_at(w.opmode() / 4);
+    let size = size_at(w.opmode() % 4);
     Instruction::Shift(operation, count, target, direction, size)
 }
 
-// A shift of a word in memory by one.
-pub fn shift_memory(x: u8, opmode: u8, source: Operand) -> Instruction
-    ensures { result ≡ Shift (shift_at x) (Immediate 1) source (direction_at (opmode / 4)) Word }
+/// A shift of a word in memory by one.
+pub fn shift_memory(w: OperationWord, tail: Tail) -> Instruction
+    ensures { result ≡ Shift (shift_at (x_in w.0)) (Immediate 1) tail.source (direction_at ((opmode_in w.0) / 4)) Word }
 {
-    let operation = shift_at(x);
+    let operation = shift_at(w.x());
     let count = Operand::Immediate(1);
-    let direction = direction_at(opmode / 4);
-    Instruction::Shift(operation, count, source, direction, Size::Word)
+    let direction = direction_at(w.opmode() / 4);
+    Instruction::Shift(operation, count, tail.source, direction, Size::Word)
 }
 
-// The bit-field instructions.
-pub fn bit_field(x: u8, opmode: u8, value: u32, source: Operand) -> Instruction
-    requires { x < 8 }
-    ensures { result ≡ bit_field_decoded x opmode value source }
+/// The bit-field instructions.
+pub fn bit_field(w: OperationWord, tail: Tail) -> Instruction
+    ensures { result ≡ bit_field_decoded (x_in w.0) (opmode_in w.0) tail.value tail.source }
 {
-    let operation = bit_field_at(less(x, 4) * 2 + opmode / 4);
-    let field = field_in(value);
+    let operation = bit_field_of(w);
+    let field = field_in(tail.value);
     Instruction::BF {
         operation,
-        target: source,
+        target: tail.source,
         field,
-        register: (value / 4096 % 8) as u8,
+        register: (tail.value / 4096 % 8) as u8,
     }
 }
 
-// A word of line A or F.
-pub fn raw(operation: RawOperation, word: u16) -> Instruction
-    ensures { result ≡ Raw operation word }
+/// A word of line A or F.
+pub fn raw(operation: RawOperation, w: OperationWord) -> Instruction
+    ensures { result ≡ Raw operation w.0 }
 {
-    Instruction::Raw(operation, word)
+    Instruction::Raw(operation, w.0)
 }

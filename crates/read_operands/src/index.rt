@@ -1,57 +1,49 @@
 // Extension words and what follows them.
+#![tactic(auto, using(crate::specs::ReadLaws::read_more, crate::specs::ReadLaws::read_bind))]
+
 ghost use Rattle.std.specs.Prelude.{◌≡◌, ℕ};
 ghost use Rattle.read_places.specs.RunAt.{run_at};
-ghost use Rattle.read_spec.specs.Operand.{outer_tree, base_tree, full_tree, index_of, index_operand, scaled_operand, brief_operand, indexed_tree};
-ghost use Rattle.read_operands.specs.Read.{operand_read};
+ghost use Rattle.read_spec.specs.Operand.{base_tree, full_tree, index_of, index_operand, scaled_operand, brief_operand, indexed_tree};
+ghost use Rattle.read_operands.specs.Read.{read_of_at};
 
-use crate::{DisplacementRead, OperandRead, displacement};
+use crate::{displacement, specifier};
 use isa::{IndexRegister, Operand, RegisterOperand};
 use isa_values::extension_word::ExtensionWord;
 use isa_values::index_base::IndexBase;
+use read_spec::Unread;
 use read_values::number;
 
-// The outer displacement of a full word at `place`, after the base displacement z.
-fn with_outer(words: &[u16], at: usize, base: u8, place: u32, w: u16, z: i32) -> OperandRead
-    ensures { (a : ℕ) → result ≡ operand_read (run_at (outer_tree base place w z) a words.now at) }
-{
-    let size = ExtensionWord(w).outer_displacement_size();
-    let read = displacement::displacement(words, at, size);
-    match read {
-        DisplacementRead::Got(outer, next) => OperandRead::Got(
-            Operand::Extended {
-                base,
-                word: w,
-                displacement: displacement::landed(isa_operands::from_pc(base, w), place, z),
-                outer,
-            },
-            next,
-        ),
-        DisplacementRead::Short => OperandRead::Short,
-        DisplacementRead::Nothing => OperandRead::Nothing,
-    }
-}
-
-// The displacements of a full word at `place`.
-fn with_displacements(words: &[u16], at: usize, base: u8, place: u32, w: u16) -> OperandRead
-    ensures { (a : ℕ) → result ≡ operand_read (run_at (base_tree base place w) a words.now at) }
+// The base displacement and the outer displacement of a full word at `place`.
+fn with_displacements(
+    words: &[u16],
+    at: usize,
+    base: u8,
+    place: u32,
+    w: u16,
+) -> Result<(Operand, usize), Unread>
+    ensures { (a : ℕ) → result ≡ read_of_at (run_at (base_tree base place w) a words.now at) }
 {
     let size = ExtensionWord(w).base_displacement_size();
-    let read = displacement::displacement(words, at, size);
-    match read {
-        DisplacementRead::Got(z, next) => with_outer(words, next, base, place, w, z),
-        DisplacementRead::Short => OperandRead::Short,
-        DisplacementRead::Nothing => OperandRead::Nothing,
-    }
+    let (z, at_outer) = displacement::displacement(words, at, size)?;
+    let outer_size = ExtensionWord(w).outer_displacement_size();
+    let (outer, next) = displacement::displacement(words, at_outer, outer_size)?;
+    let operand = Operand::Extended {
+        base,
+        word: w,
+        displacement: displacement::landed(isa_operands::from_pc(base, w), place, z),
+        outer,
+    };
+    Ok((operand, next))
 }
 
 // What follows a full word at `place`.
-fn full(words: &[u16], at: usize, base: u8, place: u32, w: u16) -> OperandRead
-    ensures { (a : ℕ) → result ≡ operand_read (run_at (full_tree base place w) a words.now at) }
+fn full(words: &[u16], at: usize, base: u8, place: u32, w: u16) -> Result<(Operand, usize), Unread>
+    ensures { (a : ℕ) → result ≡ read_of_at (run_at (full_tree base place w) a words.now at) }
 {
     if ExtensionWord(w).is_canonical() {
         with_displacements(words, at, base, place, w)
     } else {
-        OperandRead::Nothing
+        Err(Unread::Nothing)
     }
 }
 
@@ -105,19 +97,15 @@ fn brief_operand(base: u8, place: u32, w: u16) -> Operand
     }
 }
 
-// An extension word and what follows it; base is an IndexBase.
-pub fn indexed(words: &[u16], address: u32, at: usize, base: u8) -> OperandRead
-    ensures { result ≡ operand_read (run_at (indexed_tree base) address words.now at) }
+/// An extension word and what follows it; base is an IndexBase.
+pub fn indexed(words: &[u16], address: u32, at: usize, base: u8) -> Result<(Operand, usize), Unread>
+    ensures { result ≡ read_of_at (run_at (indexed_tree base) address words.now at) }
 {
-    if at < words.len() {
-        let w = words[at];
-        let place = number::word_address(address, at);
-        if ExtensionWord(w).is_full() {
-            full(words, at + 1, base, place, w)
-        } else {
-            OperandRead::Got(brief_operand(base, place, w), at + 1)
-        }
+    let (w, next) = specifier::word(words, at)?;
+    let place = number::word_address(address, at);
+    if ExtensionWord(w).is_full() {
+        full(words, next, base, place, w)
     } else {
-        OperandRead::Short
+        Ok((brief_operand(base, place, w), next))
     }
 }

@@ -9,12 +9,11 @@ use Rattle.std.proofs.Math.ListN.{length, length-append}
 use Rattle.std.proofs.lemmas.List.{length-replicate}
 use Rattle.std.proofs.Math.Seq.{set_at, append_snoc, take_all, take-append-le}
 use borrow.Author.Tests.{leb-true, lt-ltb, ltb-true, ne_eqb}
-use Rattle.base_spec.specs.declared.Number.{Number}
-use Rattle.base_spec.specs.declared.Number.TheVariants as number
+use Rattle.base_spec.specs.Number as number
 use Rattle.base_text.specs.Parts.{before, part_end}
 use Rattle.base_spec.specs.Parts.{fields}
 use Rattle.base_text.specs.PartLaws.{parts_from, parts_at, parts-start, parts_past, part_is}
-use Rattle.base_spec.specs.Number.{number_of}
+use Rattle.base_spec.specs.Number.{Number, number_of}
 use Rattle.base_spec.specs.Numbers.{magnitude_of}
 use Rattle.read_runs.specs.declared.Run.{Run}
 use Rattle.read_runs.specs.declared.Word.{Word}

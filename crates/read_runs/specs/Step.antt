@@ -1,7 +1,7 @@
 -- A run, a field at a time.
 use Rattle.std.specs.Prelude.{Bool, true, cond, not, ◌&&◌, List, ℕ, ◌+◌, ◌*◌, ◌^◌, ltb, replicate, set}
-use Rattle.base_spec.specs.declared.Number.{Number}
-use Rattle.base_spec.specs.declared.Number.TheVariants as number
+use Rattle.base_spec.specs.Number.{Number}
+use Rattle.base_spec.specs.Number as number
 use Rattle.read_runs.specs.declared.Run.{Run}
 use Rattle.read_runs.specs.declared.Word.{Word}
 use Rattle.read_runs.specs.declared.Word.TheVariants.{Is, No}

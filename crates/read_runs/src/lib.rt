@@ -2,11 +2,12 @@
 #![tactic(auto)]
 
 ghost use Rattle.std.specs.Prelude.{◌≡◌};
+ghost use Rattle.base_spec.specs.Number.{number_in};
 ghost use Rattle.print_spec.specs.Run.{hex_value};
 ghost use Rattle.read_runs.specs.Kept.{no_run, run_of};
 ghost use Rattle.read_runs.specs.Step.{four_digits, word_of, start_at, start_of, placed_word, with_word};
 
-use base_spec::Number;
+use base_spec::Literal;
 
 // The first 16 words of a run, and how many they are; the other places are 0.
 #[derive(Clone, Copy)]
@@ -90,15 +91,12 @@ fn start_at(negative: bool, magnitude: u64) -> Run
 }
 
 // A run of no words yet.
-fn start(n: Number) -> Run
-    ensures { result ≡ start_of n }
+fn start(n: Option<Literal>) -> Run
+    ensures { result ≡ start_of (number_in n) }
 {
     match n {
-        Number::Is {
-            negative,
-            magnitude,
-        } => start_at(negative, magnitude),
-        Number::No => no_run(),
+        Some(literal) => start_at(literal.negative, literal.magnitude),
+        None => no_run(),
     }
 }
 

@@ -6,8 +6,8 @@ use Rattle.isa.specs.declared.Size.{Size}
 use Rattle.isa.specs.declared.Size.TheVariants.{Byte, Word, Long}
 use Rattle.isa.specs.declared.BranchSize.{BranchSize}
 use Rattle.isa.specs.declared.BranchSize.TheVariants as branch
-use Rattle.isa.specs.declared.RegisterChoice.{RegisterChoice}
-use Rattle.isa.specs.declared.RegisterChoice.TheVariants.{None, Some}
+use Rattle.std.specs.declared.option.Option.{Option}
+use Rattle.std.specs.declared.option.Option.TheVariants.{None, Some}
 use Rattle.isa.specs.declared.RegisterOperand.TheVariants.{Address, Data}
 use Rattle.isa.specs.declared.Operand.{Operand}
 use Rattle.isa.specs.declared.Operand.TheVariants.{Immediate, Register, Indirect, PostIndirect, PreIndirect, IndirectDisplacement, IndirectIndex, PcDisplacement, PcIndex, Extended, Absolute}
@@ -99,7 +99,7 @@ movem_ext_decoded x opmode ea v o =
     (MOVEM (to_memory_at (5 - x)) (size_at (opmode - 1)) (v % 65536) o)
 
 -- a 64-bit product has a register for its high half
-abbrev pub high_at : ℕ → RegisterChoice
+abbrev pub high_at : ℕ → Option ℕ
 high_at v = cond (eqb (v / 1024 % 2) 1) (Some (v % 8)) None
 
 abbrev pub mull_decoded : ℕ → Operand → Instruction

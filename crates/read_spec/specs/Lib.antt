@@ -1,4 +1,5 @@
 pub mod Plain
+pub mod Reading
 pub mod Accepted
 pub mod ReadingRefusal
 pub mod RoundTrip

@@ -2,8 +2,7 @@
 use Rattle.std.specs.Prelude.{ℕ, ◌*◌, ◌/◌, ◌%◌, List}
 use Rattle.isa.specs.declared.Instruction.{Instruction}
 use Rattle.read_spec.specs.declared.Group.{Group}
-use Rattle.read_spec.specs.declared.Reading.{Reading}
-use Rattle.read_spec.specs.declared.Reading.TheVariants.{Read, Short, Nothing}
+use Rattle.read_spec.specs.Reading.{Reading, Read, Short, Nothing}
 use Rattle.read_spec.specs.Tree.{Tree, more, bind, run, Out, got, short, none}
 use Rattle.read_spec.specs.Layout.{tail_tree}
 use Rattle.read_spec.specs.Map.{group_at}

@@ -1,8 +1,7 @@
 -- What 01 says of each reading ("Where a thing is turned back").
 use Rattle.std.specs.Prelude.{ℕ, pos}
 use Rattle.isa.specs.declared.Measured.{Measured}
-use Rattle.read_spec.specs.declared.Reading.{Reading}
-use Rattle.read_spec.specs.declared.Reading.TheVariants.{Read, Short, Nothing}
+use Rattle.read_spec.specs.Reading.{Reading, Read, Short, Nothing}
 
 -- a refusal: detail and value are 0 where none is named
 abbrev pub refused_run : ℕ → Measured

@@ -5,10 +5,9 @@ use Rattle.isa.specs.declared.Encoded.{Encoded}
 use Rattle.isa.specs.declared.Measured.{Measured}
 use Rattle.isa_spec.specs.Ordinary.{Ordinary}
 use Rattle.encode_spec.specs.Encode.{encode_of, size_of}
-use Rattle.read_spec.specs.declared.Reading.{Reading}
+use Rattle.read_spec.specs.Reading.{Reading, Read, Short, Nothing}
 use Rattle.read_spec.specs.Read.{read_of}
 use Rattle.read_spec.specs.ReadingRefusal.{reading_refusal}
-use Rattle.read_spec.specs.declared.Reading.TheVariants.{Read, Short, Nothing}
 use Rattle.read_spec.specs.Plain.{plain}
 
 -- what the two ways round give

@@ -79,10 +79,16 @@ pub enum Group {
     LineF,
 }
 
-// What a run of words reads as: an instruction and its length in bytes, or a refusal.
+/// What a run of words reads as: an instruction in plain form, and its length in bytes.
 #[derive(Clone, Copy)]
-pub enum Reading {
-    Read(Instruction, u32),
+pub struct Read {
+    pub instruction: Instruction,
+    pub bytes: u32,
+}
+
+/// Why a run of words does not read: it ends too early, or nothing begins with it.
+#[derive(Clone, Copy, Debug, PartialEq, Eq)]
+pub enum Unread {
     Short,
     Nothing,
 }

@@ -3,4 +3,5 @@
 
 pub mod number; // signed numbers and addresses
 pub mod operation; // what the fields of an operation word name
+pub mod operation_word; // the fields of an operation word
 pub mod register; // registers

@@ -3,9 +3,8 @@ use Rattle.std.specs.Prelude.{ℕ, ◌+◌, ◌^◌, ◌<◌, ◌≡◌, refl, B
 use Rattle.std.proofs.Common.{sym, ap, ◌∙◌, arith, eqb-true, ltb-true}
 use Rattle.std.proofs.lemmas.List.{length-map}
 use Rattle.std.proofs.lemmas.Bool.{eqb-false}
-use Rattle.base_spec.specs.declared.Number.{Number}
-use Rattle.base_spec.specs.declared.Number.TheVariants as number
-use Rattle.base_spec.specs.Number.{is_decimal, value, unsigned_of, negated, number_of}
+use Rattle.base_spec.specs.Number as number
+use Rattle.base_spec.specs.Number.{Number, is_decimal, value, unsigned_of, negated, number_of}
 use Rattle.sheet_spec.specs.declared.Kind.{Kind}
 use Rattle.sheet_spec.specs.declared.Kind.TheVariants as kind
 use Rattle.sheet_spec.specs.Names.{bytes, names_of}

@@ -8,7 +8,8 @@ use native.Mathlib.Numerals.{add-one}
 use lib.ListN.{length, take, drop, get_or, drop_of_length-le}
 use lib.Seq.{drop-cons, take_all}
 use lib.Dec.{eqb, leb, ltb}
-use borrow.Author.Tests.{lt-ltb, le-leb, lt-leb, leb-true, leb-false, eq-eqb, ne_eqb}
+use Rattle.std.specs.Prelude.{Some, None}
+use borrow.Author.Tests.{lt-ltb, lt-leb, leb-true, leb-false, eq-eqb, ne_eqb}
 use Rattle.base_spec.specs.Number.{is_digit, all_digits, value_from, number_of}
 use Rattle.base_text.specs.NumberLaws.{value_grows}
 use Rattle.sheet_spec.specs.declared.Kind.TheVariants as kind
@@ -29,19 +30,6 @@ equal_lengths (x ∷ xs) (y ∷ ys) h = go (eqb x y) (equal_lengths xs ys (λ e.
     go true e = e
     go false e = refl
 
-module _ (f g : List ℕ) (i : ℕ) (h : i < length f) (k : i < length g) where
-  step : equal (drop i f) (drop i g) ≡ eqb (get_or f i 0) (get_or g i 0) && equal (drop (i + 1) f) (drop (i + 1) g)
-  step = rw (add-one, drop-cons f i 0 h, drop-cons g i 0 k)
-
-  pub equal_more : get_or f i 0 ≡ get_or g i 0 → equal (drop i f) (drop i g) ≡ equal (drop (i + 1) f) (drop (i + 1) g)
-  equal_more e = rw (step, eq-eqb (get_or f i 0) (get_or g i 0) e)
-
-  pub equal_not : (get_or f i 0 ≡ get_or g i 0 → ⊥) → equal (drop i f) (drop i g) ≡ false
-  equal_not e = rw (step, ne_eqb (get_or f i 0) (get_or g i 0) e)
-
-pub equal_end : (f g : List ℕ) (i : ℕ) → length f ≤ i → length g ≤ i → equal (drop i f) (drop i g) ≡ true
-equal_end f g i h k = rw (drop_of_length-le f h, drop_of_length-le g k)
-
 -- a line's number, capped after each digit
 pub capped_more : (a : ℕ) (l : List ℕ) → capped (value_from (capped a) l) ≡ capped (value_from a l)
 capped_more a l = go (leb a 4096) refl
@@ -57,23 +45,14 @@ capped_more a l = go (leb a 4096) refl
 module _ (f : List ℕ) (i a : ℕ) (h : i < length f) where
   digit : line_after a (drop i f)
       ≡ cond (is_digit (get_or f i 0) && all_digits (drop (i + 1) f))
-      (value.Line (capped (value_from (a * 10 + (get_or f i 0 - 48)) (drop (i + 1) f)))) value.None
+      (Some (value.Line (capped (value_from (a * 10 + (get_or f i 0 - 48)) (drop (i + 1) f))))) None
   digit = rw (add-one, drop-cons f i 0 h)
 
-  pub line_more : 48 ≤ get_or f i 0 → get_or f i 0 ≤ 57 → line_after a (drop i f) ≡ line_after (capped (a * 10 + (get_or f i 0 - 48))) (drop (i + 1) f)
-  line_more lo hi =
-      rw (
-        digit,
-        le-leb 48 (get_or f i 0) lo,
-        le-leb (get_or f i 0) 57 hi,
-        capped_more (a * 10 + (get_or f i 0 - 48)) (drop (i + 1) f),
-      )
+  pub line_more : is_digit (get_or f i 0) ≡ true → line_after a (drop i f) ≡ line_after (capped (a * 10 + (get_or f i 0 - 48))) (drop (i + 1) f)
+  line_more e = rw (digit, e, capped_more (a * 10 + (get_or f i 0 - 48)) (drop (i + 1) f))
 
-  pub line_low : get_or f i 0 < 48 → line_after a (drop i f) ≡ value.None
-  line_low lo = rw (digit, lt-leb 48 (get_or f i 0) lo)
-
-  pub line_high : 57 < get_or f i 0 → line_after a (drop i f) ≡ value.None
-  line_high hi = rw (digit, le-leb 48 (get_or f i 0) (omega arith), lt-leb (get_or f i 0) 57 hi)
+  pub line_none : is_digit (get_or f i 0) ≡ false → line_after a (drop i f) ≡ None
+  line_none e = rw (digit, e)
 
 pub capped_fits : (a : ℕ) → capped a ≤ 4097
 capped_fits a = go (leb a 4096) refl
@@ -89,8 +68,8 @@ capped_same a h = go (leb a 4096) refl
     go true e = refl
     go false e = omega (arith, leb-false a 4096 e)
 
-pub line_end : (f : List ℕ) (i a : ℕ) → length f ≤ i → a ≤ 4097 → line_after a (drop i f) ≡ value.Line a
-line_end f i a h g = rw (drop_of_length-le f h) (ap value.Line (capped_same a g))
+pub line_end : (f : List ℕ) (i a : ℕ) → length f ≤ i → a ≤ 4097 → line_after a (drop i f) ≡ Some (value.Line a)
+line_end f i a h g = rw (drop_of_length-le f h) (ap (λ (n : ℕ). Some (value.Line n)) (capped_same a g))
 
 -- `@` and a number, by its first bytes
 pub name_short : (f : List ℕ) → length f < 2 → as_label f ≡ invalid
@@ -108,7 +87,7 @@ name_zeros (b ∷ []) e = rw (and-false (eqb b 64))
 name_zeros (b ∷ (d ∷ [])) e = let z : ◌≡◌ {A = ℕ} 0 1 = cc (and-false (eqb d 48)) in absurd (omega arith)
 name_zeros (b ∷ (d ∷ (x ∷ bs))) e = rw ((facts.and-true (eqb d 48) (ltb 2 (suc (suc (suc (length bs))))) e).0, and-false (eqb b 64))
 
-label_if : (t : Bool) (n : ℕ) → value_of (cond t (label n) invalid) ≡ cond t (value.Line (capped n)) value.None
+label_if : (t : Bool) (n : ℕ) → value_of (cond t (label n) invalid) ≡ cond t (Some (value.Line (capped n))) None
 label_if true n = refl
 label_if false n = refl
 

@@ -7,16 +7,16 @@ use native.Mathlib.Omega.{arith}
 use lib.Dec.{eqb, leb, ltb}
 use lib.ListN.{length, drop, get_or, drop_of_length-le}
 use lib.Seq.{drop-cons}
+use Rattle.std.specs.Prelude.{Some, None}
 use borrow.Author.Tests.{le-leb, eqb-true, eq-eqb, ne_eqb}
 use Rattle.sheet_spec.specs.declared.Kind.{Kind}
 use Rattle.sheet_spec.specs.declared.Kind.TheVariants as kind
 use Rattle.sheet_spec.specs.Names.{bytes, names_of}
 use Rattle.sheet_spec.specs.Line.{literal, invalid, equal, is_none, place_from, as_variant}
-use Rattle.sheet_tokens.specs.declared.Value.TheVariants as value
 use Rattle.sheet_tokens.specs.Values.{value_of}
 use Rattle.sheet_facts.specs.Facts.{equal_is, equal_refl}
-use Rattle.base_facts.specs.Tests.{Eq, same, other, eq?, and-true, true_not_false, ltb_is, leb_is}
-use Rattle.sheet_field.specs.Place.{key_of, has_key, key_place, short_place, long_from, long_place, length_from, of_length, place_value}
+use Rattle.base_facts.specs.Tests.{and-true, true_not_false, ltb_is, leb_is}
+use Rattle.sheet_field.specs.Place.{key_of, has_key, key_place, short_place, long_from, long_place, place_value}
 use Rattle.sheet_field.proofs.Laws.{equal_lengths}
 
 -- the key of a field of n bytes, a byte at a time
@@ -67,7 +67,7 @@ lent_keyed (b ∷ []) (suc l) e h z = absurd (omega arith)
 lent_keyed (b ∷ (d ∷ bs)) zero e h z = absurd (omega arith)
 lent_keyed (b ∷ (d ∷ bs)) (suc l) e h z = (h 0, lent_keyed (d ∷ bs) l (omega arith) (λ i. h (suc i)) z)
 
--- every name is such a field, and the places are below 99: a computed test
+-- every name is such a field: a computed test
 abbrev keyed : List ℕ → Bool
 keyed [] = true
 keyed (b ∷ []) = ltb b 256 && ltb 0 b
@@ -83,7 +83,7 @@ all_keyed [] = true
 all_keyed (n ∷ ns) = keyed n && all_keyed ns
 
 abbrev test : Kind → Bool
-test k = all_keyed (map bytes (names_of k)) && leb (length (map bytes (names_of k))) 99
+test k = all_keyed (map bytes (names_of k))
 
 tested : (k : Kind) → test k ≡ true
 tested kind.Number = refl
@@ -104,9 +104,6 @@ tested kind.RegisterChoice = refl
 tested kind.Operand = refl
 tested kind.Instruction = refl
 
-place_value_lem : (k : ℕ) → k < 99 → place_value k ≡ value.Number false k
-place_value_lem k h = rw (ne_eqb k 99 (λ e. omega arith))
-
 -- the place of a field of at most eight bytes
 module _ (b : ℕ) (bs : List ℕ) (few : length (b ∷ bs) ≤ 8) (h : Keyed (b ∷ bs)) where
   key_same : (n : List ℕ) → keyed n ≡ true → has_key n && eqb (key_of (b ∷ bs)) (key_of n) ≡ equal (b ∷ bs) n && true
@@ -125,51 +122,47 @@ module _ (b : ℕ) (bs : List ℕ) (few : length (b ∷ bs) ≤ 8) (h : Keyed (b
           true_not_false (ap (equal f) (sym (key_is f n h (keyed-is n t) k)) ∙ equal_refl f) e
       go false e false d = refl
 
-  short-from : (k : ℕ) (ns : List (List ℕ)) → all_keyed ns ≡ true → k + length ns ≤ 99 → value_of (place_from k (b ∷ bs) ns) ≡ place_value (key_place (key_of (b ∷ bs)) k ns)
-  short-from k [] t g = refl
-  short-from k (n ∷ ns) t g =
+  short-from : (k : ℕ) (ns : List (List ℕ)) → all_keyed ns ≡ true → value_of (place_from k (b ∷ bs) ns) ≡ place_value (key_place (key_of (b ∷ bs)) k ns)
+  short-from k [] t = refl
+  short-from k (n ∷ ns) t =
       let u = and-true (keyed n) (all_keyed ns) t in
-      rw (key_same n u.0) (go (equal f n && true) (short-from (suc k) ns u.1 (omega arith)))
+      rw (key_same n u.0) (go (equal f n && true) (short-from (suc k) ns u.1))
     where
       f : List ℕ
       f = b ∷ bs
 
       go : (v : Bool) → value_of (place_from (suc k) f ns) ≡ place_value (key_place (key_of f) (suc k) ns)
-          → value_of (cond v (literal false k) (place_from (suc k) f ns)) ≡ place_value (cond v k (key_place (key_of f) (suc k) ns))
-      go true e = sym (place_value_lem k (omega arith))
+          → value_of (cond v (literal false k) (place_from (suc k) f ns)) ≡ place_value (cond v (Some k) (key_place (key_of f) (suc k) ns))
+      go true e = refl
       go false e = e
 
 pub by_key : (kind : Kind) (f : List ℕ) → 0 < length f → length f ≤ 8 → Keyed f → value_of (as_variant kind f) ≡ place_value (short_place kind (key_of f))
 unfolding short_place
 by_key kind [] some few h = absurd (omega arith)
 by_key kind (b ∷ bs) some few h =
-    let ns = map bytes (names_of kind) in
-    let t = and-true (all_keyed ns) (leb (length ns) 99) (tested kind) in
-    short-from b bs few h 0 ns t.0 (omega (arith, leb_is (length ns) 99 t.1))
+    short-from b bs few h 0 (map bytes (names_of kind)) (tested kind)
 
 -- the place of a longer one
 module _ (b : ℕ) (bs : List ℕ) (many : 8 < length (b ∷ bs)) where
-  long_from_lem : (k : ℕ) (ns : List (List ℕ)) → k + length ns ≤ 99 → value_of (place_from k (b ∷ bs) ns) ≡ place_value (long_from k (b ∷ bs) ns)
-  long_from_lem k [] g = refl
-  long_from_lem k (n ∷ ns) g = go (leb (length n) 8) refl (equal f n) refl (long_from_lem (suc k) ns (omega arith))
+  long_from_lem : (k : ℕ) (ns : List (List ℕ)) → value_of (place_from k (b ∷ bs) ns) ≡ place_value (long_from k (b ∷ bs) ns)
+  long_from_lem k [] = refl
+  long_from_lem k (n ∷ ns) = go (leb (length n) 8) refl (equal f n) refl (long_from_lem (suc k) ns)
     where
       f : List ℕ
       f = b ∷ bs
 
       go : (u : Bool) → leb (length n) 8 ≡ u → (v : Bool) → equal f n ≡ v → value_of (place_from (suc k) f ns) ≡ place_value (long_from (suc k) f ns)
-          → value_of (cond (v && true) (literal false k) (place_from (suc k) f ns)) ≡ place_value (cond u (long_from (suc k) f ns) (cond v k (long_from (suc k) f ns)))
+          → value_of (cond (v && true) (literal false k) (place_from (suc k) f ns)) ≡ place_value (cond u (long_from (suc k) f ns) (cond v (Some k) (long_from (suc k) f ns)))
       go true e true d r = true_not_false d (equal_lengths f n (λ q. omega (arith, leb_is (length n) 8 e)))
       go true e false d r = r
-      go false e true d r = sym (place_value_lem k (omega arith))
+      go false e true d r = refl
       go false e false d r = r
 
 pub by_length : (kind : Kind) (f : List ℕ) → 8 < length f → value_of (as_variant kind f) ≡ place_value (long_place kind f)
 unfolding long_place
 by_length kind [] many = absurd (omega arith)
 by_length kind (b ∷ bs) many =
-    let ns = map bytes (names_of kind) in
-    let t = and-true (all_keyed ns) (leb (length ns) 99) (tested kind) in
-    long_from_lem b bs many 0 ns (omega (arith, leb_is (length ns) 99 t.1))
+    long_from_lem b bs many 0 (map bytes (names_of kind))
 
 -- no name ends in a byte 0
 keyed-last : (n : List ℕ) (l : ℕ) → suc l ≡ length n → Keyed n → 0 < get_or n l 0
@@ -195,8 +188,7 @@ module _ (f : List ℕ) (l : ℕ) (e : suc l ≡ length f) (z : get_or f l 0 ≡
 
   pub no_zero : (kind : Kind) → as_variant kind f ≡ invalid
   no_zero kind =
-      let ns = map bytes (names_of kind) in
-      no_zero_from 0 ns (and-true (all_keyed ns) (leb (length ns) 99) (tested kind)).0
+      no_zero_from 0 (map bytes (names_of kind)) (tested kind)
 
 -- a number that is none of a match's
 abbrev pub RestFrom : Type 0 → List ℕ → ℕ → Type 0
@@ -230,54 +222,16 @@ abbrev pub keys_of : List (List ℕ) → List ℕ
 keys_of [] = []
 keys_of (n ∷ ns) = cond (has_key n) (key_of n ∷ keys_of ns) (keys_of ns)
 
-no_key_from : (key k : ℕ) (ns : List (List ℕ)) → Apart (keys_of ns) key → key_place key k ns ≡ 99
+no_key_from : (key k : ℕ) (ns : List (List ℕ)) → Apart (keys_of ns) key → key_place key k ns ≡ None
 no_key_from key k [] a = refl
 no_key_from key k (n ∷ ns) a = go (has_key n) a (no_key_from key (suc k) ns)
   where
-    go : (t : Bool) → Apart (cond t (key_of n ∷ keys_of ns) (keys_of ns)) key → (Apart (keys_of ns) key → key_place key (suc k) ns ≡ 99) → cond (t && eqb key (key_of n)) k (key_place key (suc k) ns) ≡ 99
+    go : (t : Bool) → Apart (cond t (key_of n ∷ keys_of ns) (keys_of ns)) key → (Apart (keys_of ns) key → key_place key (suc k) ns ≡ None) → cond (t && eqb key (key_of n)) (Some k) (key_place key (suc k) ns) ≡ None
     go true r next = rw (ne_eqb key (key_of n) r.0) (next r.1)
     go false r next = next r
 
-pub no_key : (kind : Kind) (key : ℕ) → RestFrom (Unit {0}) (keys_of (map bytes (names_of kind))) key → 99 ≡ short_place kind key
+pub no_key : (kind : Kind) (key : ℕ) → RestFrom (Unit {0}) (keys_of (map bytes (names_of kind))) key → None ≡ short_place kind key
 unfolding short_place
 no_key kind key r =
     let ns = map bytes (names_of kind) in
     sym (no_key_from key 0 ns (rest_apart (Unit {0}) (keys_of ns) key r).1)
-
--- the names of one length, of more than eight bytes
-of_length-from : (m k : ℕ) (f : List ℕ) (ns : List (List ℕ)) → 8 < m → length f ≡ m → length_from m k f ns ≡ long_from k f ns
-of_length-from m k f [] h e = refl
-of_length-from m k f (n ∷ ns) h e = rw (of_length-from m (suc k) f ns h e) (go (eq? (length n) m) (leb (length n) 8) refl)
-  where
-    next : ℕ
-    next = long_from (suc k) f ns
-
-    go : Eq (length n) m → (u : Bool) → leb (length n) 8 ≡ u → cond (eqb (length n) m) (cond (equal f n) k next) next ≡ cond u next (cond (equal f n) k next)
-    go (same q t) true d = absurd (omega (arith, leb_is (length n) 8 d))
-    go (same q t) false d = rw t
-    go (other q t) true d = rw t
-    go (other q t) false d = rw (t, equal_lengths f n (λ r. q (sym r ∙ e)))
-
-pub of_length_lem : (kind : Kind) (m : ℕ) (f : List ℕ) → 8 < m → length f ≡ m → of_length m kind f ≡ long_place kind f
-unfolding long_place of_length
-of_length_lem kind m f h e = of_length-from m 0 f (map bytes (names_of kind)) h e
-
--- a length that no such name has
-abbrev pub covers : List ℕ → List (List ℕ) → Bool
-covers ks [] = true
-covers ks (n ∷ ns) = (leb (length n) 8 || is_in (length n) ks) && covers ks ns
-
-no_length_from : (ks : List ℕ) (k : ℕ) (f : List ℕ) (ns : List (List ℕ)) → covers ks ns ≡ true → Apart ks (length f) → long_from k f ns ≡ 99
-no_length_from ks k f [] t a = refl
-no_length_from ks k f (n ∷ ns) t a = go (leb (length n) 8) u.0 (no_length_from ks (suc k) f ns u.1 a)
-  where
-    u : (leb (length n) 8 || is_in (length n) ks ≡ true) × (covers ks ns ≡ true)
-    u = and-true (leb (length n) 8 || is_in (length n) ks) (covers ks ns) t
-
-    go : (v : Bool) → v || is_in (length n) ks ≡ true → long_from (suc k) f ns ≡ 99 → cond v (long_from (suc k) f ns) (cond (equal f n) k (long_from (suc k) f ns)) ≡ 99
-    go true q r = r
-    go false q r = rw (equal_lengths f n (apart_in ks (length n) (length f) q a)) r
-
-pub no_length : (kind : Kind) (ks : List ℕ) (f : List ℕ) → covers ks (map bytes (names_of kind)) ≡ true → RestFrom (Unit {0}) ks (length f) → 99 ≡ long_place kind f
-unfolding long_place
-no_length kind ks f t r = sym (no_length_from ks 0 f (map bytes (names_of kind)) t (rest_apart (Unit {0}) ks (length f) r).1)

@@ -1,5 +1,5 @@
--- The place of a variant's name: of at most eight bytes by its key, of more by its length; 99 is no place.
-use Rattle.std.specs.Prelude.{ℕ, suc, ◌+◌, ◌*◌, Bool, false, cond, ◌&&◌, List, [], ◌∷◌, map, eqb, leb, length, get_or}
+-- The place of a variant's name: of at most eight bytes by its key, of more by its length.
+use Rattle.std.specs.Prelude.{ℕ, suc, ◌+◌, ◌*◌, Bool, false, cond, ◌&&◌, List, [], ◌∷◌, map, eqb, leb, length, get_or, Option, Some, None}
 use Rattle.sheet_spec.specs.declared.Kind.{Kind}
 use Rattle.sheet_spec.specs.Names.{bytes, names_of}
 use Rattle.sheet_spec.specs.Line.{equal}
@@ -23,28 +23,21 @@ has_key [] = false
 has_key (b ∷ bs) = leb (length (b ∷ bs)) 8
 
 -- the first place from k on whose name has a key
-abbrev pub key_place : ℕ → ℕ → List (List ℕ) → ℕ
-key_place key k [] = 99
-key_place key k (n ∷ ns) = cond (has_key n && eqb key (key_of n)) k (key_place key (suc k) ns)
+abbrev pub key_place : ℕ → ℕ → List (List ℕ) → Option ℕ
+key_place key k [] = None
+key_place key k (n ∷ ns) = cond (has_key n && eqb key (key_of n)) (Some k) (key_place key (suc k) ns)
 
-unfoldable pub short_place : Kind → ℕ → ℕ
+unfoldable pub short_place : Kind → ℕ → Option ℕ
 short_place kind key = key_place key 0 (map bytes (names_of kind))
 
 -- the first place from k on of a field among the names of more than eight bytes
-abbrev pub long_from : ℕ → List ℕ → List (List ℕ) → ℕ
-long_from k f [] = 99
-long_from k f (n ∷ ns) = cond (leb (length n) 8) (long_from (suc k) f ns) (cond (equal f n) k (long_from (suc k) f ns))
+abbrev pub long_from : ℕ → List ℕ → List (List ℕ) → Option ℕ
+long_from k f [] = None
+long_from k f (n ∷ ns) = cond (leb (length n) 8) (long_from (suc k) f ns) (cond (equal f n) (Some k) (long_from (suc k) f ns))
 
-unfoldable pub long_place : Kind → List ℕ → ℕ
+unfoldable pub long_place : Kind → List ℕ → Option ℕ
 long_place kind f = long_from 0 f (map bytes (names_of kind))
 
--- among the names of m bytes
-abbrev pub length_from : ℕ → ℕ → List ℕ → List (List ℕ) → ℕ
-length_from m k f [] = 99
-length_from m k f (n ∷ ns) = cond (eqb (length n) m) (cond (equal f n) k (length_from m (suc k) f ns)) (length_from m (suc k) f ns)
-
-unfoldable pub of_length : ℕ → Kind → List ℕ → ℕ
-of_length m kind f = length_from m 0 f (map bytes (names_of kind))
-
-abbrev pub place_value : ℕ → Value
-place_value n = cond (eqb n 99) value.None (value.Number false n)
+abbrev pub place_value : Option ℕ → Option Value
+place_value (Some n) = Some (value.Number false n)
+place_value None = None

@@ -11,45 +11,30 @@ ghost use Rattle.sheet_field.specs.LineNumber.{line_after};
 ghost use Rattle.sheet_field.specs.Place.{place_value};
 
 use crate::long::long_place;
-use crate::short::{NONE, key, short_place};
-use base_spec::Number;
+use crate::short::{key, short_place};
 use sheet_spec::Kind;
 use sheet_tokens::Value;
 
 mod long;
 mod short;
 
-// Whether two texts are equal.
+/// Whether two texts are equal.
 pub fn equal(f: &[u8], g: &[u8]) -> bool
     ensures { result ≡ line.equal f.now g.now }
 {
-    if f.len() != g.len() {
-        return false;
-    }
-    let mut i: usize = 0;
-    while i < f.len() {
-        if f[i] != g[i] {
-            return false;
-        }
-        i += 1;
-    }
-    true
+    f == g
 }
 
 // What a number's field says.
-fn number(f: &[u8]) -> Value
+fn number(f: &[u8]) -> Option<Value>
     ensures { result ≡ value_of (as_number (number_of f.now)) }
 {
-    let n = base_text::read_number(f);
-    match n {
-        Number::Is {
-            negative,
-            magnitude,
-        } => Value::Number {
-            negative: negative,
-            magnitude: magnitude,
-        },
-        Number::No => Value::None,
+    match base_text::read_number(f) {
+        Some(literal) => Some(Value::Number {
+            negative: literal.negative,
+            magnitude: literal.magnitude,
+        }),
+        None => None,
     }
 }
 
@@ -57,89 +42,75 @@ fn number(f: &[u8]) -> Value
 fn capped(n: u64) -> u64
     ensures { result ≡ values.capped n }
 {
-    if n <= 4096 { n } else { 4097 }
+    n.min(4_097)
 }
 
 // The line whose number digits write, of any length.
-fn line_number(f: &[u8]) -> Value
-    ensures { result ≡ line_after 0 f.now }
+fn line_number(digits: &[u8]) -> Option<Value>
+    ensures { result ≡ line_after 0 digits.now }
 {
-    let mut a: u64 = 0;
-    let mut i: usize = 0;
-    while i < f.len() {
-        let b = f[i];
-        if b < 48 {
-            return Value::None;
+    let mut line = 0;
+    for &digit in digits {
+        if !digit.is_ascii_digit() {
+            return None;
         }
-        if 57 < b {
-            return Value::None;
-        }
-        a = capped(a * 10 + (b - 48) as u64);
-        i += 1;
+        line = capped(line * 10 + u64::from(digit - b'0'));
     }
-    Value::Line(a)
+    Some(Value::Line(line))
 }
 
-// `@` and a line's number.
-fn line_name(f: &[u8]) -> Value
+// `@` and a line's number with no leading zero.
+fn line_name(f: &[u8]) -> Option<Value>
     ensures { result ≡ value_of (as_label f.now) }
 {
-    if f.len() < 2 {
-        return Value::None;
+    match f {
+        [b'@', b'0', _, ..] => None,
+        [b'@', digits @ ..] if !digits.is_empty() => line_number(digits),
+        _ => None,
     }
-    if f[0] != b'@' {
-        return Value::None;
-    }
-    if (f[1] == 48) & (2 < f.len()) {
-        return Value::None;
-    }
-    line_number(&f[1..])
 }
 
 // A label or a number.
-fn place(f: &[u8]) -> Value
+fn place(f: &[u8]) -> Option<Value>
     ensures { result ≡ value_of (token Kind.Place f.now) }
 {
-    if f.len() == 0 {
-        return Value::None;
+    match f {
+        [b'@', ..] => line_name(f),
+        _ => number(f),
     }
-    if f[0] == b'@' {
-        return line_name(f);
-    }
-    number(f)
 }
 
-// A variant by its place.
-fn at(place: u64) -> Value
+// The value of a variant's name, by its place.
+fn at(place: Option<u64>) -> Option<Value>
     ensures { result ≡ place_value place }
 {
-    if place == NONE {
-        return Value::None;
-    }
-    Value::Number {
-        negative: false,
-        magnitude: place,
+    match place {
+        Some(magnitude) => Some(Value::Number {
+            negative: false,
+            magnitude,
+        }),
+        None => None,
     }
 }
 
 // A variant's name. No name ends in a byte 0, so a key decides a field.
-fn variant(kind: Kind, f: &[u8]) -> Value
+fn variant(kind: Kind, f: &[u8]) -> Option<Value>
     ensures { result ≡ value_of (as_variant kind f.now) }
 {
     if f.len() == 0 {
-        return Value::None;
+        return None;
     }
     if 8 < f.len() {
         return at(long_place(kind, f));
     }
     if f[f.len() - 1] == 0 {
-        return Value::None;
+        return None;
     }
     at(short_place(kind, key(f)))
 }
 
-// What a field of a kind says.
-pub fn value(kind: Kind, f: &[u8]) -> Value
+/// What a field of a kind says; none where it is not in the form.
+pub fn value(kind: Kind, f: &[u8]) -> Option<Value>
     ensures { result ≡ value_of (token kind f.now) }
 {
     match kind {

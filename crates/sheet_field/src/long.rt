@@ -1,114 +1,108 @@
-// The places of names of more than eight bytes, each by its length.
-#![tactic(auto, unfolding(crate::specs::Place::long_place, crate::specs::Place::of_length))]
+// The places of names of more than eight bytes: few, and told apart by their lengths first.
+#![tactic(auto, unfolding(crate::specs::Place::long_place))]
 
-ghost use Rattle.std.specs.Prelude.{◌≡◌, cond};
-ghost use Rattle.sheet_spec.specs.Line as line;
-ghost use Rattle.sheet_field.specs.Place.{long_place, of_length};
+ghost use Rattle.std.specs.Prelude.{◌≡◌};
+ghost use Rattle.sheet_field.specs.Place.{long_place};
 
 use crate::equal;
-use crate::short::NONE;
 use sheet_spec::Kind;
 
-// A place where a field is the name there.
-fn place_if(f: &[u8], name: &[u8], place: u64) -> u64
-    ensures { result ≡ cond (line.equal f.now name.now) place 99 }
-{
-    if equal(f, name) { place } else { NONE }
-}
-
-// Of the instructions with names of nine bytes.
-fn nine(f: &[u8]) -> u64
-    ensures { result ≡ of_length 9 Kind.Instruction f.now }
-{
-    if equal(f, b"MOVEtoCCR") {
-        return 64;
-    }
-    if equal(f, b"ANDItoCCR") {
-        return 68;
-    }
-    place_if(f, b"EORItoCCR", 70)
-}
-
-// Of the conditions with names of eleven bytes.
-fn eleven(f: &[u8]) -> u64
-    ensures { result ≡ of_length 11 Kind.Condition f.now }
-{
-    if equal(f, b"OverflowSet") {
-        return 9;
-    }
-    place_if(f, b"GreaterThan", 14)
-}
-
-fn long_target_direction(f: &[u8]) -> u64
+fn long_target_direction(f: &[u8]) -> Option<u64>
     ensures { result ≡ long_place Kind.TargetDirection f.now }
 {
-    match f.len() {
-        10 => place_if(f, b"FromMemory", 1),
-        _ => NONE,
+    if equal(f, b"FromMemory") {
+        Some(1)
+    } else {
+        None
     }
 }
 
-fn long_condition(f: &[u8]) -> u64
+fn long_condition(f: &[u8]) -> Option<u64>
     ensures { result ≡ long_place Kind.Condition f.now }
 {
-    match f.len() {
-        9 => place_if(f, b"LowOrSame", 3),
-        10 => place_if(f, b"CarryClear", 4),
-        11 => eleven(f),
-        13 => place_if(f, b"OverflowClear", 8),
-        15 => place_if(f, b"LessThanOrEqual", 15),
-        18 => place_if(f, b"GreaterThanOrEqual", 12),
-        _ => NONE,
+    if equal(f, b"LowOrSame") {
+        Some(3)
+    } else if equal(f, b"CarryClear") {
+        Some(4)
+    } else if equal(f, b"OverflowClear") {
+        Some(8)
+    } else if equal(f, b"OverflowSet") {
+        Some(9)
+    } else if equal(f, b"GreaterThanOrEqual") {
+        Some(12)
+    } else if equal(f, b"GreaterThan") {
+        Some(14)
+    } else if equal(f, b"LessThanOrEqual") {
+        Some(15)
+    } else {
+        None
     }
 }
 
-fn long_bit_field_operation(f: &[u8]) -> u64
+fn long_bit_field_operation(f: &[u8]) -> Option<u64>
     ensures { result ≡ long_place Kind.BitFieldOperation f.now }
 {
-    match f.len() {
-        12 => place_if(f, b"FindFirstOne", 5),
-        13 => place_if(f, b"ExtractSigned", 3),
-        15 => place_if(f, b"ExtractUnsigned", 1),
-        _ => NONE,
+    if equal(f, b"ExtractUnsigned") {
+        Some(1)
+    } else if equal(f, b"ExtractSigned") {
+        Some(3)
+    } else if equal(f, b"FindFirstOne") {
+        Some(5)
+    } else {
+        None
     }
 }
 
-fn long_field_value(f: &[u8]) -> u64
+fn long_field_value(f: &[u8]) -> Option<u64>
     ensures { result ≡ long_place Kind.FieldValue f.now }
 {
-    match f.len() {
-        9 => place_if(f, b"Immediate", 0),
-        _ => NONE,
+    if equal(f, b"Immediate") {
+        Some(0)
+    } else {
+        None
     }
 }
 
-fn long_operand(f: &[u8]) -> u64
+fn long_operand(f: &[u8]) -> Option<u64>
     ensures { result ≡ long_place Kind.Operand f.now }
 {
-    match f.len() {
-        9 => place_if(f, b"Immediate", 0),
-        11 => place_if(f, b"PreIndirect", 4),
-        12 => place_if(f, b"PostIndirect", 3),
-        13 => place_if(f, b"IndirectIndex", 6),
-        14 => place_if(f, b"PcDisplacement", 7),
-        20 => place_if(f, b"IndirectDisplacement", 5),
-        _ => NONE,
+    if equal(f, b"Immediate") {
+        Some(0)
+    } else if equal(f, b"PostIndirect") {
+        Some(3)
+    } else if equal(f, b"PreIndirect") {
+        Some(4)
+    } else if equal(f, b"IndirectDisplacement") {
+        Some(5)
+    } else if equal(f, b"IndirectIndex") {
+        Some(6)
+    } else if equal(f, b"PcDisplacement") {
+        Some(7)
+    } else {
+        None
     }
 }
 
-fn long_instruction(f: &[u8]) -> u64
+fn long_instruction(f: &[u8]) -> Option<u64>
     ensures { result ≡ long_place Kind.Instruction f.now }
 {
-    match f.len() {
-        9 => nine(f),
-        10 => place_if(f, b"MOVEfromSR", 67),
-        11 => place_if(f, b"MOVEfromCCR", 65),
-        _ => NONE,
+    if equal(f, b"MOVEtoCCR") {
+        Some(64)
+    } else if equal(f, b"MOVEfromCCR") {
+        Some(65)
+    } else if equal(f, b"MOVEfromSR") {
+        Some(67)
+    } else if equal(f, b"ANDItoCCR") {
+        Some(68)
+    } else if equal(f, b"EORItoCCR") {
+        Some(70)
+    } else {
+        None
     }
 }
 
-// The place of the name of a kind that a field is.
-pub fn long_place(kind: Kind, f: &[u8]) -> u64
+/// The place of the name of a kind that a field of more than eight bytes is.
+pub fn long_place(kind: Kind, f: &[u8]) -> Option<u64>
     ensures { result ≡ long_place kind f.now }
 {
     match kind {
@@ -118,6 +112,6 @@ pub fn long_place(kind: Kind, f: &[u8]) -> u64
         Kind::FieldValue => long_field_value(f),
         Kind::Operand => long_operand(f),
         Kind::Instruction => long_instruction(f),
-        _ => NONE,
+        _ => None,
     }
 }

@@ -1,9 +1,8 @@
 -- A field and what it says: each from the other. Assumes nothing.
 use Rattle.std.specs.Prelude.{ℕ, ◌≡◌, refl, Bool, true, false, cond, List, [], ◌∷◌, ◌++◌}
 use Rattle.std.proofs.Common.{sym, ap, ◌∙◌, arith, ne_eqb, lt-ltb}
-use Rattle.base_spec.specs.declared.Number.{Number}
-use Rattle.base_spec.specs.declared.Number.TheVariants as number
-use Rattle.base_spec.specs.Number.{is_digit, all_digits, value, is_decimal, number_of}
+use Rattle.base_spec.specs.Number as number
+use Rattle.base_spec.specs.Number.{Number, is_digit, all_digits, value, is_decimal, number_of}
 use Rattle.base_spec.specs.Written.{decimal_of}
 use Rattle.sheet_spec.specs.declared.Kind.{Kind}
 use Rattle.sheet_spec.specs.declared.Kind.TheVariants as kind

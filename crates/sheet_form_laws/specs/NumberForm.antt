@@ -2,7 +2,7 @@
 use Rattle.std.specs.Prelude.{ℕ, zero, suc, ◌+◌, ◌*◌, ◌-◌, ◌/◌, ◌%◌, ◌≤◌, ◌≡◌, Bool, true, false, not, List, [], ◌∷◌, ◌++◌, leb, eqb}
 use Rattle.std.proofs.Common.{sym, ap, ◌∙◌, append_assoc, append-nil, arith, leb-true, ne_eqb}
 use Rattle.std.proofs.lemmas.Bool.{false≢true, eqb-false, not-true}
-use Rattle.base_spec.specs.declared.Number.TheVariants as number
+use Rattle.base_spec.specs.Number as number
 use Rattle.base_spec.specs.Number.{is_digit, all_digits, value_from, value, is_decimal, number_of}
 use Rattle.base_spec.specs.Written.{decimal_of}
 use Rattle.base_text.specs.WrittenLaws.{decimal_small, decimal_more}

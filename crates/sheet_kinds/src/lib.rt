@@ -1,4 +1,5 @@
 // The kinds to come in a line as one number: five bits each, the next in the lowest; 0 where there are none.
+// One number, not a list of kinds: a variant's fields put below the rest by one sum gained 5.6 of 39 million instructions on the whole sheet (docs/BENCHMARKS.md).
 #![tactic(auto)]
 
 ghost use Rattle.std.specs.Prelude.{◌≡◌, ◌%◌, ◌^◌, ◌<◌};
@@ -8,7 +9,7 @@ ghost use Rattle.sheet_kinds.specs.Next.{kinds_after, power_above};
 
 use sheet_spec::Kind;
 
-// The next kind.
+/// The next kind.
 pub fn first(kinds: u64) -> Kind
     ensures { result ≡ kind_at (kinds % 32) }
 {
@@ -68,7 +69,7 @@ const REGISTER_CHOICE: u64 = 15;
 
 const OPERAND: u64 = 16;
 
-// A whole line.
+/// A whole line.
 pub const INSTRUCTION: u64 = 17;
 
 // Fields in one number, named by their kinds in order or by the variant that has them.
@@ -305,7 +306,7 @@ fn fields_of(kind: Kind, place: u64) -> u64
     }
 }
 
-// The power of 32 above fields.
+// The power of 32 above fields; a recursion and other orders of the tests were slower.
 fn shift(fields: u64) -> u64
     requires { fields < 32 ^ 7 }
     ensures { result ≡ power_above 7 fields }
@@ -334,7 +335,7 @@ fn shift(fields: u64) -> u64
     34_359_738_368
 }
 
-// The next kind taken off, and its fields put in its place.
+/// The next kind taken off, and its fields put in its place.
 pub fn next(kinds: u64, place: u64) -> u64
     requires { kinds_after kinds place < 2 ^ 64 }
     ensures { result ≡ kinds_after kinds place }

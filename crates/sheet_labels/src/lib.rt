@@ -27,55 +27,43 @@ pub fn address_in(addresses: &[u32], k: u64) -> u64
 }
 
 // The number that a value says, of a label its line's.
-pub fn own_number(v: Value) -> u64
+pub fn own_number(v: Option<Value>) -> u64
     ensures { result ≡ own_number v }
 {
     match v {
-        Value::Number {
-            negative: _,
-            magnitude,
-        } => magnitude,
-        Value::Line(k) => k,
-        Value::None => 0,
+        Some(Value::Number { magnitude, .. }) => magnitude,
+        Some(Value::Line(k)) => k,
+        None => 0,
     }
 }
 
-pub fn below_zero(v: Value) -> bool
+pub fn below_zero(v: Option<Value>) -> bool
     ensures { result ≡ below_zero v }
 {
     match v {
-        Value::Number {
-            negative,
-            magnitude: _,
-        } => negative,
-        Value::Line(_) => false,
-        Value::None => false,
+        Some(Value::Number { negative, .. }) => negative,
+        Some(Value::Line(_)) => false,
+        None => false,
     }
 }
 
-pub fn says_label(v: Value) -> bool
+pub fn says_label(v: Option<Value>) -> bool
     ensures { result ≡ says_label v }
 {
     match v {
-        Value::Number {
-            negative: _,
-            magnitude: _,
-        } => false,
-        Value::Line(_) => true,
-        Value::None => false,
+        Some(Value::Number { .. }) => false,
+        Some(Value::Line(_)) => true,
+        None => false,
     }
 }
 
 // Whether a value, where it is a label, is the number of one of `lines` lines.
-pub fn names_line(v: Value, lines: usize) -> bool
+pub fn names_line(v: Option<Value>, lines: usize) -> bool
     ensures { result ≡ names_line lines v }
 {
     match v {
-        Value::Number {
-            negative: _,
-            magnitude: _,
-        } => true,
-        Value::Line(k) => (1 <= k) & (k <= lines as u64),
-        Value::None => true,
+        Some(Value::Number { .. }) => true,
+        Some(Value::Line(k)) => (1 <= k) & (k <= lines as u64),
+        None => true,
     }
 }

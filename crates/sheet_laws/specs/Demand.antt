@@ -3,7 +3,7 @@ use Rattle.std.specs.Prelude.{ℕ, ◌*◌, ◌≤◌, ◌≡◌, true, List, �
 use Rattle.std.proofs.Common.{sym, ap, ◌∙◌, subst, arith}
 use Rattle.isa.specs.declared.Instruction.{Instruction}
 use Rattle.encode_spec.specs.Encode.{encode_of, words_of}
-use Rattle.read_spec.specs.declared.Reading.TheVariants.{Read}
+use Rattle.read_spec.specs.Reading.{Read}
 use Rattle.read_spec.specs.Plain.{plain}
 use Rattle.read_spec.specs.Read.{read_of}
 use Rattle.read_spec.specs.Accepted as reads

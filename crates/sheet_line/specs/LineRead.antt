@@ -1,5 +1,5 @@
 -- What a line's fields say, in 24 places.
-use Rattle.std.specs.Prelude.{ℕ, ◌+◌, ◌≡◌, Bool, true, false, ◌&&◌, ◌||◌, List, [], length}
+use Rattle.std.specs.Prelude.{ℕ, ◌+◌, ◌≡◌, Bool, true, false, ◌&&◌, ◌||◌, List, [], length, Option}
 use Rattle.sheet_spec.specs.Line.{Token, Parsed, says, no}
 use Rattle.sheet_spec.specs.Made.{resolves_all, resolves_in, of_lines}
 use Rattle.sheet_tokens.specs.declared.Value.{Value}
@@ -27,7 +27,7 @@ not_read = record { ok = false; count = 0; labelled = false; resolves = true }
 unfoldable pub part_read : ℕ → List Token → LineRead
 part_read n vs = record { ok = false; count = length vs; labelled = labelled_all vs; resolves = resolves_all (of_lines n (λ k. 0)) vs }
 
-unfoldable pub read_more : ℕ → LineRead → Value → LineRead
+unfoldable pub read_more : ℕ → LineRead → Option Value → LineRead
 read_more n r v = record { ok = false; count = r.count + 1; labelled = r.labelled || says_label v; resolves = r.resolves && names_line n v }
 
 -- what is read, with the numbers of tokens and which of them are labels

@@ -14,6 +14,7 @@ use Rattle.base_spec.specs.Parts.{fields}
 use Rattle.base_text.specs.PartLaws.{parts_from, parts_at, parts-start, parts_past, part_is}
 use Rattle.sheet_spec.specs.declared.Kind.{Kind}
 use Rattle.sheet_spec.specs.declared.Kind.TheVariants as kind
+use Rattle.std.specs.Prelude as code
 use Rattle.sheet_tokens.specs.declared.Value.{Value}
 use Rattle.sheet_spec.specs.Grammar.{kinds_of}
 use Rattle.sheet_spec.specs.Line.{Token, literal, label, invalid, token, Parsed, says, no, with, after, line_from, line_of}
@@ -181,7 +182,7 @@ module _ (n : ℕ) (line : List ℕ) {r : LineRead} {negative : List Bool} {magn
         }
 
     -- the next field, which ends at `end`: its kind and what it says
-    module _ (end : ℕ) (h : from ≤ length line) (g : end ≡ part_end 9 line from) (k : Kind) (q : k ≡ kind_at (kinds % 32)) (w : Value)
+    module _ (end : ℕ) (h : from ≤ length line) (g : end ≡ part_end 9 line from) (k : Kind) (q : k ≡ kind_at (kinds % 32)) (w : code.Option Value)
         (i : w ≡ value_of (token k (take (end - from) (drop from line)))) where
       abbrev f : List ℕ
       f = take (end - from) (drop from line)

@@ -28,30 +28,24 @@ pub struct LineRead {
     pub resolves: bool,
 }
 
-fn says(v: Value) -> bool
+fn says(v: Option<Value>) -> bool
     ensures { result ≡ is_said v }
 {
     match v {
-        Value::Number {
-            negative: _,
-            magnitude: _,
-        } => true,
-        Value::Line(_) => true,
-        Value::None => false,
+        Some(Value::Number { .. }) => true,
+        Some(Value::Line(_)) => true,
+        None => false,
     }
 }
 
 // The place that a variant's name says; 0 of a label, whose kind has no fields.
-fn variant_place(v: Value) -> u64
+fn variant_place(v: Option<Value>) -> u64
     ensures { result ≡ variant_place v }
 {
     match v {
-        Value::Number {
-            negative: _,
-            magnitude,
-        } => magnitude,
-        Value::Line(_) => 0,
-        Value::None => 0,
+        Some(Value::Number { magnitude, .. }) => magnitude,
+        Some(Value::Line(_)) => 0,
+        None => 0,
     }
 }
 
@@ -86,7 +80,7 @@ fn not_read(
 }
 
 // One field more.
-fn read_more(r: LineRead, v: Value, lines: usize) -> LineRead
+fn read_more(r: LineRead, v: Option<Value>, lines: usize) -> LineRead
     requires { r.count < 24 }
     ensures { result ≡ read_more lines r v }
 {

@@ -4,9 +4,8 @@ use Rattle.std.proofs.Common.{sym, ap, ◌∙◌, arith, eqb-true}
 use Rattle.std.proofs.lemmas.Bool.{false≢true}
 use Rattle.std.proofs.Math.Option
 use Rattle.std.proofs.Math.Option.{Option, none, some}
-use Rattle.base_spec.specs.declared.Number.{Number}
-use Rattle.base_spec.specs.declared.Number.TheVariants as number
-use Rattle.base_spec.specs.Number.{number_of}
+use Rattle.base_spec.specs.Number as number
+use Rattle.base_spec.specs.Number.{Number, number_of}
 use Rattle.base_spec.specs.Parts.{onto, parts, fields}
 use Rattle.numeric_spec.specs.Build.{built_of}
 use Rattle.base_facts.specs.Tests.{and-true}

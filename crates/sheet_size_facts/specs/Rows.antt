@@ -14,8 +14,8 @@ use Rattle.isa.specs.declared.FieldValue.{FieldValue}
 use Rattle.isa.specs.declared.FieldValue.TheVariants as value
 use Rattle.isa.specs.declared.TrapOperand.{TrapOperand}
 use Rattle.isa.specs.declared.TrapOperand.TheVariants as trap
-use Rattle.isa.specs.declared.RegisterChoice.{RegisterChoice}
-use Rattle.isa.specs.declared.RegisterChoice.TheVariants as choices
+use Rattle.std.specs.declared.option.Option.{Option}
+use Rattle.std.specs.declared.option.Option.TheVariants as choices
 use Rattle.isa.specs.declared.Operand.{Operand}
 use Rattle.isa.specs.declared.Operand.TheVariants.{Immediate, Register, Indirect, PostIndirect, PreIndirect, IndirectDisplacement, IndirectIndex, PcDisplacement, PcIndex, Extended, Absolute}
 use Rattle.isa.specs.declared.IndexRegister.{IndexRegister}
@@ -97,9 +97,9 @@ extent =
     let e : Enum FieldValue = record { form = field_value_form; kind = kind.FieldValue; suits = λ v q. q; names = λ m. (λ h. h, λ k top. refl); top = 1; untargeted = λ x. x } in
     enum e (elim [ value.Immediate m ↦ variant e 0 (λ h. refl) byte value.Immediate m (λ w. refl) | value.Register m ↦ variant e 1 (λ h. refl) byte value.Register m (λ w. refl) ])
 
-abbrev high : {d : ℕ → Bool} → Sort d RegisterChoice
+abbrev high : {d : ℕ → Bool} → Sort d (Option ℕ)
 high =
-    let e : Enum RegisterChoice = record { form = register_choice_form; kind = kind.RegisterChoice; suits = λ v q. q; names = λ m. (λ h. h, λ k top. refl); top = 1; untargeted = λ x. x } in
+    let e : Enum (Option ℕ) = record { form = register_choice_form; kind = kind.RegisterChoice; suits = λ v q. q; names = λ m. (λ h. h, λ k top. refl); top = 1; untargeted = λ x. x } in
     enum e (elim [ choices.None ↦ variant e 0 (λ h. refl) none (λ w. choices.None) tt (λ w. refl) | choices.Some m ↦ variant e 1 (λ h. refl) byte choices.Some m (λ w. refl) ])
 
 abbrev trapped : {d : ℕ → Bool} → Sort d TrapOperand

@@ -1,9 +1,8 @@
 -- What a line says (01, "The listing"): its fields against the grammar.
 use Rattle.std.specs.Prelude.{ℕ, suc, Bool, true, false, cond, not, ◌&&◌, List, [], ◌∷◌, ◌++◌, map, eqb}
-use Rattle.base_spec.specs.declared.Number.{Number}
-use Rattle.base_spec.specs.declared.Number.TheVariants as number
+use Rattle.base_spec.specs.Number as number
 use Rattle.base_spec.specs.Parts.{fields}
-use Rattle.base_spec.specs.Number.{number_of, is_decimal, value}
+use Rattle.base_spec.specs.Number.{Number, number_of, is_decimal, value}
 use Rattle.sheet_spec.specs.declared.Kind.{Kind}
 use Rattle.sheet_spec.specs.declared.Kind.TheVariants as kind
 use Rattle.sheet_spec.specs.Names.{bytes, names_of}

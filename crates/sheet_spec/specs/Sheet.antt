@@ -5,10 +5,9 @@ use Rattle.std.proofs.Math.Option.{Option, none, some}
 use Rattle.isa.specs.declared.Measured.{Measured}
 use Rattle.isa.specs.declared.Encoded.{Encoded}
 use Rattle.encode_spec.specs.Encode.{size_of, encode_of}
-use Rattle.base_spec.specs.declared.Number.{Number}
-use Rattle.base_spec.specs.declared.Number.TheVariants as number
+use Rattle.base_spec.specs.Number as number
 use Rattle.base_spec.specs.Parts.{fields}
-use Rattle.base_spec.specs.Number.{number_of}
+use Rattle.base_spec.specs.Number.{Number, number_of}
 use Rattle.base_spec.specs.Lines.{lines_of}
 use Rattle.sheet_spec.specs.Names.{bytes}
 use Rattle.sheet_spec.specs.Line.{equal, Parsed, no, line_of}

@@ -2,32 +2,33 @@
 #![tactic(auto)]
 
 ghost use Rattle.std.specs.Prelude.{◌≡◌, ◌+◌, length};
+ghost use Rattle.base_spec.specs.Number.{number_in};
 ghost use Rattle.sheet_spec.specs.Sheet.{is_sheet, start_line, start_as, start_of};
 ghost use Rattle.sheet_spec.specs.Sheet as sheet;
 ghost use Rattle.sheet_start.specs.StartLine.{start_at, not_at};
 
-use base_spec::Number;
+use base_spec::Literal;
 
-// The address that the START line names, where it is in the form.
+/// The address that the START line names, where it is in the form.
 #[derive(Clone, Copy)]
 pub struct StartAt {
     pub ok: bool,
     pub address: u32,
 }
 
-// The number of line feeds.
+const MOST_BYTES: usize = 65_536;
+
+// One for the START line, and one for each of 4,096 lines.
+const MOST_FEEDS: usize = 4_097;
+
+// An address is a number of 32 bits.
+const ADDRESSES: u64 = 4_294_967_296;
+
+/// The number of line feeds.
 pub fn feeds(text: &[u8]) -> usize
     ensures { result ≡ sheet.feeds text.now }
 {
-    let mut n: usize = 0;
-    let mut i: usize = 0;
-    while i < text.len() {
-        if text[i] == 10 {
-            n += 1;
-        }
-        i += 1;
-    }
-    n
+    text.iter().filter(|&&b| b == b'\n').count()
 }
 
 fn last(text: &[u8]) -> u8
@@ -39,13 +40,13 @@ fn last(text: &[u8]) -> u8
     text[text.len() - 1]
 }
 
+/// Whether a text has the outline of a sheet: its bytes, its last byte, its line feeds.
 pub fn is_sheet(text: &[u8]) -> bool
     ensures { result ≡ is_sheet text.now }
 {
     let bytes = text.len();
-    let end = last(text);
     let lines = feeds(text);
-    (1 <= bytes) & (bytes <= 65536) & (end == 10) & (2 <= lines) & (lines <= 4097)
+    1 <= bytes && bytes <= MOST_BYTES && last(text) == b'\n' && 2 <= lines && lines <= MOST_FEEDS
 }
 
 fn no_start() -> StartAt
@@ -58,24 +59,21 @@ fn no_start() -> StartAt
 }
 
 // A 32-bit number with no sign.
-fn start_number(n: Number) -> StartAt
-    ensures { result ≡ start_at (start_as n) }
+fn start_number(n: Option<Literal>) -> StartAt
+    ensures { result ≡ start_at (start_as (number_in n)) }
 {
     match n {
-        Number::Is {
-            negative,
-            magnitude,
-        } => {
-            if !negative & (magnitude < 4294967296) {
+        Some(literal) => {
+            if !literal.negative && literal.magnitude < ADDRESSES {
                 StartAt {
                     ok: true,
-                    address: magnitude as u32,
+                    address: literal.magnitude as u32,
                 }
             } else {
                 no_start()
             }
         }
-        Number::No => no_start(),
+        None => no_start(),
     }
 }
 
@@ -98,7 +96,7 @@ fn start_in(line: &[u8]) -> StartAt
     no_start()
 }
 
-// What the first line says.
+/// What the first line says.
 pub fn start(text: &[u8]) -> StartAt
     ensures { result ≡ start_at (start_of (start_line text.now)) }
 {
@@ -106,7 +104,7 @@ pub fn start(text: &[u8]) -> StartAt
     start_in(&text[..e])
 }
 
-// Where line 1 begins.
+/// Where line 1 begins.
 pub fn lines_begin(text: &[u8]) -> usize
     ensures { result ≡ length (start_line text.now) + 1 }
 {

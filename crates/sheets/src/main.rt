@@ -3,94 +3,84 @@
 // An empty line follows each answer; a list not in this form ends with the line `list`, which is all for one of more than 1 MiB.
 #![tactic(auto)]
 
-ghost use Rattle.std.specs.Prelude.{◌≡◌, ◌≤◌, length, replicate};
+ghost use Rattle.std.specs.Prelude.{◌≡◌, ◌≤◌};
 ghost use Rattle.print_spec.specs.Printed.{Printed};
-ghost use Rattle.sheets.specs.Ways.{rule_of};
+ghost use Rattle.sheets.specs.Ways.{way_of, rule_by, limits, is_answered, case_text};
 
+use base_list::{Header, Limits};
+use list_program::Case;
 use print_spec::Output;
+use std::io;
 
-// 1 MiB, and a place to see that there is more.
-fn list_places() -> [u8; 1048577]
-    ensures { (result ≡ replicate 1048577 0) × (1048577 ≡ length result) }
-{
-    [0; 1048577]
+// Which scratch is lent.
+#[derive(Clone, Copy)]
+enum Way {
+    Full,
+    Sparse,
 }
 
-fn image_places() -> [u16; 45056]
-    ensures { (result ≡ replicate 45056 0) × (45056 ≡ length result) }
-{
-    [0; 45056]
+// A number that is no way.
+#[derive(Clone, Copy)]
+struct UnknownWay(usize);
+
+impl TryFrom<usize> for Way {
+    type Error = UnknownWay;
+
+    ghost try_from_gives = { λ n r. r ≡ way_of n };
+
+    fn try_from(number: usize) -> Result<Self, UnknownWay> {
+        match number {
+            0 => Ok(Way::Full),
+            1 => Ok(Way::Sparse),
+            _ => Err(UnknownWay(number)),
+        }
+    }
 }
 
-fn scratch_places() -> [u32; 4096]
-    ensures { (result ≡ replicate 4096 0) × (4096 ≡ length result) }
-{
-    [0; 4096]
-}
-
-// 4,096 lines of at most 69 bytes, and the empty line.
-fn output_places() -> [u8; 282625]
-    ensures { (result ≡ replicate 282625 0) × (282625 ≡ length result) }
-{
-    [0; 282625]
-}
-
-// With the small scratch in way 1, else with the full one.
 fn print_by(
-    way: usize,
+    way: Way,
     sheet: &[u8],
     image: &mut [u16],
     scratch: &mut [u32],
     out: &mut [u8],
 ) -> Output
-    ensures { Printed (rule_of way) sheet.now image.old scratch.old out.old image.new scratch.new out.new result × (result.count ≤ 282624) }
+    ensures { Printed (rule_by way) sheet.now image.old scratch.old out.old image.new scratch.new out.new result × (result.count ≤ 282624) }
 {
-    if way == 1 {
-        return sheet_sparse_print::print_sparse(sheet, image, scratch, out);
+    match way {
+        Way::Full => sheet_print::print(sheet, image, scratch, out),
+        Way::Sparse => sheet_sparse_print::print_sparse(sheet, image, scratch, out),
     }
-    sheet_print::print(sheet, image, scratch, out)
 }
 
-fn print_sheet(way: usize, sheet: &[u8], image: &mut [u16], scratch: &mut [u32], out: &mut [u8])
-    requires { 282625 ≤ length out.old }
-{
-    let n = print_by(way, sheet, image, scratch, out).count;
-    let end = base_text::put_byte(out, n, b'\n');
-    io::write_all(1, &out[..end]);
-}
+struct Sheets;
 
-fn print_sheets(list: &[u8]) {
-    let mut image = image_places();
-    let mut scratch = scratch_places();
-    let mut out = output_places();
-    let mut from: usize = 0;
-    while from < list.len() {
-        let h = base_list::read_long_header(list, from, 4096, 45056, 1);
-        if !h.ok {
-            io::write_all(1, b"list\n");
-            return;
+impl Case for Sheets {
+    ghost limits = { limits };
+
+    ghost is_answered = { is_answered };
+
+    ghost text_of = { case_text };
+
+    fn limits(&self) -> Limits {
+        Limits {
+            least: 3,
+            most: 4,
+            second: 4096,
+            third: 45056,
+            fourth: 1,
         }
-        let begin = h.begin;
-        let end = h.end;
-        let places = h.second;
-        let room = h.third;
-        print_sheet(
-            h.fourth,
-            &list[begin..end],
-            &mut image[..room],
-            &mut scratch[..places],
-            &mut out,
-        );
-        from = end;
+    }
+
+    fn answer(&self, header: Header, bytes: &[u8], out: &mut [u8]) -> Option<usize> {
+        let way = Way::try_from(header.fourth).ok()?;
+        let mut image: [u16; 45056] = base_streams::filled(0);
+        let mut scratch: [u32; 4096] = base_streams::filled(0);
+        let room = header.third;
+        let places = header.second;
+        Some(print_by(way, bytes, &mut image[..room], &mut scratch[..places], out).count)
     }
 }
 
-fn main() {
-    let mut list = list_places();
-    let n = io::read_full(0, &mut list);
-    if n <= 1048576 {
-        print_sheets(&list[..n]);
-    } else {
-        io::write_all(1, b"list\n");
-    }
+fn main(rt: HostRuntime) -> io::Result<()> {
+    list_program::run(&Sheets, &mut rt.stdin(), &mut rt.stdout())
 }

@@ -1,6 +1,6 @@
 -- What is read of an image line, and what the lent words then are.
 use Rattle.std.specs.Prelude.{◌≡◌, Bool, true, false, cond, ◌&&◌, List, ℕ, ◌+◌, ◌*◌, ◌^◌, leb, ltb, length}
-use Rattle.base_spec.specs.declared.Number.{Number}
+use Rattle.base_spec.specs.Number.{Number}
 use Rattle.base_spec.specs.Numbers.{magnitude_of}
 use Rattle.base_spec.specs.Parts.{fields}
 use Rattle.sheet_spec.specs.Translate.{over}

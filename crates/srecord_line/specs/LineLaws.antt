@@ -9,9 +9,8 @@ use Rattle.std.proofs.Math.Dec.{eqb}
 use Rattle.std.proofs.Math.ListN.{length}
 use Rattle.std.proofs.lemmas.List.{length-map}
 use Rattle.base_facts.specs.Tests.{and-true, cond_true, and-false, eqb_eq, eqb_is, leb-true, leb_not}
-use Rattle.base_spec.specs.declared.Number.{Number}
-use Rattle.base_spec.specs.declared.Number.TheVariants as number
-use Rattle.base_spec.specs.Number.{number_of}
+use Rattle.base_spec.specs.Number as number
+use Rattle.base_spec.specs.Number.{Number, number_of}
 use Rattle.base_spec.specs.Numbers.{magnitude_of}
 use Rattle.base_spec.specs.Parts.{fields}
 use Rattle.base_text.specs.Parts.{part_end}

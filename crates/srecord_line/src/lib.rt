@@ -2,12 +2,13 @@
 #![tactic(auto)]
 
 ghost use Rattle.std.specs.Prelude.{◌≡◌, true, map, ◌+◌, ◌≤◌, length};
+ghost use Rattle.base_spec.specs.Number.{number_in};
 ghost use Rattle.base_text.specs.PartLaws.{parts_from};
 ghost use Rattle.sheet_spec.specs.Translate.{over};
 ghost use Rattle.srecord_line.specs.Line.{address_or, four_or, word_or, Counts, no_line, body_of, body_left, line_of, words_left};
 ghost use Rattle.srecord_line.specs.LineForm.{are_capital_words, capital_word};
 
-use base_spec::Number;
+use base_spec::Literal;
 
 // The start and how many words there are; or that it is no image line, or has more words than are lent.
 #[derive(Clone, Copy)]
@@ -43,21 +44,18 @@ fn read_word(f: &[u8]) -> usize
 }
 
 // The address that a field says; 2^32 where it says none.
-fn address_in(n: Number) -> u64
-    ensures { result ≡ address_or n }
+fn address_in(n: Option<Literal>) -> u64
+    ensures { result ≡ address_or (number_in n) }
 {
     match n {
-        Number::Is {
-            negative,
-            magnitude,
-        } => {
-            if !negative & (magnitude < 0x1_0000_0000) {
-                magnitude
+        Some(literal) => {
+            if !literal.negative & (literal.magnitude < 0x1_0000_0000) {
+                literal.magnitude
             } else {
                 0x1_0000_0000
             }
         }
-        Number::No => 0x1_0000_0000,
+        None => 0x1_0000_0000,
     }
 }
 

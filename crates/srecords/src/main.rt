@@ -3,114 +3,113 @@
 // ends with the line `list`, which is all for one of more than 1 MiB.
 #![tactic(auto)]
 
-ghost use Rattle.std.specs.Prelude.{◌≡◌, ◌≤◌, length, replicate, leb};
-ghost use Rattle.base_list.specs.Answers.{Answered};
-ghost use Rattle.srecords.specs.Answer.{is_answered, answer_text, loaded_into, image_after};
+ghost use Rattle.std.specs.Prelude.{◌≡◌, ◌≤◌, length, leb};
+ghost use Rattle.list_program.specs.Cases.{Answered};
+ghost use Rattle.srecords.specs.Answer.{way_of, limits, is_answered, answer_text, is_answered_case, case_text, loaded_into, image_after};
 ghost use Rattle.srecord_line.specs.Line.{is_read, words_left};
 ghost use Rattle.srecord_line.specs.LineForm.{image_line_start, image_line_words};
 ghost use Rattle.srecord_spec.specs.Printed.{written_text, loaded_text};
 
-use base_list::Answer;
+use base_list::{Header, Limits};
+use list_program::Case;
+use std::io;
 
-// 1 MiB, and a place to see that there is more.
-fn list_places() -> [u8; 1048577]
-    ensures { (result ≡ replicate 1048577 0) × (1048577 ≡ length result) }
-{
-    [0; 1048577]
+// What is done with the bytes of a case.
+#[derive(Clone, Copy)]
+enum Way {
+    Write,
+    Read,
 }
 
-// More words than an image line of 1 MiB has.
-fn image_places() -> [u16; 209715]
-    ensures { (result ≡ replicate 209715 0) × (209715 ≡ length result) }
-{
-    [0; 209715]
-}
+// A number that is no way.
+#[derive(Clone, Copy)]
+struct UnknownWay(usize);
 
-// The most bytes that are lent.
-fn output_places() -> [u8; 262144]
-    ensures { (result ≡ replicate 262144 0) × (262144 ≡ length result) }
-{
-    [0; 262144]
+impl TryFrom<usize> for Way {
+    type Error = UnknownWay;
+
+    ghost try_from_gives = { λ n r. r ≡ way_of n };
+
+    fn try_from(number: usize) -> Result<Self, UnknownWay> {
+        match number {
+            0 => Ok(Way::Write),
+            1 => Ok(Way::Read),
+            _ => Err(UnknownWay(number)),
+        }
+    }
 }
 
 // An image line, written into the first `room` bytes.
-fn written(line: &[u8], room: usize, image: &mut [u16], out: &mut [u8]) -> Answer
+fn written(line: &[u8], room: usize, image: &mut [u16], out: &mut [u8]) -> Option<usize>
     requires { (92 ≤ length out.old) × (room ≤ length out.old) }
     ensures answered { Answered (is_read line.now (length image.old)) (written_text (image_line_start line.now) (image_line_words line.now) room) out.old out.new result }
     ensures image_after { image.new ≡ words_left line.now image.old }
 {
     let l = srecord_line::read_image_line(line, image);
     if !l.ok {
-        return base_list::no_answer();
+        return None;
     }
     let count = l.count;
-    Answer {
-        ok: true,
-        count: srecord_print::print_written(l.start, &image[..count], room, out),
-    }
+    Some(srecord_print::print_written(l.start, &image[..count], room, out))
 }
 
 // A text of S-records, read into the first `room` words, 45,056 at most.
-fn loaded(text: &[u8], room: usize, image: &mut [u16], out: &mut [u8]) -> Answer
+fn loaded(text: &[u8], room: usize, image: &mut [u16], out: &mut [u8]) -> Option<usize>
     requires { (225372 ≤ length out.old) × (45056 ≤ length image.old) }
     ensures answered { Answered (leb room 45056) (loaded_text text.now room) out.old out.new result }
     ensures image_after { image.new ≡ loaded_into text.now room image.old }
 {
     if 45056 < room {
-        return base_list::no_answer();
+        return None;
     }
-    Answer {
-        ok: true,
-        count: srecord_print::print_loaded(text, &mut image[..room], out),
-    }
+    Some(srecord_print::print_loaded(text, &mut image[..room], out))
 }
 
 // The answer to the bytes of a case, by its way.
-fn answer_by(way: usize, bytes: &[u8], room: usize, image: &mut [u16], out: &mut [u8]) -> Answer
+fn answer_by(
+    number: usize,
+    bytes: &[u8],
+    room: usize,
+    image: &mut [u16],
+    out: &mut [u8],
+) -> Option<usize>
     requires { (225372 ≤ length out.old) × (room ≤ length out.old) × (45056 ≤ length image.old) }
-    ensures answered { Answered (is_answered way bytes.now room (length image.old)) (answer_text way bytes.now room) out.old out.new result }
-    ensures image_after { image.new ≡ image_after way bytes.now room image.old }
+    ensures answered { Answered (is_answered number bytes.now room (length image.old)) (answer_text number bytes.now room) out.old out.new result }
+    ensures image_after { image.new ≡ image_after number bytes.now room image.old }
 {
-    if way == 0 {
-        return written(bytes, room, image, out);
+    match Way::try_from(number) {
+        Ok(Way::Write) => written(bytes, room, image, out),
+        Ok(Way::Read) => loaded(bytes, room, image, out),
+        Err(_) => None,
     }
-    if way == 1 {
-        return loaded(bytes, room, image, out);
-    }
-    base_list::no_answer()
 }
 
-// The answer and an empty line.
-fn print_answer(answer: &[u8]) {
-    io::write_all(1, answer);
-    io::write_all(1, b"\n");
-}
+struct Records;
 
-fn print_answers(list: &[u8]) {
-    let mut image = image_places();
-    let mut out = output_places();
-    let mut from: usize = 0;
-    while from < list.len() {
-        let h = base_list::read_header(list, from, 1, 262144);
-        let begin = h.begin;
-        let end = h.end;
-        let a = answer_by(h.second, &list[begin..end], h.third, &mut image, &mut out);
-        if !(h.ok & a.ok) {
-            io::write_all(1, b"list\n");
-            return;
+impl Case for Records {
+    ghost limits = { limits };
+
+    ghost is_answered = { is_answered_case };
+
+    ghost text_of = { case_text };
+
+    fn limits(&self) -> Limits {
+        Limits {
+            least: 3,
+            most: 3,
+            second: 1,
+            third: 262144,
+            fourth: 0,
         }
-        let count = a.count;
-        print_answer(&out[..count]);
-        from = end;
+    }
+
+    // 209,715 words are more than an image line of 1 MiB has.
+    fn answer(&self, header: Header, bytes: &[u8], out: &mut [u8]) -> Option<usize> {
+        let mut image: [u16; 209715] = base_streams::filled(0);
+        answer_by(header.second, bytes, header.third, &mut image, out)
     }
 }
 
-fn main() {
-    let mut list = list_places();
-    let n = io::read_full(0, &mut list);
-    if n <= 1048576 {
-        print_answers(&list[..n]);
-    } else {
-        io::write_all(1, b"list\n");
-    }
+fn main(rt: HostRuntime) -> io::Result<()> {
+    list_program::run(&Records, &mut rt.stdin(), &mut rt.stdout())
 }

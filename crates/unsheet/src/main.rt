@@ -1,58 +1,35 @@
 // Prints the sheet of the image of the S-records on standard input, or a refusal.
 #![tactic(auto)]
 
-ghost use Rattle.std.specs.Prelude.{◌≡◌, ◌≤◌, length, replicate};
-ghost use Rattle.srecord_spec.specs.Promises.{PrintedInto};
+ghost use Rattle.std.specs.Prelude.{◌≡◌, OnOk, IfSome};
+ghost use Rattle.std.specs.Io.KnownBytes.{Appends};
 ghost use Rattle.unsheet_spec.specs.Printed.{records_sheet, unsheet_printed};
 
-// 1 MiB, and a place to see that there is more.
-fn text_places() -> [u8; 1048577]
-    ensures { (result ≡ replicate 1048577 0) × (1048577 ≡ length result) }
+use std::io;
+use std::io::{Read, Write};
+
+// Of a text of S-records, with 45,056 words and the most bytes that a sheet has lent.
+fn print_records<W: Write>(text: &[u8], output: &mut W) -> io::Result<()>
+    ensures { OnOk result (Appends (W.contents output.old) (W.contents output.new) (records_sheet text.now 45056 65536)) }
 {
-    [0; 1048577]
+    let mut image: [u16; 45056] = base_streams::filled(0);
+    let mut out: [u8; 65536] = base_streams::filled(0);
+    let n = unsheet_print::print_records(text, &mut image, 65536, &mut out);
+    output.write_all(&out[..n])
 }
 
-fn image_places() -> [u16; 45056]
-    ensures { (result ≡ replicate 45056 0) × (45056 ≡ length result) }
+// Of what is read; more than 1 MiB is refused.
+#[tactic(auto, unfolding(unsheet_spec::specs::Printed::unsheet_printed))]
+fn print_sheet<R: Read, W: Write>(input: &mut R, output: &mut W) -> io::Result<()>
+    ensures { OnOk result (IfSome (R.remaining input.old) (λ text. Appends (W.contents output.old) (W.contents output.new) (unsheet_printed text))) }
 {
-    [0; 45056]
-}
-
-// The most bytes that a sheet has.
-fn output_places() -> [u8; 65536]
-    ensures { (result ≡ replicate 65536 0) × (65536 ≡ length result) }
-{
-    [0; 65536]
-}
-
-// What is printed for a text of S-records, with 45,056 words and 65,536 bytes lent.
-fn unsheeted(text: &[u8], out: &mut [u8]) -> usize
-    requires { 65536 ≤ length out.old }
-    ensures { PrintedInto (records_sheet text.now 45056 65536) out.old out.new result × (result ≤ length out.old) }
-{
-    let mut image = image_places();
-    unsheet_print::print_records(text, &mut image, 65536, out)
-}
-
-// What is printed for an input, of which at most a byte more than 1 MiB is looked at.
-fn printed(text: &[u8], out: &mut [u8]) -> usize
-    requires { 65536 ≤ length out.old }
-    ensures { PrintedInto (unsheet_printed text.now) out.old out.new result × (result ≤ length out.old) }
-{
-    if 1048576 < text.len() {
-        return print_parts::put_refusal(out, 10, 0, 0, 0);
+    let mut places: [u8; 1048577] = base_streams::filled(0);
+    match base_streams::read_whole(input, &mut places)? {
+        Some(text) => print_records(text, output),
+        None => output.write_all(&print_parts::too_long()),
     }
-    unsheeted(text, out)
 }
 
-fn print_sheet(text: &[u8]) {
-    let mut out = output_places();
-    let n = printed(text, &mut out);
-    io::write_all(1, &out[..n]);
-}
-
-fn main() {
-    let mut text = text_places();
-    let n = io::read_full(0, &mut text);
-    print_sheet(&text[..n]);
+fn main(rt: HostRuntime) -> io::Result<()> {
+    print_sheet(&mut rt.stdin(), &mut rt.stdout())
 }

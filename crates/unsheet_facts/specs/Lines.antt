@@ -1,8 +1,7 @@
 -- The lines that an image reads as: the line at a place and those after it, and how far apart lines stand.
 use Rattle.std.specs.Prelude.{ℕ, zero, suc, pred, ◌+◌, ◌/◌, ◌≤◌, ◌<◌, ◌≡◌, refl, List, [], ◌∷◌, length, drop}
 use Rattle.std.proofs.Common.{sym, ap, ◌∙◌, subst, arith, length-drop, drop-drop}
-use Rattle.read_spec.specs.declared.Reading.{Reading}
-use Rattle.read_spec.specs.declared.Reading.TheVariants.{Read, Short, Nothing}
+use Rattle.read_spec.specs.Reading.{Reading, Read, Short, Nothing}
 use Rattle.read_spec.specs.Read.{read_of}
 use Rattle.read_facts.specs.Length.{read_words}
 use Rattle.unsheet_spec.specs.Lines.{ReadLine, address_at, reading_then, lines_from}

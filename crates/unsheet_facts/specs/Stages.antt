@@ -2,8 +2,7 @@
 use Rattle.std.specs.Prelude.{ℕ, ◌%◌, ◌^◌, ◌≡◌, refl, Bool, true, ◌&&◌, List, eqb, leb, pos, length}
 use Rattle.std.proofs.Math.Option.{Option}
 use Rattle.std.proofs.Common.{arith}
-use Rattle.read_spec.specs.declared.Reading.{Reading}
-use Rattle.read_spec.specs.declared.Reading.TheVariants.{Read, Short, Nothing}
+use Rattle.read_spec.specs.Reading.{Reading, Read, Short, Nothing}
 use Rattle.sheet_spec.specs.Sheet.{end_of}
 use Rattle.sheet_spec.specs.Follow.{next_of}
 use Rattle.sheet_spec.specs.Translate.{Outcome, in_order, refused, require}

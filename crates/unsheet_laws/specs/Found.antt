@@ -4,8 +4,7 @@ use Rattle.std.proofs.Common.{subst, inl, inr, eq-eqb, eqb-true, le-leb, leb-tru
 use Rattle.std.proofs.Math.Option.{Option}
 use Rattle.base_facts.specs.Tests.{and-true, true_and}
 use Rattle.isa.specs.declared.Instruction.{Instruction}
-use Rattle.read_spec.specs.declared.Reading.{Reading}
-use Rattle.read_spec.specs.declared.Reading.TheVariants.{Read, Short, Nothing}
+use Rattle.read_spec.specs.Reading.{Reading, Read, Short, Nothing}
 use Rattle.sheet_spec.specs.Made.{is_some}
 use Rattle.sheet_spec.specs.Sheet.{end_of}
 use Rattle.sheet_spec.specs.Follow.{Next, on, to, either, stop, next_of}

@@ -11,8 +11,7 @@ use Rattle.isa.specs.declared.Measured.{Measured}
 use Rattle.isa.specs.declared.Encoded.{Encoded}
 use Rattle.encode_spec.specs.Item.{Verdict, fine}
 use Rattle.encode_spec.specs.Encode.{words_of, encoded_as, encode_of, measured_as}
-use Rattle.read_spec.specs.declared.Reading.{Reading}
-use Rattle.read_spec.specs.declared.Reading.TheVariants.{Read, Short, Nothing}
+use Rattle.read_spec.specs.Reading.{Reading, Read, Short, Nothing}
 use Rattle.read_spec.specs.Accepted.{Words}
 use Rattle.read_spec.specs.Read.{read_of}
 use Rattle.read_operand_laws.specs.TreeLaws.{rest_words}

@@ -12,8 +12,7 @@ use Rattle.base_spec.specs.Written.{decimal_of}
 use Rattle.base_facts.specs.Lists.{outside}
 use Rattle.base_facts.specs.Tests.{Lt, less, past, lt?, true_and}
 use Rattle.isa.specs.declared.Instruction.{Instruction}
-use Rattle.read_spec.specs.declared.Reading.{Reading}
-use Rattle.read_spec.specs.declared.Reading.TheVariants.{Read, Nothing}
+use Rattle.read_spec.specs.Reading.{Reading, Read, Nothing}
 use Rattle.read_spec.specs.Accepted.{Words}
 use Rattle.sheet_spec.specs.Names.{bytes}
 use Rattle.sheet_spec.specs.Line.{Parsed, says, no, line_of}

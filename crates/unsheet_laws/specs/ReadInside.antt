@@ -5,8 +5,8 @@ use Rattle.isa.specs.declared.Size.{Size}
 use Rattle.isa.specs.declared.Size.TheVariants.{Byte, Word, Long}
 use Rattle.isa.specs.declared.BranchSize.{BranchSize}
 use Rattle.isa.specs.declared.BranchSize.TheVariants as branch
-use Rattle.isa.specs.declared.RegisterChoice.{RegisterChoice}
-use Rattle.isa.specs.declared.RegisterChoice.TheVariants.{None, Some}
+use Rattle.std.specs.declared.option.Option.{Option}
+use Rattle.std.specs.declared.option.Option.TheVariants.{None, Some}
 use Rattle.isa.specs.declared.RegisterOperand.TheVariants.{Address, Data}
 use Rattle.isa.specs.declared.Operand.{Operand}
 use Rattle.isa.specs.declared.Operand.TheVariants.{Immediate, Register, Indirect, PostIndirect, PreIndirect, IndirectDisplacement, IndirectIndex, PcDisplacement, PcIndex, Extended, Absolute}
@@ -62,7 +62,7 @@ use Rattle.base_facts.specs.Tests.{cond_lt, and-true}
 use Rattle.isa_spec.specs.Ordinary.{Ordinary}
 use Rattle.read_spec.specs.declared.Specifier.{Specifier}
 use Rattle.read_spec.specs.declared.Specifier.TheVariants as specifier
-use Rattle.read_spec.specs.declared.Reading.TheVariants.{Read}
+use Rattle.read_spec.specs.Reading.{Read}
 use Rattle.read_spec.specs.Accepted.{Words}
 use Rattle.read_spec.specs.Map.{group_at}
 use Rattle.read_spec.specs.Layout.{tail_tree}
@@ -337,7 +337,7 @@ module _ (a line x opmode ea v : ℕ) (o d : Operand) (hl : line < 16) (hx : x <
   multiply : Holds (mull_decoded v o)
   multiply =
       let low = v / 4096 % 8 in
-      let c : RegisterChoice = high_at v in
+      let c : Option ℕ = high_at v in
       let s = sign_at (v / 2048 % 2) in
       record {
         numbers = inside_both (operand_form o ++ byte_form low ++ register_choice_form c) (sign_form s)

@@ -13,7 +13,8 @@ use Rattle.base_text.specs.WroteLaws.{wrote_none, wrote_then}
 use Rattle.isa.specs.declared.Instruction.{Instruction}
 use Rattle.numeric_spec.specs.Entry.{Entry, unsigned, signed, entry_number}
 use Rattle.numeric_spec.specs.Form.{place_of, payload_of, form_of}
-use Rattle.numeric_places.specs.Places.{is_negative, numbers_from}
+use Rattle.base_spec.specs.declared.Literal.{Literal}
+use Rattle.numeric_form.specs.Numbers.{is_negative, literal_of, zero_literal, numbers_from}
 use Rattle.sheet_spec.specs.declared.Kind.{Kind}
 use Rattle.sheet_spec.specs.declared.Kind.TheVariants as kind
 use Rattle.sheet_spec.specs.Names.{bytes, names_of}
@@ -124,13 +125,9 @@ module _ (es : List Entry) (n : ℕ) (h : n < 24) where
   abbrev entry_at : ℤ
   entry_at = entry_number (get_or es n (unsigned 0 0))
 
-  sign_at : get_or (numbers_from es).negative n false ≡ is_negative entry_at
+  literal_at : get_or (numbers_from es).places n zero_literal ≡ literal_of entry_at
   unfolding numbers_from
-  sign_at = get_d_pad 24 false (map (λ e. is_negative (entry_number e)) es) n h ∙ get_or-map (λ e. is_negative (entry_number e)) es n (unsigned 0 0)
-
-  number_at : get_or (numbers_from es).magnitude n 0 ≡ nat_abs entry_at
-  unfolding numbers_from
-  number_at = get_d_pad 24 0 (map (λ e. nat_abs (entry_number e)) es) n h ∙ get_or-map (λ e. nat_abs (entry_number e)) es n (unsigned 0 0)
+  literal_at = get_d_pad 24 zero_literal (map (λ e. literal_of (entry_number e)) es) n h ∙ get_or-map (λ e. literal_of (entry_number e)) es n (unsigned 0 0)
 
 pub count_is : (es : List Entry) → (numbers_from es).count ≡ length es
 unfolding numbers_from
@@ -173,26 +170,28 @@ module _ {lands : ℕ → Option ℕ} {es : List Entry} {whole buf out : List �
     next_fits m = ahead.next_fits s.ahead s.packs some s.fits m
 
     -- the next field and its end
-    module _ (h : n < length es) (few : n < 24) (k : Kind) (q : k ≡ kind_at (kinds % 32)) (negative : Bool) (m later : ℕ) (sign : negative ≡ get_or (numbers_from es).negative n false)
-        (number : m ≡ get_or (numbers_from es).magnitude n 0) (l : later ≡ kinds_after kinds m) where
-      pub spelling_on : {mid end : List ℕ} {p r : ℕ} → Wrote out next (field_spelled lands k negative m) mid p → Wrote mid p (ending (eqb later 0 || eqb (n + 1) (length es))) end r → r ≤ length buf
+    module _ (h : n < length es) (few : n < 24) (k : Kind) (q : k ≡ kind_at (kinds % 32)) (number : Literal) (later : ℕ) (number_is : number ≡ get_or (numbers_from es).places n zero_literal)
+        (l : later ≡ kinds_after kinds number.magnitude) where
+      pub spelling_on : {mid end : List ℕ} {p r : ℕ} → Wrote out next (field_spelled lands k number.negative number.magnitude) mid p → Wrote mid p (ending (eqb later 0 || eqb (n + 1) (length es))) end r → r ≤ length buf
           → p ≤ length buf → Spelling lands es whole buf at end r later (n + 1)
       spelling_on {mid} {end} {p} {r} w v room₁ room₂ =
           split s.ahead s.packs some (λ ks a.
           let e : Entry = get_or es n (unsigned 0 0) in
           let b : s.ahead ≡ k ∷ ks = a ∙ ap (λ (x : Kind). x ∷ ks) (sym q) in
           let d : drop n es ≡ e ∷ drop (n + 1) es = rw (add-one, drop-cons es n (unsigned 0 0)) in
-          let number_is : m ≡ nat_abs (entry_number e) = number ∙ number_at es n few in
-          let sign-is : negative ≡ is_negative (entry_number e) = sign ∙ sign_at es n few in
-          let packs : later ≡ packed (kinds_past k e ks) = l ∙ ap (λ (x : ℕ). kinds_after x m) (s.packs ∙ ap packed b) ∙ next_packed k ks m ∙ ap (λ (x : ℕ). packed (kinds_of k x ++ ks)) number_is in
+          let m : ℕ = number.magnitude in
+          let entry_is : number ≡ literal_of (entry_number e) = number_is ∙ literal_at es n few in
+          let magnitude-is : m ≡ nat_abs (entry_number e) = ap (λ (x : Literal). x.magnitude) entry_is in
+          let sign-is : number.negative ≡ is_negative (entry_number e) = ap (λ (x : Literal). x.negative) entry_is in
+          let packs : later ≡ packed (kinds_past k e ks) = l ∙ ap (λ (x : ℕ). kinds_after x m) (s.packs ∙ ap packed b) ∙ next_packed k ks m ∙ ap (λ (x : ℕ). packed (kinds_of k x ++ ks)) magnitude-is in
           let last : eqb later 0 || eqb (n + 1) (length es) ≡ is_last (kinds_past k e ks) (drop (n + 1) es) = ap (λ (x : ℕ). eqb x 0 || eqb (n + 1) (length es)) packs ∙ none_left (kinds_past k e ks) (n + 1) (length es) (drop (n + 1) es) (rw length-drop (omega arith)) in
           let fits : total room (k ∷ ks) ≤ 10 = rw b at s.fits in
           record {
-            written = s.written ++ field_spelled lands k negative m ++ ending (eqb later 0 || eqb (n + 1) (length es));
+            written = s.written ++ field_spelled lands k number.negative number.magnitude ++ ending (eqb later 0 || eqb (n + 1) (length es));
             ahead = kinds_past k e ks;
             wrote = wrote_then (wrote_then s.wrote w room₂) v room₁;
             packs = packs;
             fits = omega (arith, room_next k ks (nat_abs (entry_number e)));
             suits = later_suits (rw (b, d) at s.suits);
-            rest = s.rest ∙ rw (b, d, sign-is, number_is, last) (simp append_assoc);
+            rest = s.rest ∙ rw (b, d, sign-is, magnitude-is, last) (simp append_assoc);
           })

@@ -1,5 +1,5 @@
 -- In a field of a target an instruction has no signed number. Assumes nothing.
-use Rattle.std.specs.Prelude.{List, [], ◌∷◌, ◌++◌, nat_abs}
+use Rattle.std.specs.Prelude.{ℕ, List, [], ◌∷◌, ◌++◌, nat_abs}
 use Rattle.std.proofs.Common.{append_assoc, append-nil}
 use Rattle.isa.specs.declared.RegisterOperand.{RegisterOperand}
 use Rattle.isa.specs.declared.RegisterOperand.TheVariants.{Address, Data}
@@ -8,8 +8,8 @@ use Rattle.isa.specs.declared.FieldValue.{FieldValue}
 use Rattle.isa.specs.declared.FieldValue.TheVariants as value
 use Rattle.isa.specs.declared.TrapOperand.{TrapOperand}
 use Rattle.isa.specs.declared.TrapOperand.TheVariants as trap
-use Rattle.isa.specs.declared.RegisterChoice.{RegisterChoice}
-use Rattle.isa.specs.declared.RegisterChoice.TheVariants as choice
+use Rattle.std.specs.declared.option.Option.{Option}
+use Rattle.std.specs.declared.option.Option.TheVariants as choice
 use Rattle.isa.specs.declared.Operand.{Operand}
 use Rattle.isa.specs.declared.Operand.TheVariants.{Immediate, Register, Indirect, PostIndirect, PreIndirect, IndirectDisplacement, IndirectIndex, PcDisplacement, PcIndex, Extended, Absolute}
 use Rattle.isa.specs.declared.RegisterOperation.TheVariants.{ADDA, SUBA, CMPA, MOVEA, CMP, CHK2, CMP2}
@@ -80,7 +80,7 @@ module _ {ks : List Kind} {es : List Entry} where
   trapped (trap.Word n) h = field tt (field tt h)
   trapped (trap.Long n) h = field tt (field tt h)
 
-  chosen : (x : RegisterChoice) → Targets ks es → Targets (kind.RegisterChoice ∷ ks) (register_choice_form x ++ es)
+  chosen : (x : Option ℕ) → Targets ks es → Targets (kind.RegisterChoice ∷ ks) (register_choice_form x ++ es)
   chosen choice.None h = field tt h
   chosen (choice.Some n) h = field tt (field tt h)
 

@@ -9,6 +9,7 @@ ghost use Rattle.unsheet_spec.specs.Text.{tokens_of};
 ghost use Rattle.unsheet_line.specs.Table.{as_line, number_at, lands_in};
 ghost use Rattle.unsheet_line.specs.Field.{target_text, field_spelled, ending};
 
+use base_spec::Literal;
 use isa::Instruction;
 use sheet_spec::Kind;
 
@@ -31,15 +32,15 @@ pub fn line_at(lines: &[u16], start: u32, target: u64) -> u16
 }
 
 // A number with its sign.
-fn put_number(out: &mut [u8], at: usize, negative: bool, magnitude: u64) -> usize
+fn put_number(out: &mut [u8], at: usize, number: Literal) -> usize
     requires { at + 21 ≤ length out.old }
-    ensures { Wrote out.old at (number_text (literal negative magnitude)) out.new result × (result ≤ at + 21) }
+    ensures { Wrote out.old at (number_text (literal number.negative number.magnitude)) out.new result × (result ≤ at + 21) }
 {
-    if negative {
+    if number.negative {
         let next = base_text::put_byte(out, at, b'-');
-        return base_text::put_decimal(out, next, magnitude);
+        return base_text::put_decimal(out, next, number.magnitude);
     }
-    base_text::put_decimal(out, at, magnitude)
+    base_text::put_decimal(out, at, number.magnitude)
 }
 
 // `@` and the number of a line, or a target that lands on none.
@@ -59,16 +60,16 @@ fn put_field(
     out: &mut [u8],
     at: usize,
     kind: Kind,
-    negative: bool,
-    magnitude: u64,
+    number: Literal,
     lines: &[u16],
     start: u32,
 ) -> usize
     requires { at + 21 ≤ length out.old }
-    ensures { Wrote out.old at (field_spelled (lands_in start lines.now) kind negative magnitude) out.new result × (result ≤ at + 21) }
+    ensures { Wrote out.old at (field_spelled (lands_in start lines.now) kind number.negative number.magnitude) out.new result × (result ≤ at + 21) }
 {
+    let magnitude = number.magnitude;
     match kind {
-        Kind::Number => put_number(out, at, negative, magnitude),
+        Kind::Number => put_number(out, at, number),
         Kind::Target => put_target(out, at, line_at(lines, start, magnitude), magnitude),
         Kind::Place => put_target(out, at, line_at(lines, start, magnitude), magnitude),
         _ => unsheet_names::put_name(out, at, kind, magnitude),
@@ -97,7 +98,7 @@ pub fn put_line(
     requires { at + 374 ≤ length out.old }
     ensures { Wrote out.old at (spell (tokens_of (lands_in start lines.now) instruction) ++ (10 ∷ [])) out.new result × (result ≤ at + 374) }
 {
-    let numbers = numeric_numbers::numbers(instruction);
+    let numbers = numeric_form::numbers(instruction);
     let count = numbers.count;
     let mut kinds = sheet_kinds::INSTRUCTION;
     let mut next = at;
@@ -107,17 +108,9 @@ pub fn put_line(
             return next;
         }
         let kind = sheet_kinds::first(kinds);
-        let magnitude = numbers.magnitude[i];
-        next = put_field(
-            out,
-            next,
-            kind,
-            numbers.negative[i],
-            magnitude,
-            lines,
-            start,
-        );
-        kinds = sheet_kinds::next(kinds, magnitude);
+        let number = numbers.places[i];
+        next = put_field(out, next, kind, number, lines, start);
+        kinds = sheet_kinds::next(kinds, number.magnitude);
         i += 1;
         next = put_end(out, next, (kinds == 0) | (i == count));
     }

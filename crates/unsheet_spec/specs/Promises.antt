@@ -1,7 +1,7 @@
 -- What contracts and theorems promise of the sheet of an image.
 use Rattle.std.specs.Prelude.{ℕ, ◌+◌, ◌/◌, ◌%◌, ◌^◌, ◌≤◌, ◌≡◌, ◌⊎◌, List, [], ◌∷◌, length, drop}
 use Rattle.isa.specs.declared.Instruction.{Instruction}
-use Rattle.read_spec.specs.declared.Reading.TheVariants.{Read}
+use Rattle.read_spec.specs.Reading.{Read}
 use Rattle.read_spec.specs.Read.{read_of}
 use Rattle.sheet_spec.specs.Sheet.{start_in, sheet_in, line_count, end_of, image}
 use Rattle.sheet_spec.specs.Follow.{to, either, next_of}

@@ -4,8 +4,7 @@ use Rattle.std.proofs.Math.Option.{Option, none, some}
 use Rattle.isa.specs.declared.Instruction.{Instruction}
 use Rattle.numeric_spec.specs.Entry.{Entry, unsigned, signed}
 use Rattle.numeric_spec.specs.Form.{form_of}
-use Rattle.read_spec.specs.declared.Reading.{Reading}
-use Rattle.read_spec.specs.declared.Reading.TheVariants.{Read, Short, Nothing}
+use Rattle.read_spec.specs.Reading.{Reading, Read, Short, Nothing}
 use Rattle.sheet_spec.specs.declared.Kind.{Kind}
 use Rattle.sheet_spec.specs.declared.Kind.TheVariants as kind
 use Rattle.sheet_spec.specs.Line.{Token, literal, label, by_kind}

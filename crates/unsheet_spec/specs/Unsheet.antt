@@ -1,8 +1,7 @@
 -- What `unsheet` answers, and what it leaves in the lent bytes (02, N6).
 use Rattle.std.specs.Prelude.{ℕ, ◌%◌, ◌^◌, Bool, true, cond, ◌&&◌, List, eqb, leb, pos, length}
 use Rattle.std.proofs.Math.Option.{Option}
-use Rattle.read_spec.specs.declared.Reading.{Reading}
-use Rattle.read_spec.specs.declared.Reading.TheVariants.{Read, Short, Nothing}
+use Rattle.read_spec.specs.Reading.{Reading, Read, Short, Nothing}
 use Rattle.sheet_spec.specs.Made.{is_some}
 use Rattle.sheet_spec.specs.Sheet.{end_of}
 use Rattle.sheet_spec.specs.Follow.{Next, on, to, either, stop, next_of}

@@ -3,8 +3,7 @@ use Rattle.std.specs.Prelude.{ℕ, suc, ◌+◌, ◌≤◌, ◌<◌, ◌≡◌, 
 use Rattle.std.proofs.Common.{ap, ◌∙◌, arith, length-append, le-leb}
 use Rattle.std.proofs.Math.Option.{Option}
 use Rattle.std.proofs.lemmas.Bool.{lt-leb}
-use Rattle.read_spec.specs.declared.Reading.{Reading}
-use Rattle.read_spec.specs.declared.Reading.TheVariants.{Read, Short, Nothing}
+use Rattle.read_spec.specs.Reading.{Reading, Read, Short, Nothing}
 use Rattle.sheet_spec.specs.Promises.{start_text}
 use Rattle.sheet_spec.specs.Translate.{Outcome, in_order, refused, and_then, in_turn}
 use Rattle.base_facts.specs.Tests.{Lt, less, past, lt?, and-false}

@@ -1,8 +1,7 @@
 -- What the passes over an image give, line by line.
 use Rattle.std.specs.Prelude.{ℕ, suc, ◌+◌, ◌/◌, Bool, true, cond, ◌&&◌, List, [], ◌∷◌, ◌++◌, leb, ltb, length, set}
 use Rattle.std.proofs.Math.Option.{Option}
-use Rattle.read_spec.specs.declared.Reading.{Reading}
-use Rattle.read_spec.specs.declared.Reading.TheVariants.{Read, Short, Nothing}
+use Rattle.read_spec.specs.Reading.{Reading, Read, Short, Nothing}
 use Rattle.sheet_spec.specs.Follow.{next_of}
 use Rattle.unsheet_spec.specs.Lines.{ReadLine}
 use Rattle.unsheet_spec.specs.Text.{spelled_line}

@@ -5,8 +5,7 @@ use Rattle.std.proofs.Math.Option
 use Rattle.std.proofs.Math.Option.{Option, none, some}
 use Rattle.std.proofs.Math.Decide.{dec_le}
 use Rattle.std.proofs.lemmas.Bool.{lt-leb}
-use Rattle.read_spec.specs.declared.Reading.{Reading}
-use Rattle.read_spec.specs.declared.Reading.TheVariants.{Read, Short, Nothing}
+use Rattle.read_spec.specs.Reading.{Reading, Read, Short, Nothing}
 use Rattle.base_facts.specs.Tests.{Eq, same, other, eq?}
 use Rattle.unsheet_spec.specs.Lines.{ReadLine, address_at, line_standing_at, landing}
 use Rattle.unsheet_facts.specs.Lines.{Spaced}

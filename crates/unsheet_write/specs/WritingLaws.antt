@@ -2,7 +2,7 @@
 use Rattle.std.specs.Prelude.{ℕ, ◌+◌, ◌≤◌, ◌<◌, ◌≡◌, refl, Bool, cond, List, [], ◌∷◌, ◌++◌, length, drop}
 use Rattle.std.proofs.Common.{sym, ap, ◌∙◌, subst, append-nil, append_assoc, arith, lt-ltb, le-ltb}
 use Rattle.std.proofs.Math.Option.{Option}
-use Rattle.read_spec.specs.declared.Reading.{Reading}
+use Rattle.read_spec.specs.Reading.{Reading}
 use Rattle.read_spec.specs.Read.{read_of}
 use Rattle.base_text.specs.Wrote.{Wrote}
 use Rattle.base_text.specs.WroteLaws.{wrote_none, wrote_then}

@@ -4,6 +4,7 @@
 ghost use Rattle.std.specs.Prelude.{◌≡◌, [], ◌∷◌, ◌++◌, ◌+◌, ◌*◌, ◌^◌, ◌≤◌, ◌<◌, pos, length, drop, replicate};
 ghost use Rattle.base_text.specs.Wrote.{Wrote};
 ghost use Rattle.read_spec.specs.Read.{read_of};
+ghost use Rattle.read_spec.specs.Reading.{as_reading};
 ghost use Rattle.sheet_spec.specs.Sheet.{end_of};
 ghost use Rattle.sheet_spec.specs.Made.{is_some};
 ghost use Rattle.sheet_spec.specs.Follow.{next_of};
@@ -18,13 +19,13 @@ ghost use Rattle.unsheet_write.specs.Survey.{taken_by, surveyed, stored, numbere
 ghost use Rattle.unsheet_write.specs.Chain.{Gives};
 
 use isa::Instruction;
-use read_spec::Reading;
+use read_spec::{Read, Unread};
 use unsheet_spec::Unsheeted;
 
 // What is read at a place of the image.
-fn read_at(start: u32, image: &[u16], place: usize) -> Reading
+fn read_at(start: u32, image: &[u16], place: usize) -> Result<Read, Unread>
     requires { (end_of start (length image.now) ≤ 2 ^ 32) × (place < length image.now) }
-    ensures { result ≡ read_of (drop place image.now) (address_at start place) }
+    ensures { as_reading result ≡ read_of (drop place image.now) (address_at start place) }
 {
     m68k_read::read(&image[place..], start + 2 * (place as u32))
 }
@@ -36,19 +37,19 @@ struct Taken {
     pub number: u8,
 }
 
-fn taken_by(reading: Reading) -> Taken
-    ensures { result ≡ taken_by reading }
+fn taken_by(reading: Result<Read, Unread>) -> Taken
+    ensures { result ≡ taken_by (as_reading reading) }
 {
     match reading {
-        Reading::Read(_, n) => Taken {
-            words: (n / 2) as usize,
+        Ok(read) => Taken {
+            words: (read.bytes / 2) as usize,
             number: 0,
         },
-        Reading::Short => Taken {
+        Err(Unread::Short) => Taken {
             words: 0,
             number: 5,
         },
-        Reading::Nothing => Taken {
+        Err(Unread::Nothing) => Taken {
             words: 0,
             number: 6,
         },
@@ -119,13 +120,13 @@ fn instruction_lands(i: Instruction, lines: &[u16], start: u32) -> bool
     }
 }
 
-fn lands(reading: Reading, lines: &[u16], start: u32) -> bool
-    ensures { result ≡ lands_by (lands_in start lines.now) reading }
+fn lands(reading: Result<Read, Unread>, lines: &[u16], start: u32) -> bool
+    ensures { result ≡ lands_by (lands_in start lines.now) (as_reading reading) }
 {
     match reading {
-        Reading::Read(i, _) => instruction_lands(i, lines, start),
-        Reading::Short => true,
-        Reading::Nothing => true,
+        Ok(read) => instruction_lands(read.instruction, lines, start),
+        Err(Unread::Short) => true,
+        Err(Unread::Nothing) => true,
     }
 }
 
@@ -160,14 +161,20 @@ fn put_start(out: &mut [u8], start: u32) -> usize
 }
 
 // The line of a reading.
-fn put_reading(out: &mut [u8], at: usize, reading: Reading, lines: &[u16], start: u32) -> usize
+fn put_reading(
+    out: &mut [u8],
+    at: usize,
+    reading: Result<Read, Unread>,
+    lines: &[u16],
+    start: u32,
+) -> usize
     requires { at + 374 ≤ length out.old }
-    ensures { Wrote out.old at (spelled_line (lands_in start lines.now) reading) out.new result × (result ≤ at + 374) }
+    ensures { Wrote out.old at (spelled_line (lands_in start lines.now) (as_reading reading)) out.new result × (result ≤ at + 374) }
 {
     match reading {
-        Reading::Read(i, _) => unsheet_line::put_line(out, at, i, lines, start),
-        Reading::Short => at,
-        Reading::Nothing => at,
+        Ok(read) => unsheet_line::put_line(out, at, read.instruction, lines, start),
+        Err(Unread::Short) => at,
+        Err(Unread::Nothing) => at,
     }
 }
 

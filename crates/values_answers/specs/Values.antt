@@ -4,8 +4,7 @@ use Rattle.isa.specs.declared.Size.{Size}
 use Rattle.isa.specs.declared.Size.TheVariants.{Byte, Word, Long}
 use Rattle.isa.specs.declared.RegisterOperand.{RegisterOperand}
 use Rattle.isa.specs.declared.RegisterOperand.TheVariants.{Address, Data}
-use Rattle.isa.specs.declared.RegisterChoice.{RegisterChoice}
-use Rattle.isa.specs.declared.RegisterChoice.TheVariants as register
+use Rattle.std.specs.declared.option.Option.{Option}
 use Rattle.isa.specs.declared.IndexRegister.{IndexRegister}
 use Rattle.isa.specs.declared.Indirection.{Indirection}
 use Rattle.isa.specs.declared.Indirection.TheVariants.{None, Preindexed, Postindexed}
@@ -13,12 +12,9 @@ use Rattle.isa_spec.specs.Code.{size_code, bit, condition_code}
 use Rattle.isa_spec.specs.Condition.{condition_of}
 use Rattle.isa_spec.specs.ExtensionWord.{is_full, base_suppressed, index_suppressed, size_of_code, base_size, indirection_of, outer_size, is_canonical}
 use Rattle.encode_spec.specs.Bits.{bit_field_code, writes}
-use Rattle.isa_values.specs.declared.extension_word.IndexChoice.{IndexChoice}
-use Rattle.isa_values.specs.declared.extension_word.IndexChoice.TheVariants as choice
+use Rattle.std.specs.declared.option.Option.TheVariants as choice
 use Rattle.isa_values.specs.declared.processor.Processor.{Processor}
 use Rattle.isa_values.specs.declared.processor.Processor.TheVariants.{M68000, M68010, M68020}
-use Rattle.isa_values.specs.declared.processor.ProcessorChoice.{ProcessorChoice}
-use Rattle.isa_values.specs.declared.processor.ProcessorChoice.TheVariants as processor
 use Rattle.isa_values.specs.BitFieldOperation.{has_register, bit_field_of}
 use Rattle.isa_values.specs.ControlRegister.{processor_of}
 use Rattle.isa_values.specs.DisplacementSize.{displacement_bytes, displacement_code}
@@ -29,14 +25,14 @@ use Rattle.isa_values.specs.RegisterOperand.{index_of}
 use Rattle.isa_values.specs.Size.{byte_count, bit_count}
 
 -- 0 where there is none
-abbrev pub choice_number : RegisterChoice → ℕ
-choice_number register.None = 0
-choice_number (register.Some n) = 1 + n
+abbrev pub choice_number : Option ℕ → ℕ
+choice_number choice.None = 0
+choice_number (choice.Some n) = 1 + n
 
 abbrev pub index_number : IndexRegister → ℕ
 index_number x = index_of x.register * 4 + size_code x.size
 
-abbrev pub index_choice_number : IndexChoice → ℕ
+abbrev pub index_choice_number : Option IndexRegister → ℕ
 index_choice_number choice.None = 0
 index_choice_number (choice.Some x) = 1 + index_number x
 
@@ -45,9 +41,9 @@ processor_place M68000 = 1
 processor_place M68010 = 2
 processor_place M68020 = 3
 
-abbrev pub processor_number : ProcessorChoice → ℕ
-processor_number processor.None = 0
-processor_number (processor.Some p) = processor_place p
+abbrev pub processor_number : Option Processor → ℕ
+processor_number choice.None = 0
+processor_number (choice.Some p) = processor_place p
 
 abbrev pub indirection_number : Indirection → ℕ
 indirection_number None = 0

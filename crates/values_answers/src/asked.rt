@@ -6,38 +6,36 @@ ghost use Rattle.isa_spec.specs.Condition.{condition_of};
 ghost use Rattle.values_answers.specs.Values.{choice_number, index_number, index_choice_number, processor_place, processor_number, indirection_number, size_by, indirection_by, register_by, index_by, flag_by, word_values, size_values, displacement_values, bit_field_values, base_values, constant_values};
 ghost use Rattle.values_answers.specs.Asked.{brief_asked, full_asked};
 
-use isa::{IndexRegister, Indirection, RegisterChoice, RegisterOperand, Size};
+use isa::{IndexRegister, Indirection, RegisterOperand, Size};
 use isa_values::code::{bit, standard_size};
-use isa_values::extension_word::{ExtensionWord, IndexChoice};
+use isa_values::extension_word::ExtensionWord;
 use isa_values::index_base::IndexBase;
-use isa_values::processor::{Processor, ProcessorChoice};
+use isa_values::processor::Processor;
 use isa_values::register_operand::to_index;
 use isa_values::{
     bit_field_operation, condition, control_register, displacement_size, extension_word,
     index_base, size,
 };
 
-const SIZES: [Size; 3] = [Size::Byte, Size::Word, Size::Long];
-
-const INDIRECTIONS: [Indirection; 3] = [
-    Indirection::None,
-    Indirection::Preindexed,
-    Indirection::Postindexed,
-];
-
 // ---- from numbers
 fn size_by(k: u64) -> Size
     ensures { result ≡ size_by k }
 {
-    let i = (k % 3) as usize;
-    SIZES[i]
+    match k % 3 {
+        0 => Size::Byte,
+        1 => Size::Word,
+        _ => Size::Long,
+    }
 }
 
 fn indirection_by(k: u64) -> Indirection
     ensures { result ≡ indirection_by k }
 {
-    let i = (k % 3) as usize;
-    INDIRECTIONS[i]
+    match k % 3 {
+        0 => Indirection::None,
+        1 => Indirection::Preindexed,
+        _ => Indirection::Postindexed,
+    }
 }
 
 fn register_by(k: u64, n: u64) -> RegisterOperand
@@ -67,59 +65,49 @@ fn flag_by(k: u64) -> bool
 }
 
 // ---- to numbers
-fn choice_number(choice: RegisterChoice) -> u16
+fn choice_number(choice: Option<u8>) -> u16
     ensures { result ≡ choice_number choice }
 {
     match choice {
-        RegisterChoice::None => 0,
-        RegisterChoice::Some(n) => 1 + n as u16,
+        None => 0,
+        Some(n) => 1 + u16::from(n),
     }
 }
 
 fn index_number(x: IndexRegister) -> u16
     ensures { (result ≡ index_number x) × (result < 1056) }
 {
-    let register = x.register;
-    let size = x.size;
-    to_index(register) * 4 + standard_size(size)
+    to_index(x.register) * 4 + standard_size(x.size)
 }
 
-fn index_choice_number(choice: IndexChoice) -> u16
+fn index_choice_number(choice: Option<IndexRegister>) -> u16
     ensures { result ≡ index_choice_number choice }
 {
     match choice {
-        IndexChoice::None => 0,
-        IndexChoice::Some(x) => 1 + index_number(x),
+        None => 0,
+        Some(x) => 1 + index_number(x),
     }
 }
 
 fn processor_place(processor: Processor) -> u16
     ensures { (result ≡ processor_place processor) × (result < 4) }
 {
-    match processor {
-        Processor::M68000 => 1,
-        Processor::M68010 => 2,
-        Processor::M68020 => 3,
-    }
+    1 + processor as u16
 }
 
-fn processor_number(choice: ProcessorChoice) -> u16
+fn processor_number(choice: Option<Processor>) -> u16
     ensures { result ≡ processor_number choice }
 {
     match choice {
-        ProcessorChoice::None => 0,
-        ProcessorChoice::Some(processor) => processor_place(processor),
+        None => 0,
+        Some(processor) => processor_place(processor),
     }
 }
 
 fn indirection_number(indirection: Indirection) -> u16
     ensures { result ≡ indirection_number indirection }
 {
-    match indirection {
-        Indirection::None => 0,
-        Indirection::Preindexed => 1,
-        Indirection::Postindexed => 2,
-    }
+    indirection as u16
 }
 
 // ---- what the functions give

@@ -1,6 +1,7 @@
 // The answer to a line that asks for what the functions on values give, written into a lent buffer.
 #![tactic(auto)]
 
+ghost use Rattle.std.proofs.Common.{rules};
 ghost use Rattle.std.specs.Prelude.{◌≡◌, ◌+◌, ◌*◌, ◌≤◌, length, ◌++◌};
 ghost use Rattle.base_spec.specs.Written.{placed, decimal_of};
 ghost use Rattle.base_spec.specs.Refused.{tab};
@@ -10,6 +11,7 @@ ghost use Rattle.values_answers.specs.Asked.{listed_values, values_text, asked_t
 
 use base_spec::Step;
 use base_text::LineNumbers;
+use line_program::Answer;
 
 pub mod asked; // the values that numbers ask for, and what the functions on them give
 
@@ -74,7 +76,7 @@ fn is_asked(n: LineNumbers) -> bool
     n.ok & (n.count == 10) & !below
 }
 
-// The answer to a line, from place `at` on; the next place.
+/// The answer to a line, from place `at` on; the next place.
 pub fn answer(line: &[u8], out: &mut [u8], at: usize) -> usize
     requires { at + 360 ≤ length out.old }
     ensures { (result ≡ at + length (values_answer_of line.now)) × (out.new ≡ placed out.old at (values_answer_of line.now)) × (result ≤ at + 360) }
@@ -88,19 +90,26 @@ pub fn answer(line: &[u8], out: &mut [u8], at: usize) -> usize
     }
 }
 
-// The answers to the lines from a place on, while the buffer has room.
+/// What the functions on values give.
+pub struct AskingValues;
+
+impl Answer for AskingValues {
+    ghost answer_of = { values_answer_of };
+
+    ghost ROOM = { 360 };
+
+    const ROOM: usize = 360;
+
+    fn answer(&self, line: &[u8], out: &mut [u8], at: usize) -> usize {
+        answer(line, out, at)
+    }
+
+    ghost room = { Prim.search rules };
+}
+
+/// The answers to the lines from a place on, while the buffer has room.
 pub fn answers(text: &[u8], from: usize, out: &mut [u8]) -> Step
     ensures { (result ≡ step_of values_answer_of 360 text.now from (length out.old)) × (out.new ≡ placed out.old 0 (answered_of values_answer_of 360 text.now from (length out.old))) }
 {
-    let mut next = from;
-    let mut at: usize = 0;
-    while next < text.len() {
-        if out.len() - at < 360 {
-            return Step { next, count: at };
-        }
-        let e = base_text::line_end(text, next);
-        at = answer(&text[next..e], out, at);
-        next = e + 1;
-    }
-    Step { next, count: at }
+    line_program::answers(&AskingValues, text, from, out)
 }

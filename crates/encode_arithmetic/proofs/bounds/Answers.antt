@@ -3,4 +3,6 @@ use Rattle.encode_arithmetic.proofs.bounds.Goals as goal
 
 pub returns : goal.returns
 unfolding bounds_parts
-returns c = rw (c.effective.ensures, c.word-e3.ensures, c.bit.ensures.0, c.general.ensures.0, c.register-e2.ensures, c.number_of_register.ensures, c.operation-e1.ensures, c.ea_field.ensures.0, c.standard_size.ensures.0)
+returns c =
+    let e = rw (c.operation-e.ensures, c.number_of_register.ensures, c.ea_field.ensures.0, c.standard_size.ensures.0) at c.in_ok-e.ensures in
+    rw (c.effective.ensures, c.word-e.ensures, c.bit.ensures.0, c.general.ensures.0, ← e)

@@ -4,7 +4,7 @@ use borrow.Author.Rules.{rules}
 use mir.Facts.{to_z-of_z}
 use mir.Syntax.{w32}
 use mathlib.Core.Bool.{Bool, true, false, cond}
-use mathlib.Core.Path.{◌≡◌, refl, sym, ◌∙◌}
+use mathlib.Core.Path.{◌≡◌, refl, sym}
 use lib.ListN.{get_or}
 use Rattle.isa.specs.declared.Size.TheVariants as size
 use Rattle.isa.specs.declared.AddressWidth.TheVariants as width
@@ -15,8 +15,8 @@ use Rattle.isa_spec.specs.IndexBase.{is_pc}
 use Rattle.isa_spec.specs.Mode.{only}
 use Rattle.encode_spec.specs.Ea.{permits, ea_items}
 use Rattle.encode_state.specs.Encoder.{next_address}
-use Rattle.encode_state.specs.Laws.{refused_there, run-refused}
 use Rattle.encode_movement.proofs.movep_operand.Goals as goal
+use Rattle.encode_state.specs.Laws.{run-refused}
 
 not_extended_lem : (b : Bool) → get_or (only 5) (cond b 10 6) false ≡ false
 not_extended_lem true = refl
@@ -43,7 +43,7 @@ pub returns-in_default : goal.returns-in_default
 returns-in_default c =
     let a = c.args in
     rw (other a.target c.in_default.not-IndirectDisplacement)
-    (c.no_encoding.ensures ∙ sym (run-refused (ea_items a.target size.Word (next_address a.e)) _ (refused_there 5 a.e)))
+    (sym (run-refused (ea_items a.target size.Word (next_address a.e)) _))
 
 pub returns : goal.returns
 unfolding permits

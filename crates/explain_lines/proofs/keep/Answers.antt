@@ -1,17 +1,6 @@
-use native.Mathlib.Omega.{arith}
-use lib.ListN.{length-drop, length-set}
-use Rattle.explain_lines.proofs.Laws.{move_next}
+use Rattle.std.proofs.Common.{refl, ◌∙◌, arith}
+use Rattle.explain_lines.proofs.Laws.{moved}
 use Rattle.explain_lines.proofs.keep.Goals as goal
 
-pub loop-i-preserved : goal.loop-i-preserved
-loop-i-preserved c =
-    let l = c.loop-i in
-    let a = c.args in
-    let d = a.text.now in
-    let n = length-drop a.from d in (
-      omega arith,
-      l.invariant.1,
-      l.invariant.2,
-      simp length-set l.invariant.3,
-      rw l.invariant.4 (move_next d a.from l.i (omega arith) (omega (arith, n))),
-    )
+pub returns : goal.returns
+returns c = (refl, c.copy_within.ensures.after ∙ moved c.args.text.now c.args.from c.args.to (omega arith) (omega arith))

@@ -3,6 +3,7 @@ use native.Mathlib.Omega.{arith}
 use Rattle.m68k_facts.specs.Laws.{encode_most, places_law}
 use Rattle.m68k_round_trip.specs.RoundTrip.{back, reads_back, take_count}
 use Rattle.m68k_round_trip.proofs.InTypes.{instruction_in_types}
+use Rattle.read_spec.specs.Reading.{as_reading}
 use Rattle.m68k_round_trip.proofs.read_back.Goals as goal
 
 pub slice_bounds-words-end : goal.slice_bounds-words-end
@@ -20,4 +21,4 @@ slice_bounds-read-end c =
 pub returns : goal.returns
 returns c =
     let e = c.read.ensures ∙ back c.args.instruction c.args.address c.encode-e.result c.encode-e.ensures in
-    (e, reads_back c.args.instruction c.args.address c.read.result (instruction_in_types c.args.instruction _ c.well_formed.0) e)
+    (e, reads_back c.args.instruction c.args.address (as_reading c.read.result) (instruction_in_types c.args.instruction _ c.well_formed.0) e)

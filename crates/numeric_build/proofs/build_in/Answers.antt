@@ -1,18 +1,18 @@
-use mathlib.Core.Path.{◌∙◌}
-use Rattle.numeric_fields.specs.Number.{numbers_in}
-use Rattle.numeric_build.specs.Taken.{build_is}
-use Rattle.numeric_build.proofs.Lines.{built_yes, built_no}
+use Rattle.std.specs.Prelude.{◌≡◌}
+use Rattle.std.proofs.Common.{sym, ap, ◌∙◌, arith}
+use Rattle.numeric_build.specs.Literals.{build_is, build_past, build_many}
 use Rattle.numeric_build.proofs.build_in.Goals as goal
+use Rattle.numeric_build.proofs.build_in.Goals.{else-from-count-via-then-from-count+else-count-le24, else-from-count-via-else-from-count}
 
-pub returns-then-l : goal.returns-then-l
-returns-then-l c =
+pub returns-then-count-le24 : goal.returns-then-count-le24
+returns-then-count-le24 c =
     let a = c.args in
-    let ns = numbers_in a.count a.negative.now a.magnitude.now in
-    built_yes ns a.from c.line_at-l.result c.line_at-l.ensures.0 c.instruction_of-instruction.result c.instruction_of-instruction.ensures c.if-l.true
-    ∙ build_is ns c.requires a.from
+    rw (c.built.ensures, c.build.ensures, c.literals-literals.ensures) (build_is a.count a.negative.now a.magnitude.now a.from c.if-from-count.true c.if-count-le24.true)
 
-pub returns : goal.returns
-returns c =
+pub returns-else-from-count : goal.returns-else-from-count
+returns-else-from-count c =
     let a = c.args in
-    let ns = numbers_in a.count a.negative.now a.magnitude.now in
-    built_no ns a.from c.line_at-l.result c.line_at-l.ensures.0 c.if-l.false ∙ build_is ns c.requires a.from
+    elim c.else-from-count.branch [
+      | else-from-count-via-then-from-count+else-count-le24 w ↦ build_many a.count a.negative.now a.magnitude.now a.from w.if-count-le24.false
+      | else-from-count-via-else-from-count w ↦ build_past a.count a.negative.now a.magnitude.now a.from w.if-from-count.false
+    ]

@@ -1,6 +1,7 @@
 use mathlib.Core.Path.{sym}
 use native.Mathlib.Omega.{arith}
 use Rattle.read_instruction.specs.ReadAt.{read_none, read_some}
+use Rattle.read_spec.specs.Reading.{as_reading}
 use Rattle.read_instruction.proofs.read.Goals as goal
 
 pub returns-then-words-eq0 : goal.returns-then-words-eq0
@@ -11,4 +12,4 @@ returns-then-words-eq0 c =
 pub returns : goal.returns
 returns c =
     let a = c.args in
-    read_some a.address a.words.now c.read_word.result (omega (arith, c.if-words-eq0.false)) c.read_word.ensures
+    read_some a.address a.words.now (as_reading c.read_word.result) (omega (arith, c.if-words-eq0.false)) c.read_word.ensures

@@ -1,14 +1,14 @@
 use Rattle.srecord_line.specs.Line.{address_or}
 use Rattle.srecord_line.proofs.address_in.Goals as goal
 
-pub returns-then-negative-magnitude : goal.returns-then-negative-magnitude
+pub returns-then-literal : goal.returns-then-literal
 unfolding address_or
-returns-then-negative-magnitude c = rw (c.in-Is.is, c.if-negative-magnitude.true)
+returns-then-literal c = rw (c.in-Some.is, c.if-literal.true)
 
-pub returns-else-negative-magnitude : goal.returns-else-negative-magnitude
+pub returns-else-literal : goal.returns-else-literal
 unfolding address_or
-returns-else-negative-magnitude c = rw (c.in-Is.is, c.if-negative-magnitude.false)
+returns-else-literal c = rw (c.in-Some.is, c.if-literal.false)
 
-pub returns-in-No : goal.returns-in-No
+pub returns-in-None : goal.returns-in-None
 unfolding address_or
-returns-in-No c = rw c.in-No.is
+returns-in-None c = rw c.in-None.is

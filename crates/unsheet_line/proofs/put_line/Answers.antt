@@ -3,7 +3,8 @@ use mathlib.Core.Bool.{false}
 use native.Mathlib.Omega.{arith}
 use lib.ListN.{length, get_or}
 use Rattle.numeric_spec.specs.Form.{form_of}
-use Rattle.numeric_places.specs.declared.Numbers.{Numbers}
+use Rattle.base_spec.specs.declared.Literals.{Literals}
+use Rattle.numeric_form.specs.Numbers.{zero_literal}
 use Rattle.unsheet_line.specs.Table.{lands_in}
 use Rattle.unsheet_line.specs.FieldLaws.{count_is, spelling-start, spelling_past, spelling-none, next_fits, spelling_on}
 use Rattle.unsheet_line.proofs.put_line.Goals as goal
@@ -17,13 +18,13 @@ pub returns-then-kinds-eq0 : goal.returns-then-kinds-eq0
 returns-then-kinds-eq0 c =
     let l = c.loop-i in
     let x = c.args.instruction in
-    (spelling-none (l.invariant.3 x c.numbers-numbers.ensures.0) c.if-kinds-eq0.true, omega (arith, c.numbers-numbers.ensures.1))
+    (spelling-none (l.invariant.3 x c.numbers-numbers.ensures.value) c.if-kinds-eq0.true, omega (arith, c.numbers-numbers.ensures.few))
 
 pub next-kinds-requires : goal.next-kinds-requires
 next-kinds-requires c =
     let l = c.loop-i in
     let x = c.args.instruction in
-    next_fits (l.invariant.3 x c.numbers-numbers.ensures.0) c.if-kinds-eq0.false _
+    next_fits (l.invariant.3 x c.numbers-numbers.ensures.value) c.if-kinds-eq0.false _
 
 pub loop-i-preserved : goal.loop-i-preserved
 loop-i-preserved c =
@@ -35,8 +36,8 @@ loop-i-preserved c =
       omega arith,
       omega (arith, f.1, e.1),
       λ x q.
-          let n : ns.result.count ≡ length (form_of x) = ap (λ (m : Numbers). m.count) q ∙ count_is (form_of x) in
-          spelling_on (l.invariant.3 x q) c.if-kinds-eq0.false (omega arith) (omega (arith, ns.ensures.1)) c.first-kind.result c.first-kind.ensures (get_or ns.result.negative l.i false) (get_or ns.result.magnitude l.i 0) c.next-kinds.result (ap (λ (m : Numbers). get_or m.negative l.i false) q) (ap (λ (m : Numbers). get_or m.magnitude l.i 0) q) c.next-kinds.ensures f.0 (rw n at e.0) (omega (arith, f.1, e.1, ns.ensures.1)) (omega (arith, f.1, ns.ensures.1)),
+          let n : ns.result.count ≡ length (form_of x) = ap (λ (m : Literals). m.count) q ∙ count_is (form_of x) in
+          spelling_on (l.invariant.3 x q) c.if-kinds-eq0.false (omega arith) (omega (arith, ns.ensures.few)) c.first-kind.result c.first-kind.ensures (get_or ns.result.places l.i zero_literal) c.next-kinds.result (ap (λ (m : Literals). get_or m.places l.i zero_literal) q) c.next-kinds.ensures f.0 (rw n at e.0) (omega (arith, f.1, e.1, ns.ensures.few)) (omega (arith, f.1, ns.ensures.few)),
     )
 
 pub returns : goal.returns
@@ -44,5 +45,5 @@ returns c =
     let l = c.loop-i in
     let x = c.args.instruction in
     let e = c.numbers-numbers.ensures in
-    let n = ap (λ (ns : Numbers). ns.count) e.0 ∙ count_is (form_of x) in
-    (spelling_past (l.invariant.3 x e.0) (omega arith), omega (arith, e.1))
+    let n = ap (λ (ns : Literals). ns.count) e.value ∙ count_is (form_of x) in
+    (spelling_past (l.invariant.3 x e.value) (omega arith), omega (arith, e.few))

@@ -4,7 +4,7 @@ use mathlib.Core.List.{[], ◌∷◌, ◌++◌}
 use lib.ListN.{length}
 use Rattle.isa.specs.declared.Instruction.{Instruction}
 use Rattle.numeric_spec.specs.Form.{form_of}
-use Rattle.numeric_places.specs.Places.{numbers_from}
+use Rattle.numeric_form.specs.Numbers.{numbers_from}
 use Rattle.sheet_spec.specs.Spell.{spell}
 use Rattle.unsheet_spec.specs.Text.{tokens_of}
 use Rattle.unsheet_line.specs.Table.{lands_in}

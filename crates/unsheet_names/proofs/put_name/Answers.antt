@@ -1,39 +1,22 @@
-use mathlib.Core.Path.{sym}
-use mathlib.Core.List.{[], map}
-use native.Mathlib.Omega.{arith}
-use Rattle.base_facts.specs.Lists.{outside}
+use Rattle.std.proofs.Common.{sym, ap, ◌∙◌, [], get_or, length, arith, ltb-false}
 use Rattle.base_text.specs.WroteLaws.{wrote_none}
-use Rattle.sheet_spec.specs.Names.{bytes, names_of}
-use Rattle.unsheet_names.specs.TableLaws.{kind_between, kind_name}
+use Rattle.unsheet_names.proofs.Laws.{unnamed, name_is, name_short}
 use Rattle.unsheet_names.proofs.put_name.Goals as goal
 
-pub overflow_sub-count : goal.overflow_sub-count
-overflow_sub-count c =
-    let n = c.kind_code-code in
-    let f = c.first-row in
-    omega (arith, kind_between c.args.kind n.result f.result n.ensures.0 f.ensures c.first.result c.first.ensures)
+pub put-requires : goal.put-requires
+put-requires c =
+    let l = c.in-Some.ensures.lookup in
+    let e = name_is c.args.kind c.args.place c.names.result.now c.names.ensures c.in-Some.name.now l.0 l.1 c.as_bytes.result.now c.as_bytes.ensures.value in
+    omega (arith, c.requires, ap length e, name_short c.args.kind c.args.place)
 
-pub put_row-requires : goal.put_row-requires
-put_row-requires c =
-    let n = c.kind_code-code in
-    let f = c.first-row in
-    let p = c.first in
-    (omega (arith, kind_between c.args.kind n.result f.result n.ensures.0 f.ensures p.result p.ensures), c.requires)
+pub returns-in-Some : goal.returns-in-Some
+returns-in-Some c =
+    let l = c.in-Some.ensures.lookup in
+    let e = name_is c.args.kind c.args.place c.names.result.now c.names.ensures c.in-Some.name.now l.0 l.1 c.as_bytes.result.now c.as_bytes.ensures.value in
+    rw e (record { next = c.put.ensures.0; image = c.put.ensures.1 }, omega (arith, c.put.ensures.0, ap length e, name_short c.args.kind c.args.place))
 
-pub returns-then-place-count : goal.returns-then-place-count
-returns-then-place-count c =
-    let a = c.args in
-    let n = c.kind_code-code in
-    let f = c.first-row in
-    let p = c.first in
-    let b = kind_between a.kind n.result f.result n.ensures.0 f.ensures p.result p.ensures in
-    rw (kind_name a.kind n.result f.result n.ensures.0 f.ensures a.place (omega arith)) at c.put_row.ensures
-
-pub returns : goal.returns
-returns c =
-    let a = c.args in
-    let n = c.kind_code-code in
-    let f = c.first-row in
-    let p = c.first in
-    let b = kind_between a.kind n.result f.result n.ensures.0 f.ensures p.result p.ensures in
-    rw (sym (outside (map bytes (names_of a.kind)) a.place [] (omega arith))) (wrote_none a.out.now a.at, omega arith)
+pub returns-in-None : goal.returns-in-None
+returns-in-None c =
+    let t = c.names.result.now in
+    let e = ap (λ ns. get_or ns c.args.place []) (sym c.names.ensures) ∙ unnamed t c.args.place (ltb-false c.args.place (length t) (sym c.in-None.ensures.lookup.0)) in
+    rw e (wrote_none c.args.out.now c.args.at, omega arith)

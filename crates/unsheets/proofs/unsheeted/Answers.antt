@@ -2,7 +2,7 @@ use native.Mathlib.Omega.{arith}
 use borrow.Author.Tests.{not-true, not-false}
 use lib.ListN.{length-take}
 use Rattle.srecord_line.specs.LineRead.{lined, unlined}
-use Rattle.base_list.specs.Answers.{answered, unanswered}
+use Rattle.list_program.specs.AnsweredLaws.{answered, unanswered}
 use Rattle.unsheets.proofs.unsheeted.Goals as goal
 
 pub slice_bounds-print_unsheet-end : goal.slice_bounds-print_unsheet-end
@@ -22,7 +22,7 @@ pub returns-then-not-l-clause-answered : goal.returns-then-not-l-clause-answered
 returns-then-not-l-clause-answered c =
     let r = c.read_image_line-l in
     let a = c.args in
-    unanswered _ (unlined a.line.now a.image.now _ r.result r.ensures.0 r.ensures.1 (not-true _ c.if-not-l.true)) c.no_answer.ensures
+    unanswered _ (unlined a.line.now a.image.now _ r.result r.ensures.0 r.ensures.1 (not-true _ c.if-not-l.true))
 
 pub returns-clause-answered : goal.returns-clause-answered
 returns-clause-answered c =

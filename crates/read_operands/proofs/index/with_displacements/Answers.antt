@@ -1,21 +1,25 @@
 use borrow.Author.Rules.{rules}
 use mir.Syntax.{w32}
 use mir.Facts.{to_z-of_z}
-use Rattle.isa_spec.specs.ExtensionWord.{base_size}
-use Rattle.read_spec.specs.Operand.{displacement_tree}
+use Rattle.std.specs.Prelude.{Ok, ◌≡◌}
+use Rattle.std.proofs.Common.{◌∙◌}
+use Rattle.isa.specs.declared.Operand.TheVariants.{Extended}
+use Rattle.isa_spec.specs.ExtensionWord.{base_size, outer_size}
+use Rattle.encode_spec.specs.Ea.{from_pc}
+use Rattle.read_spec.specs.Operand.{displacement_tree, landed, outer_tree}
+use Rattle.read_spec.specs.Tree.{ret}
 use Rattle.read_places.specs.RunAt.{run_at}
-use Rattle.read_places.specs.RunAtLaws.{run_at_bind}
-use Rattle.read_operands.specs.ReadLaws.{displacement_found, displacement_ended, displacement_refused}
+use Rattle.read_operands.specs.Read.{read_of_at}
+use Rattle.read_operands.specs.ReadLaws.{read_then}
 use Rattle.read_operands.proofs.index.with_displacements.Goals as goal
 
-pub returns-in-Got : goal.returns-in-Got
-returns-in-Got c a =
-    rw (run_at_bind, displacement_found (run_at (displacement_tree (base_size c.args.w)) a c.args.words.now c.args.at) (rw c.base_displacement_size-size.ensures at (c.displacement-read.ensures a)) c.in-Got.is) (rw (to_z-of_z {w = w32} {z = c.in-Got.z} (search rules)) at (c.with_outer.ensures a))
-
-pub returns-in-Short : goal.returns-in-Short
-returns-in-Short c a =
-    rw (run_at_bind, displacement_ended (run_at (displacement_tree (base_size c.args.w)) a c.args.words.now c.args.at) (rw c.base_displacement_size-size.ensures at (c.displacement-read.ensures a)) c.in-Short.is)
-
-pub returns-in-Nothing : goal.returns-in-Nothing
-returns-in-Nothing c a =
-    rw (run_at_bind, displacement_refused (run_at (displacement_tree (base_size c.args.w)) a c.args.words.now c.args.at) (rw c.base_displacement_size-size.ensures at (c.displacement-read.ensures a)) c.in-Nothing.is)
+pub returns : goal.returns
+returns c a =
+    let i = c.args in
+    let z = c.in_ok-z in
+    let o = c.in_ok-outer in
+    let e : Ok (z.z, z.at_outer) ≡ read_of_at (run_at (displacement_tree (base_size i.w)) a i.words.now i.at) = rw (← c.base_displacement_size-size.ensures) (z.ensures a) in
+    let g : Ok (o.outer, o.next) ≡ read_of_at (run_at (displacement_tree (outer_size i.w)) a i.words.now z.at_outer) = rw (← c.outer_displacement_size-outer_size.ensures) (o.ensures a) in
+    rw (to_z-of_z {w = w32} {z = c.landed.result} (search rules), c.landed.ensures, c.from_pc.ensures, to_z-of_z {w = w32} {z = o.outer} (search rules), to_z-of_z {w = w32} {z = z.z} (search rules))
+    (read_then (displacement_tree (outer_size i.w)) (λ outer. ret (Extended i.base i.w (landed (from_pc i.base i.w) i.place z.z) outer)) a i.words.now z.at_outer o.outer o.next g
+    ∙ read_then (displacement_tree (base_size i.w)) (outer_tree i.base i.place i.w) a i.words.now i.at z.z z.at_outer e)

@@ -1,0 +1,5 @@
+pub mod Rows
+pub mod Table
+pub mod TableLaws
+pub mod State
+pub mod Answers

@@ -1,0 +1,70 @@
+// A program that answers each line of its input, from the bytes that it reads to the bytes that it writes.
+#![tactic(auto)]
+
+ghost use Rattle.std.specs.Prelude.{◌≡◌, ◌+◌, ◌≤◌, ℕ, List, length, drop, OnOk, IfSome};
+ghost use Rattle.std.specs.Io.KnownBytes.{Appends};
+ghost use Rattle.base_spec.specs.Written.{placed};
+ghost use Rattle.base_spec.specs.Lines.{answers_of, answered_of, step_of};
+ghost use Rattle.print_spec.specs.Programs.{answers_output_of};
+
+use base_spec::Step;
+use std::io;
+use std::io::{Read, Write};
+
+// What a line gets: at most ROOM bytes.
+pub trait Answer {
+    ghost answer_of: { List ℕ → List ℕ };
+
+    ghost ROOM: { ℕ };
+
+    const ROOM: usize;
+
+    // From place `at` on; the next place.
+    fn answer(&self, line: &[u8], out: &mut [u8], at: usize) -> usize
+        requires { at + ROOM ≤ length out.old }
+        ensures { (result ≡ at + length (answer_of line.now)) × (out.new ≡ placed out.old at (answer_of line.now)) × (result ≤ at + ROOM) };
+
+    ghost room: { ROOM ≤ 65536 };
+}
+
+// The answers to the lines from a place on, while the buffer has room.
+pub fn answers<A: Answer>(asked: &A, text: &[u8], from: usize, out: &mut [u8]) -> Step
+    ensures { (result ≡ step_of A.answer_of A.ROOM text.now from (length out.old)) × (out.new ≡ placed out.old 0 (answered_of A.answer_of A.ROOM text.now from (length out.old))) }
+{
+    let mut next = from;
+    let mut at: usize = 0;
+    while next < text.len() {
+        if out.len() - at < A::ROOM {
+            return Step { next, count: at };
+        }
+        let e = base_text::line_end(text, next);
+        at = asked.answer(&text[next..e], out, at);
+        next = e + 1;
+    }
+    Step { next, count: at }
+}
+
+// In few writes.
+fn print_answers<A: Answer, W: Write>(asked: &A, text: &[u8], output: &mut W) -> io::Result<()>
+    ensures { OnOk result (Appends (W.contents output.old) (W.contents output.new) (answers_of A.answer_of text.now)) }
+{
+    let mut out: [u8; 65536] = base_streams::filled(0);
+    let mut from: usize = 0;
+    while from < text.len() {
+        let step = answers(asked, text, from, &mut out);
+        output.write_all(&out[..step.count])?;
+        from = step.next;
+    }
+    Ok(())
+}
+
+// Prints the answer to each line that is read, or that the input is too long.
+pub fn run<A: Answer, R: Read, W: Write>(asked: &A, input: &mut R, output: &mut W) -> io::Result<()>
+    ensures { OnOk result (IfSome (R.remaining input.old) (λ text. Appends (W.contents output.old) (W.contents output.new) (answers_output_of A.answer_of text))) }
+{
+    let mut places: [u8; 1048577] = base_streams::filled(0);
+    match base_streams::read_whole(input, &mut places)? {
+        Some(text) => print_answers(asked, text, output),
+        None => output.write_all(&base_text::too_long()),
+    }
+}

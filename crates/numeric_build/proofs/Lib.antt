@@ -1,3 +1,0 @@
-mod Walk
-mod Lines
-pub mod Places

@@ -1,0 +1,64 @@
+//! The numeric form of a value: the numbers that it is written as, and the value that numbers say.
+#![tactic(auto)]
+
+ghost use Rattle.std.specs.Prelude.{◌≡◌, ◌≤◌, List};
+ghost use Rattle.numeric_spec.specs.Build.{built_of};
+ghost use Rattle.numeric_spec.specs.Entry.{Entry};
+ghost use Rattle.numeric_spec.specs.Form.{form_of};
+ghost use Rattle.numeric_spec.specs.Take.{Take};
+ghost use Rattle.numeric_facts.specs.Exact.{Exact};
+ghost use Rattle.numeric_form.specs.Numbers.{as_built, numbers_in, said, pushed_all, none, numbers_from};
+
+use base_spec::{Literal, Literals};
+use isa::Instruction;
+
+pub mod instruction; // instructions
+pub mod name; // enums without fields
+pub mod number; // numbers and flags
+pub mod operand; // operands
+pub mod pair; // one value after another
+pub mod part; // registers and other parts
+pub mod shape; // instructions by their shapes
+
+/// A type whose values are written as numbers.
+pub trait Form: Sized {
+    ghost form: { Self → List Entry };
+
+    ghost taken: { Take Self };
+
+    /// Writes the numbers of the value after those that are there.
+    fn push(self, numbers: &mut Literals)
+        ensures { numbers.new ≡ pushed_all numbers.old (form self) };
+
+    /// The value that stands first, and the numbers after it.
+    fn take(numbers: &[Literal]) -> Option<(Self, &[Literal])>
+        ensures { said (λ rest. numbers_in rest.now) result ≡ taken (numbers_in numbers.now) };
+
+    ghost exact: { Exact form taken };
+}
+
+/// The instruction whose numbers these are.
+#[tactic(auto, using(crate::proofs::Whole::built_whole, crate::proofs::Whole::built_more, crate::proofs::Whole::built_none))]
+pub fn build(numbers: &[Literal]) -> Option<Instruction>
+    ensures { as_built result ≡ built_of (numbers_in numbers.now) }
+{
+    let (instruction, rest) = Instruction::take(numbers)?;
+    rest.is_empty().then_some(instruction)
+}
+
+/// The numbers of an instruction, at most 17: `build` gives it back.
+#[tactic(auto, using(crate::specs::PushedLaws::form_pushed, crate::specs::PushedLaws::form_count), unfolding(crate::specs::Numbers::none))]
+pub fn numbers(instruction: Instruction) -> Literals
+    ensures value { result ≡ numbers_from (form_of instruction) }
+    ensures few { result.count ≤ 17 }
+{
+    let mut numbers = Literals {
+        places: [Literal {
+            negative: false,
+            magnitude: 0,
+        }; 24],
+        count: 0,
+    };
+    instruction.push(&mut numbers);
+    numbers
+}

@@ -1,6 +1,0 @@
-use Rattle.isa.specs.declared.Instruction.TheVariants.{DBcc}
-use Rattle.numeric_push.specs.PushedLaws.{form, then}
-use Rattle.numeric_push.proofs.without_operand.dbcc.Goals as goal
-
-pub returns : goal.returns
-returns c = form (DBcc _ _ _) c.begin-n.ensures (then _ _ _ (then _ _ _ c.push_register-n1.ensures c.push_long-n2.ensures) c.push_condition.ensures)

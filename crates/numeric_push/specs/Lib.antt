@@ -1,2 +1,0 @@
-pub mod Pushed
-pub mod PushedLaws

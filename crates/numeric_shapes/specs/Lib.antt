@@ -1,4 +1,0 @@
-pub mod Table
-pub mod Row
-pub mod Slot
-pub mod Made

@@ -1,7 +1,0 @@
-use mathlib.Core.Path.{refl, sym}
-use Prim.Native.Nat.{ℕ}
-use lib.ListN.{length-replicate}
-use Rattle.srecords.proofs.output_places.Goals as goal
-
-pub returns : goal.returns
-returns c = (refl, sym (length-replicate {A = ℕ} 262144 0))

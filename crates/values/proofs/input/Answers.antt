@@ -1,7 +1,0 @@
-use mathlib.Core.Path.{refl, sym}
-use Prim.Native.Nat.{ℕ}
-use lib.ListN.{length-replicate}
-use Rattle.values.proofs.input.Goals as goal
-
-pub returns : goal.returns
-returns c = (refl, sym (length-replicate {A = ℕ} 1048577 0))
