@@ -6,7 +6,7 @@ ghost use Rattle.isa_values.specs.BitFieldOperation.{has_register, bit_field_of}
 use isa::BitFieldOperation;
 
 /// The eight, in the order of their code.
-pub static ALL: [BitFieldOperation; 8] = [
+pub const ALL: [BitFieldOperation; 8] = [
     BitFieldOperation::Test,
     BitFieldOperation::ExtractUnsigned,
     BitFieldOperation::Change,
@@ -17,11 +17,14 @@ pub static ALL: [BitFieldOperation; 8] = [
     BitFieldOperation::Insert,
 ];
 
+// A const is laid out anew where it is indexed.
+static BY_CODE: [BitFieldOperation; 8] = ALL;
+
 /// The operation of the low three bits.
 pub fn from_code(code: u16) -> BitFieldOperation
     ensures { result ≡ bit_field_of code }
 {
-    ALL[usize::from(code % 8)]
+    BY_CODE[usize::from(code % 8)]
 }
 
 /// Whether it names a data register beside the field.

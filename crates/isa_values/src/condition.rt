@@ -6,7 +6,7 @@ ghost use Rattle.isa_spec.specs.Condition.{condition_of};
 use isa::Condition;
 
 /// Every condition, in the order of its code.
-pub static ALL: [Condition; 16] = [
+pub const ALL: [Condition; 16] = [
     Condition::True,
     Condition::False,
     Condition::High,
@@ -25,11 +25,14 @@ pub static ALL: [Condition; 16] = [
     Condition::LessThanOrEqual,
 ];
 
+// A const is laid out anew where it is indexed.
+static BY_CODE: [Condition; 16] = ALL;
+
 /// The condition of the low four bits.
 pub fn from_code(code: u16) -> Condition
     ensures { result ≡ condition_of code }
 {
-    ALL[usize::from(code % 16)]
+    BY_CODE[usize::from(code % 16)]
 }
 
 /// The code of a condition.

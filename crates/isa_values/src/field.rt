@@ -1,6 +1,6 @@
 // The fields that hold a number.
 ghost use Rattle.std.specs.Prelude.{◌≡◌, ◌<◌};
-ghost use Rattle.isa_values.specs.Pairs.{signed_pair, unsigned_pair};
+ghost use Rattle.isa_values.specs.Pairs.{signed_pair, unsigned_pair, pair_by_formula};
 ghost use Rattle.isa_spec.specs.Field.{field_number, immediate_size, lowest, highest, also_holds, excludes, holds};
 
 use crate::size::to_bits;
@@ -63,7 +63,8 @@ fn unsigned_pair(width: usize, first: u64) -> Range
 /// and d8(An,Xn), or else a word; an Immediate has the bits of its size; Count begins at 1.
 #[tactic(auto, unfolding(isa_spec::specs::Field::ranges))]
 pub fn range(field: Field) -> Range
-    ensures { (result.low ≡ lowest field) × (result.high ≡ highest field) }
+    ensures ends { (result.low ≡ lowest field) × (result.high ≡ highest field) }
+    ensures by_formula { result ≡ pair_by_formula field }
 {
     match field {
         Field::ShortBranch | Field::PcIndex | Field::IndexDisplacement => signed_pair(8),

@@ -15,6 +15,6 @@ returns c =
       to_z-of_z {w = w64} c.ranges.value,
       c.excludes.ensures,
       c.also_holds-also.ensures,
-      c.range-ends.ensures.0,
-      c.range-ends.ensures.1,
+      c.range-ends.ensures.ends.0,
+      c.range-ends.ensures.ends.1,
     ))
