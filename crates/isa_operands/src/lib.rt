@@ -76,7 +76,7 @@ pub fn movem_modes(direction: TargetDirection) -> u16
 
 /// The mode of a register.
 pub fn register_mode(r: RegisterOperand) -> Mode
-    ensures { mode_number result ≡ register_mode r }
+    ensures { (mode_number result ≡ register_mode r) × (mode_number result < 2) }
 {
     match r {
         RegisterOperand::Data(_) => Mode::DataRegister,
@@ -86,7 +86,7 @@ pub fn register_mode(r: RegisterOperand) -> Mode
 
 /// The mode of an absolute address.
 pub fn absolute_mode(width: AddressWidth) -> Mode
-    ensures { mode_number result ≡ absolute_mode width }
+    ensures { (mode_number result ≡ absolute_mode width) × (mode_number result < 12) }
 {
     match width {
         AddressWidth::Word => Mode::ShortAddress,
@@ -96,7 +96,7 @@ pub fn absolute_mode(width: AddressWidth) -> Mode
 
 /// The mode of an Extended operand.
 pub fn extended_mode(base: u8) -> Mode
-    ensures { mode_number result ≡ extended_mode base }
+    ensures { (mode_number result ≡ extended_mode base) × (mode_number result < 12) }
 {
     if IndexBase(base).is_pc() {
         Mode::PcIndex
@@ -107,7 +107,7 @@ pub fn extended_mode(base: u8) -> Mode
 
 /// The mode of an operand.
 pub fn mode_of(operand: Operand) -> Mode
-    ensures { mode_number result ≡ mode_of operand }
+    ensures { (mode_number result ≡ mode_of operand) × (mode_number result < 12) }
 {
     match operand {
         Operand::Register(r) => register_mode(r),
