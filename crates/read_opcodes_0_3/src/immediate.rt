@@ -16,14 +16,14 @@ use read_values::operation_word::OperationWord;
 use read_values::register::{data_operand, general_in};
 
 /// ORI, ANDI and EORI to CCR, and to SR.
-pub fn status(w: OperationWord, value: u32) -> Instruction
-    ensures { result ≡ status_decoded (x_in w.0) (opmode_in w.0) value }
+pub fn status(x: u8, opmode: u8, value: u32) -> Instruction
+    ensures { result ≡ status_decoded x opmode value }
 {
-    if w.opmode() == 0 {
-        let operation = condition_code_at(w.x());
+    if opmode == 0 {
+        let operation = condition_code_at(x);
         return Instruction::ConditionCode(operation, (value % 256) as u8);
     }
-    let operation = status_at(w.x());
+    let operation = status_at(x);
     Instruction::Status(operation, (value % 65536) as u16)
 }
 
@@ -32,7 +32,7 @@ pub fn immediate_into(w: OperationWord, tail: Tail) -> Instruction
     ensures { result ≡ immediate_decoded (x_in w.0) (opmode_in w.0) (ea_in w.0) tail.value tail.source }
 {
     if to_status(w) {
-        return status(w, tail.value);
+        return status(w.x(), w.opmode(), tail.value);
     }
     let operation = immediate_at(w.x());
     let size = size_at(w.opmode());
@@ -96,12 +96,12 @@ pub fn bounds(w: OperationWord, tail: Tail) -> Instruction
 }
 
 /// CAS2, by the words of its two comparisons.
-pub fn cas2(w: OperationWord, first: u32, second: u32) -> Instruction
-    ensures { result ≡ cas2_decoded (x_in w.0) first second }
+pub fn cas2(x: u8, first: u32, second: u32) -> Instruction
+    ensures { result ≡ cas2_decoded x first second }
 {
     let pointer1 = general_in(first);
     let pointer2 = general_in(second);
-    let size = size_at(w.x().saturating_sub(5));
+    let size = size_at(x.saturating_sub(5));
     Instruction::CAS2 {
         compare1: (first % 8) as u8,
         compare2: (second % 8) as u8,
@@ -118,7 +118,7 @@ pub fn cas(w: OperationWord, tail: Tail) -> Instruction
     ensures { result ≡ cas_decoded (x_in w.0) (ea_in w.0) tail.value tail.source }
 {
     if (w.ea() == 60) & (6 <= w.x()) {
-        return cas2(w, tail.value / 65536, tail.value % 65536);
+        return cas2(w.x(), tail.value / 65536, tail.value % 65536);
     }
     let size = size_at(w.x().saturating_sub(5));
     Instruction::CAS {

@@ -30,13 +30,13 @@ pub fn return_at(k: u8, value: u32) -> Instruction
 }
 
 /// MOVEC.
-pub fn movec(w: OperationWord, tail: Tail) -> Instruction
-    ensures { result ≡ movec_decoded (ea_in w.0) tail.value }
+pub fn movec(ea: u8, value: u32) -> Instruction
+    ensures { result ≡ movec_decoded ea value }
 {
-    let register = general_in(tail.value);
+    let register = general_in(value);
     Instruction::MOVEC {
-        to_control: w.ea() == 59,
-        control: (tail.value % 4096) as u16,
+        to_control: ea == 59,
+        control: (value % 4096) as u16,
         register,
     }
 }
@@ -64,6 +64,6 @@ pub fn system(w: OperationWord, tail: Tail) -> Instruction
             register,
         },
         6 => return return_at(w.ea() % 8, tail.value),
-        _ => return movec(w, tail),
+        _ => return movec(w.ea(), tail.value),
     }
 }

@@ -84,16 +84,16 @@ pub fn logic_pack(w: OperationWord, tail: Tail) -> Instruction
 }
 
 /// The registers of EXG.
-pub fn exchanged_of(w: OperationWord) -> Instruction
-    ensures { result ≡ exchanged (x_in w.0) (opmode_in w.0) (ea_in w.0) }
+pub fn exchanged_of(x: u8, opmode: u8, ea: u8) -> Instruction
+    ensures { result ≡ exchanged x opmode ea }
 {
-    if w.ea() < 8 {
-        let first = RegisterOperand::Data(w.x());
-        let second = RegisterOperand::Data(w.ea() % 8);
+    if ea < 8 {
+        let first = RegisterOperand::Data(x);
+        let second = RegisterOperand::Data(ea % 8);
         return Instruction::EXG(first, second);
     }
-    let first = exchanged_at(w);
-    let second = RegisterOperand::Address(w.ea() % 8);
+    let first = exchanged_at(x, opmode);
+    let second = RegisterOperand::Address(ea % 8);
     Instruction::EXG(first, second)
 }
 
@@ -102,7 +102,7 @@ pub fn logic_exchange(w: OperationWord, tail: Tail) -> Instruction
     ensures { result ≡ logic_exchange_decoded (x_in w.0) (opmode_in w.0) (ea_in w.0) tail.source }
 {
     if is_exchange(w) {
-        return exchanged_of(w);
+        return exchanged_of(w.x(), w.opmode(), w.ea());
     }
     from_data(
         PairOperation::AND,

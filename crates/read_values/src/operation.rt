@@ -361,13 +361,13 @@ pub fn word_at(line: u8) -> WordOperation
 }
 
 /// The first register of EXG where the second is an address register.
-pub fn exchanged_at(w: OperationWord) -> RegisterOperand
-    ensures { result ≡ exchanged_at (x_in w.0) (opmode_in w.0) }
+pub fn exchanged_at(x: u8, opmode: u8) -> RegisterOperand
+    ensures { result ≡ exchanged_at x opmode }
 {
-    if w.opmode() == 5 {
-        RegisterOperand::Address(w.x())
+    if opmode == 5 {
+        RegisterOperand::Address(x)
     } else {
-        RegisterOperand::Data(w.x())
+        RegisterOperand::Data(x)
     }
 }
 
