@@ -5,7 +5,7 @@ use Rattle.base_facts.specs.Tests.{and-true, leb_is}
 use Rattle.sheet_spec.specs.declared.Kind.{Kind}
 use Rattle.sheet_spec.specs.declared.Kind.TheVariants as kind
 use Rattle.sheet_spec.specs.Names.{bytes, names_of}
-use Rattle.unsheet_names.specs.Table.{texts}
+use Rattle.unsheet_names.specs.Texts.{texts}
 
 -- an entry of a table, and nothing past it
 pub named : (ns : List (Bor (List ℕ))) (k : ℕ) (t : Bor (List ℕ)) → k < length ns → t ≡ get_or ns k t → get_or (texts ns) k [] ≡ t.now

@@ -4,7 +4,9 @@
 ghost use Rattle.std.specs.Prelude.{◌≡◌, [], map, ◌+◌, ◌≤◌, length, get_or};
 ghost use Rattle.base_text.specs.Wrote.{Wrote};
 ghost use Rattle.sheet_spec.specs.Names.{bytes, names_of};
-ghost use Rattle.unsheet_names.specs.Table.{texts};
+ghost use Rattle.sheet_kinds.specs.Packed.{code_of};
+ghost use Rattle.unsheet_names.specs.Laid.{laid_name};
+ghost use Rattle.unsheet_names.specs.Texts.{texts};
 
 use sheet_spec::Kind;
 
@@ -202,7 +204,8 @@ fn names(kind: Kind) -> &'static [&'static str]
 /// The name of a kind's variant at a place, nothing where it has none; the next place.
 pub fn put_name(out: &mut [u8], at: usize, kind: Kind, place: u64) -> usize
     requires { at + 20 ≤ length out.old }
-    ensures { Wrote out.old at (get_or (map bytes (names_of kind)) place []) out.new result × (result ≤ at + 20) }
+    ensures name { Wrote out.old at (get_or (map bytes (names_of kind)) place []) out.new result × (result ≤ at + 20) }
+    ensures laid { Wrote out.old at (laid_name (code_of kind) place) out.new result }
 {
     match names(kind).get(place as usize) {
         Some(name) => base_text::put(out, at, name.as_bytes()),

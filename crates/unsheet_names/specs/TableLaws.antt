@@ -10,8 +10,8 @@ use Rattle.sheet_spec.specs.declared.Kind.{Kind}
 use Rattle.sheet_spec.specs.declared.Kind.TheVariants as kind
 use Rattle.sheet_spec.specs.Names.{bytes, names_of}
 use Rattle.sheet_kinds.specs.Packed.{code_of}
-use Rattle.code_laws.specs.Rows.{joint, row_start, start_next, start-within, joint_at}
-use Rattle.code_laws.specs.Table.{groups, names}
+use Rattle.unsheet_names.specs.Rows.{joint, row_start, start_next, start-within, joint_at}
+use Rattle.unsheet_names.specs.Table.{groups, names}
 
 -- how many there are, and how long they are at most: computed
 pub counts : ◌≡◌ {A = ℕ × ℕ × ℕ} (length groups, length names, length (joint names)) (18, 157, 861)
