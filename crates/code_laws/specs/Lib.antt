@@ -1,5 +1,6 @@
-pub mod Rows
-pub mod Table
-pub mod TableLaws
 pub mod State
 pub mod Answers
+pub mod Printed
+pub mod Pushed
+pub mod Headers
+pub mod Lengths

@@ -1,2 +1,3 @@
-// Laws of definitions that stand with the code: the encoder's state, what the reader's code hands back, and names row by row.
+// Laws of definitions that stand with the code: the encoder's state, what the reader's code hands back,
+// numbers pushed and printed, the headers of lists, and names by their lengths.
 #![tactic(auto)]

@@ -31,7 +31,7 @@ literal_text_lem : (z : ℤ) → literal_text (literal_of z) ≡ signed_of z ++ 
 literal_text_lem (pos n) = refl
 literal_text_lem (negsuc n) = refl
 
-literals_text_lem : (es : List Entry) → literals_text (map (λ e. literal_of (entry_number e)) es) ≡ numbers_text (map entry_number es)
+pub literals_text_lem : (es : List Entry) → literals_text (map (λ e. literal_of (entry_number e)) es) ≡ numbers_text (map entry_number es)
 literals_text_lem [] = refl
 literals_text_lem (e ∷ es) =
     let z : ℤ = entry_number e in
