@@ -3,13 +3,12 @@ use Rattle.std.specs.Prelude.{◌≡◌, ℕ, suc, ◌+◌, ◌-◌, ◌%◌, �
 use Rattle.std.proofs.Common.{append_assoc, append-nil, ap, sym, ◌∙◌, length-append, arith, lt-ltb}
 use Rattle.std.proofs.Math.Path.{refl}
 use Rattle.isa.specs.declared.Encoded.{Encoded}
-use Rattle.isa_spec.specs.Field.{field_number}
 use Rattle.encode_spec.specs.Item.{Item, Part, Verdict, fine, malformed, out_of_range, no_encoding, word, check, range, ranged, words_in, count_of, word_address, laid, or_else, failure}
 use Rattle.encode_spec.specs.Item as item
-use Rattle.encode_spec.specs.Encode.{padded, encoded_as}
+use Rattle.encode_spec.specs.Encode.{padded, encoded_as, short}
 use Rattle.encode_state.specs.declared.Encoder.{Encoder}
 use Rattle.encode_state.specs.declared.Refusal.{Refusal}
-use Rattle.encode_state.specs.declared.Refusal.TheVariants.{Malformed, OutOfRange, NoEncoding, FewBytes}
+use Rattle.encode_state.specs.declared.Refusal.TheVariants.{Malformed, OutOfRange, NoEncoding, FewBytes, Numbered}
 use Rattle.encode_state.specs.Encoder.{State, and_then, pushed, marked, step, run, next_address, run_parts, holding}
 use Rattle.encode_facts.specs.Items.{words_count, count_append, address_address}
 
@@ -93,12 +92,13 @@ parts-run a b (p ∷ ps) ws m =
     (rw (← there) (parts-run a b ps (ws ++ words_in xs) (rw (there, long) (omega arith)))))
 
 -- ---- the result of a run
--- 01's number, detail and value of a refusal
+-- 01's number, detail and value of a refusal: those of the verdict that it stands for
 abbrev pub refusal : Refusal → item.Refusal
-refusal Malformed = record { number = 1; detail = 0; value = pos 0 }
-refusal (OutOfRange f z) = record { number = 2; detail = field_number f; value = z }
-refusal (NoEncoding r) = record { number = 3; detail = r; value = pos 0 }
-refusal FewBytes = record { number = 4; detail = 0; value = pos 0 }
+refusal Malformed = item.refusal malformed
+refusal (OutOfRange f z) = item.refusal (out_of_range f z)
+refusal (NoEncoding r) = item.refusal (no_encoding r)
+refusal FewBytes = record { number = short.number; detail = short.detail; value = short.value }
+refusal (Numbered n d z) = record { number = n; detail = d; value = z }
 
 -- a refusal has no words
 abbrev pub finished : State → Encoded

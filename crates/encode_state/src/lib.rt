@@ -1,10 +1,11 @@
 // The encoder's state: the words so far. What refuses ends the encoding, so the state needs no flag.
 #![tactic(auto)]
 
-ghost use Rattle.std.specs.Prelude.{◌≡◌, ◌+◌, ◌*◌, ◌/◌, ◌%◌, ◌<◌, []};
-ghost use Rattle.encode_state.specs.Encoder.{pushed, step, next_address, holding};
+ghost use Rattle.std.specs.Prelude.{◌≡◌, ◌+◌, ◌*◌, ◌/◌, ◌%◌, ◌<◌, [], Ok};
+ghost use Rattle.encode_state.specs.Encoder.{pushed, step, run, next_address, holding};
 ghost use Rattle.encode_state.specs.Laws.{refusal};
 ghost use Rattle.encode_spec.specs.Item as item;
+ghost use Rattle.encode_spec.specs.Ea.{long_items};
 
 use isa::{Field, RegisterOperand};
 pub use isa_values::code::{
@@ -23,10 +24,12 @@ pub enum Refusal {
     NoEncoding(u8),
     /// The lent slice has fewer bytes than the words take.
     FewBytes,
+    /// A refusal in numbers, as they come; no encoder gives one.
+    Numbered { number: u8, detail: u8, value: i64 },
 }
 
 impl Refusal {
-    /// The number of the refusal: 1 to 4.
+    /// The number of the refusal: 1 to 4, or the one that it names.
     pub fn number(self) -> u8
         ensures { result ≡ (refusal self).number }
     {
@@ -35,6 +38,7 @@ impl Refusal {
             Refusal::OutOfRange(_, _) => 2,
             Refusal::NoEncoding(_) => 3,
             Refusal::FewBytes => 4,
+            Refusal::Numbered { number, .. } => number,
         }
     }
 
@@ -45,6 +49,7 @@ impl Refusal {
         match self {
             Refusal::OutOfRange(field, _) => isa_values::field::number(field),
             Refusal::NoEncoding(reason) => reason,
+            Refusal::Numbered { detail, .. } => detail,
             Refusal::Malformed => 0,
             Refusal::FewBytes => 0,
         }
@@ -56,6 +61,7 @@ impl Refusal {
     {
         match self {
             Refusal::OutOfRange(_, value) => value,
+            Refusal::Numbered { value, .. } => value,
             Refusal::Malformed => 0,
             Refusal::NoEncoding(_) => 0,
             Refusal::FewBytes => 0,
@@ -101,7 +107,8 @@ impl Encoder {
     #[tactic(auto, unfolding(crate::specs::Encoder::pushed))]
     #[inline(always)]
     pub fn word(self, w: u16) -> Encoder
-        ensures { result ≡ pushed self w }
+        ensures words { result ≡ pushed self w }
+        ensures as_step { Ok result ≡ step self (item.word w) }
     {
         let mut e = self;
         if e.count < 11 {
@@ -114,7 +121,8 @@ impl Encoder {
     /// A long in two words, the high half first.
     #[inline(always)]
     pub fn long(self, v: u32) -> Encoder
-        ensures { result ≡ pushed (pushed self (v / 65536)) (v % 65536) }
+        ensures words { result ≡ pushed (pushed self (v / 65536)) (v % 65536) }
+        ensures as_run { Ok result ≡ run (long_items v) (Ok self) }
     {
         self.word((v / 65536) as u16).word((v % 65536) as u16)
     }
@@ -123,7 +131,8 @@ impl Encoder {
     #[inline(always)]
     pub fn operation(self, line: u16, x: u16, opmode: u16, ea: u16) -> Encoder
         requires { (line < 16) × (x < 8) × (opmode < 8) × (ea < 64) }
-        ensures { result ≡ pushed self ((line * 64 + x * 8 + opmode) * 64 + ea) }
+        ensures words { result ≡ pushed self ((line * 64 + x * 8 + opmode) * 64 + ea) }
+        ensures as_step { Ok result ≡ step self (item.operation line x opmode ea) }
     {
         self.word((line * 64 + x * 8 + opmode) * 64 + ea)
     }
