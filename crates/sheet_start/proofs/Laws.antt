@@ -1,7 +1,6 @@
 -- Laws of what stands before the lines, a byte or a field at a time. Assumes nothing.
 use mathlib.Core.Path.{◌≡◌, refl, sym, ap, ◌∙◌}
-use mathlib.Core.Bool.{Bool, true, false, cond}
-use Rattle.std.specs.Prelude.{count_by, fold, nat_eq}
+use mathlib.Core.Bool.{cond}
 use mathlib.Core.List.{List, [], ◌∷◌}
 use mathlib.Core.Option.{none}
 use Prim.Native.Nat.{ℕ, suc, ◌+◌, ◌-◌, ◌≤◌, ◌<◌}
@@ -19,16 +18,15 @@ use Rattle.sheet_spec.specs.Line.{equal}
 use Rattle.sheet_spec.specs.Sheet.{feeds, last, start_as, start_fields, start_of}
 
 -- ---- line feeds
-pub feeds_from : (a : ℕ) (s : List ℕ) → fold (λ n b. n + cond (nat_eq b 10) 1 0) a s ≡ a + feeds s
-feeds_from a [] = omega arith
-feeds_from a (b ∷ bs) = feeds_from (a + cond (nat_eq b 10) 1 0) bs ∙ go (nat_eq b 10)
-  where
-    go : (t : Bool) → (a + cond t 1 0) + feeds bs ≡ a + cond t (suc (feeds bs)) (feeds bs)
-    go true = omega arith
-    go false = omega arith
+module _ (s : List ℕ) (i : ℕ) (h : i < length s) where
+  pub feeds-one : get_or s i 0 ≡ 10 → feeds (drop i s) ≡ feeds (drop (i + 1) s) + 1
+  feeds-one e = rw (add-one, add-one, drop-cons s i 0 h, eq-eqb (get_or s i 0) 10 e)
 
-pub feeds_counted : (s : List ℕ) → count_by (λ b. nat_eq b 10) s ≡ feeds s
-feeds_counted s = let e : 0 + feeds s ≡ feeds s = omega arith in feeds_from 0 s ∙ e
+  pub feeds-none : (get_or s i 0 ≡ 10 → ⊥) → feeds (drop i s) ≡ feeds (drop (i + 1) s)
+  feeds-none e = rw (add-one, drop-cons s i 0 h, ne_eqb (get_or s i 0) 10 e)
+
+pub feeds_end : (s : List ℕ) (i : ℕ) → length s ≤ i → feeds (drop i s) ≡ 0
+feeds_end s i h = rw (drop_of_length-le s h)
 
 -- ---- the last byte
 pub last_none : (s : List ℕ) → length s ≡ 0 → last s ≡ 0
