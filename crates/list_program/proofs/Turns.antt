@@ -1,6 +1,6 @@
 -- What a turn writes of the rest of a list, and what is left of it.
 use Rattle.std.specs.Prelude.{Option, Some, None, is_some, unwrap_or, Result, Ok, Err, OnOk}
-use Rattle.std.proofs.Common.{◌≡◌, ◌≤◌, ◌<◌, ◌+◌, ◌++◌, ℕ, suc, zero, pred, Bool, true, false, List, [], ◌∷◌, refl, sym, ap, ◌∙◌, length, take, drop, arith, append_assoc}
+use Rattle.std.proofs.Common.{◌≡◌, ◌≤◌, ◌<◌, ◌+◌, ◌++◌, ℕ, suc, zero, pred, Bool, true, false, List, [], ◌∷◌, refl, sym, ap, ◌∙◌, length, take, drop, arith}
 use Rattle.std.proofs.Math.Seq.{take-append_seam}
 use Rattle.std.proofs.lemmas.Bool.{false≢true}
 use borrow.Author.Tests.{lt-ltb, le-ltb}
@@ -17,9 +17,6 @@ on_ok (Err e) f p = p
 pub left : (most from end n : ℕ) → n ≤ from + most → from < end → n ≤ end + pred most
 left zero from end n h m = omega arith
 left (suc most) from end n h m = omega arith
-
-pub regroup : (done t rest : List ℕ) → done ++ ((t ++ (10 ∷ [])) ++ rest) ≡ ((done ++ t) ++ (10 ∷ [])) ++ rest
-regroup done t rest = sym (append_assoc done (t ++ (10 ∷ [])) rest) ∙ ap (λ l. l ++ rest) (sym (append_assoc done t (10 ∷ [])))
 
 -- what is answered stands in the front of the buffer
 answer_front : (b : Bool) (t : List ℕ) {out out' : List ℕ} {n : ℕ} → Answered b t out out' (Some n) → (b ≡ true) × (take n out' ≡ t)
@@ -47,10 +44,10 @@ module _ (limits : Limits) (is_answered : Header → List ℕ → Bool) (text_of
     no_header e = rw (opened most from enough more, e) refl
 
     module _ (h : Header) (e : header_in limits list from ≡ Some h) where
-      pub no_answer : {out out' : List ℕ} → Answered (is_answered h (bytes_in list h)) (text_of h (bytes_in list h)) out out' None
+      pub no_answer : {t out out' : List ℕ} → Answered (is_answered h (bytes_in list h)) t out out' None
           → cases_from limits is_answered text_of list most from ≡ no_list
-      no_answer a = rw (opened most from enough more, e, answer_none _ _ a) refl
+      no_answer {t} a = rw (opened most from enough more, e, answer_none _ t a) refl
 
-      pub answered : {out out' : List ℕ} {n : ℕ} → Answered (is_answered h (bytes_in list h)) (text_of h (bytes_in list h)) out out' (Some n)
-          → cases_from limits is_answered text_of list most from ≡ take n out' ++ (10 ∷ []) ++ cases_from limits is_answered text_of list (pred most) h.end
+      pub answered : {out out' : List ℕ} {n : ℕ} → Answered (is_answered h (bytes_in list h)) (text_of h (bytes_in list h) ++ (10 ∷ [])) out out' (Some n)
+          → cases_from limits is_answered text_of list most from ≡ take n out' ++ cases_from limits is_answered text_of list (pred most) h.end
       answered a = let f = answer_front _ _ a in rw (opened most from enough more, e, f.0, f.1) refl

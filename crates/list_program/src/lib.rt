@@ -1,7 +1,7 @@
 // A program that answers the cases of a stored list, from the bytes that it reads to the bytes that it writes.
 #![tactic(auto)]
 
-ghost use Rattle.std.specs.Prelude.{◌≡◌, ◌≤◌, ℕ, Bool, List, length, OnOk, IfSome};
+ghost use Rattle.std.specs.Prelude.{◌≡◌, ◌≤◌, ℕ, Bool, List, [], ◌∷◌, ◌++◌, length, OnOk, IfSome};
 ghost use Rattle.std.specs.Io.KnownBytes.{Appends};
 ghost use Rattle.base_list.specs.Headers.{Limited};
 ghost use Rattle.base_list.specs.declared.Header.{Header};
@@ -25,34 +25,44 @@ pub trait Case {
         ensures { result ≡ limits };
 
     /// Written into the front of `out`; how many bytes.
-    fn answer(&self, header: Header, bytes: &[u8], out: &mut [u8]) -> Option<usize>
+    fn answer(&mut self, header: Header, bytes: &[u8], out: &mut [u8]) -> Option<usize>
         requires { Limited limits header × (282624 ≤ length out.old) }
         ensures { Answered (is_answered header bytes.now) (text_of header bytes.now) out.old out.new result };
 }
 
-// Each answer with an empty line behind it, as far as the list is in the form.
-fn print_cases<C: Case, W: Write>(asked: &C, list: &[u8], output: &mut W) -> io::Result<()>
+// The answer to a case with an empty line behind it, in one buffer.
+fn answer_line<C: Case>(asked: &mut C, header: Header, bytes: &[u8], out: &mut [u8]) -> Option<usize>
+    requires { Limited C.limits header × (282625 ≤ length out.old) }
+    ensures { Answered (C.is_answered header bytes.now) (C.text_of header bytes.now ++ (10 ∷ [])) out.old out.new result }
+{
+    let room = out.len() - 1;
+    let n = asked.answer(header, bytes, &mut out[..room])?;
+    out[n] = b'\n';
+    Some(n + 1)
+}
+
+// Each answer with an empty line behind it, in one write, as far as the list is in the form.
+fn print_cases<C: Case, W: Write>(asked: &mut C, list: &[u8], output: &mut W) -> io::Result<()>
     ensures { OnOk result (Appends (W.contents output.old) (W.contents output.new) (cases_of C.limits C.is_answered C.text_of list.now)) }
 {
     let limits = asked.limits();
-    let mut out: [u8; 282624] = base_streams::filled(0);
+    let mut out: [u8; 282625] = base_streams::filled(0);
     let mut from: usize = 0;
     while from < list.len() {
         let Some(h) = base_list::read_header(list, from, limits) else {
             return output.write_all(b"list\n");
         };
-        let Some(n) = asked.answer(h, &list[h.begin..h.end], &mut out) else {
+        let Some(n) = answer_line(asked, h, &list[h.begin..h.end], &mut out) else {
             return output.write_all(b"list\n");
         };
         output.write_all(&out[..n])?;
-        output.write_all(b"\n")?;
         from = h.end;
     }
     Ok(())
 }
 
 /// Prints the answers to the cases of the list that is read; a list of more than 1 MiB is not in the form.
-pub fn run<C: Case, R: Read, W: Write>(asked: &C, input: &mut R, output: &mut W) -> io::Result<()>
+pub fn run<C: Case, R: Read, W: Write>(asked: &mut C, input: &mut R, output: &mut W) -> io::Result<()>
     ensures { OnOk result (IfSome (R.remaining input.old) (λ text. Appends (W.contents output.old) (W.contents output.new) (cases_output_of C.limits C.is_answered C.text_of text))) }
 {
     let mut places: [u8; 1048577] = base_streams::filled(0);

@@ -8,6 +8,7 @@ ghost use Rattle.print_spec.specs.Printed.{Printed};
 ghost use Rattle.sheets.specs.Ways.{way_of, rule_by, limits, is_answered, case_text};
 
 use base_list::{Header, Limits};
+use base_streams::Unfailing;
 use list_program::Case;
 use print_spec::Output;
 use std::io;
@@ -52,7 +53,12 @@ fn print_by(
     }
 }
 
-struct Sheets;
+// What is lent for each sheet of the list.
+#[derive(Drop)]
+struct Sheets {
+    image: [u16; 45056],
+    scratch: [u32; 4096],
+}
 
 impl Case for Sheets {
     ghost limits = { limits };
@@ -71,16 +77,24 @@ impl Case for Sheets {
         }
     }
 
-    fn answer(&self, header: Header, bytes: &[u8], out: &mut [u8]) -> Option<usize> {
+    fn answer(&mut self, header: Header, bytes: &[u8], out: &mut [u8]) -> Option<usize> {
         let way = Way::try_from(header.fourth).ok()?;
-        let mut image: [u16; 45056] = base_streams::filled(0);
-        let mut scratch: [u32; 4096] = base_streams::filled(0);
         let room = header.third;
         let places = header.second;
-        Some(print_by(way, bytes, &mut image[..room], &mut scratch[..places], out).count)
+        let image = &mut self.image[..room];
+        let scratch = &mut self.scratch[..places];
+        Some(print_by(way, bytes, image, scratch, out).count)
     }
 }
 
 fn main(rt: HostRuntime) -> io::Result<()> {
-    list_program::run(&Sheets, &mut rt.stdin(), &mut rt.stdout())
+    let mut sheets = Sheets {
+        image: base_streams::filled(0),
+        scratch: base_streams::filled(0),
+    };
+    let mut input = Unfailing { stream: rt.stdin() };
+    let mut output = Unfailing {
+        stream: rt.stdout(),
+    };
+    list_program::run(&mut sheets, &mut input, &mut output)
 }

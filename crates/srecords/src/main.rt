@@ -11,6 +11,7 @@ ghost use Rattle.srecord_line.specs.LineForm.{image_line_start, image_line_words
 ghost use Rattle.srecord_spec.specs.Printed.{written_text, loaded_text};
 
 use base_list::{Header, Limits};
+use base_streams::Unfailing;
 use list_program::Case;
 use std::io;
 
@@ -84,7 +85,11 @@ fn answer_by(
     }
 }
 
-struct Records;
+// The words that are lent for each case; 209,715 are more than an image line of 1 MiB has.
+#[derive(Drop)]
+struct Records {
+    image: [u16; 209715],
+}
 
 impl Case for Records {
     ghost limits = { limits };
@@ -103,13 +108,18 @@ impl Case for Records {
         }
     }
 
-    // 209,715 words are more than an image line of 1 MiB has.
-    fn answer(&self, header: Header, bytes: &[u8], out: &mut [u8]) -> Option<usize> {
-        let mut image: [u16; 209715] = base_streams::filled(0);
-        answer_by(header.second, bytes, header.third, &mut image, out)
+    fn answer(&mut self, header: Header, bytes: &[u8], out: &mut [u8]) -> Option<usize> {
+        answer_by(header.second, bytes, header.third, &mut self.image, out)
     }
 }
 
 fn main(rt: HostRuntime) -> io::Result<()> {
-    list_program::run(&Records, &mut rt.stdin(), &mut rt.stdout())
+    let mut records = Records {
+        image: base_streams::filled(0),
+    };
+    let mut input = Unfailing { stream: rt.stdin() };
+    let mut output = Unfailing {
+        stream: rt.stdout(),
+    };
+    list_program::run(&mut records, &mut input, &mut output)
 }

@@ -10,6 +10,7 @@ ghost use Rattle.unsheet_spec.specs.Printed.{unsheet_text};
 ghost use Rattle.unsheets.specs.Answer.{limits, is_answered, case_text};
 
 use base_list::{Header, Limits};
+use base_streams::Unfailing;
 use list_program::Case;
 use std::io;
 
@@ -27,7 +28,11 @@ fn unsheeted(line: &[u8], room: usize, image: &mut [u16], out: &mut [u8]) -> Opt
     Some(unsheet_print::print_unsheet(l.start, &image[..count], room, out))
 }
 
-struct Images;
+// The words that are lent for each case; 209,715 are more than an image line of 1 MiB has.
+#[derive(Drop)]
+struct Images {
+    image: [u16; 209715],
+}
 
 impl Case for Images {
     ghost limits = { limits };
@@ -46,13 +51,18 @@ impl Case for Images {
         }
     }
 
-    // 209,715 words are more than an image line of 1 MiB has.
-    fn answer(&self, header: Header, bytes: &[u8], out: &mut [u8]) -> Option<usize> {
-        let mut image: [u16; 209715] = base_streams::filled(0);
-        unsheeted(bytes, header.second, &mut image, out)
+    fn answer(&mut self, header: Header, bytes: &[u8], out: &mut [u8]) -> Option<usize> {
+        unsheeted(bytes, header.second, &mut self.image, out)
     }
 }
 
 fn main(rt: HostRuntime) -> io::Result<()> {
-    list_program::run(&Images, &mut rt.stdin(), &mut rt.stdout())
+    let mut images = Images {
+        image: base_streams::filled(0),
+    };
+    let mut input = Unfailing { stream: rt.stdin() };
+    let mut output = Unfailing {
+        stream: rt.stdout(),
+    };
+    list_program::run(&mut images, &mut input, &mut output)
 }

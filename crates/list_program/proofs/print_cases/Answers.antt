@@ -1,14 +1,14 @@
-use Rattle.std.proofs.Common.{arith, ◌≡◌, ◌++◌, [], ◌∷◌, refl, length, take, pred, sym, ap, ◌∙◌, subst}
+use Rattle.std.proofs.Common.{arith, ◌≡◌, ◌++◌, [], ◌∷◌, refl, length, take, pred, sym, ap, ◌∙◌, subst, append_assoc}
 use Rattle.std.specs.Io.KnownBytes.{Appends}
 use Rattle.std.proofs.KnownBytes.{Appends-nil, Appends-trans}
 use Rattle.list_program.specs.Cases.{no_list, cases_of, cases_from}
-use Rattle.list_program.proofs.Turns.{on_ok, left, regroup, no_answer, answered}
+use Rattle.list_program.proofs.Turns.{on_ok, left, no_answer, answered}
 use Rattle.list_program.proofs.print_cases.Goals as goal
 
 pub loop-from-init : goal.loop-from-init
 unfolding cases_of
 loop-from-init g c = record {
-  room = c.filled-out.ensures;
+  room = c.filled-out.ensures.room;
   most = length c.args.list.now;
   enough = omega arith;
   done = [];
@@ -16,13 +16,13 @@ loop-from-init g c = record {
   rest = refl;
 }
 
-pub returns-in_default-answer : goal.returns-in_default-answer
-returns-in_default-answer g c =
+pub returns-in_default-answer_line : goal.returns-in_default-answer_line
+returns-in_default-answer_line g c =
     let C = g.C.Case in
     let i = c.loop-from.invariant in
     let e = sym (rw c.limits-limits.ensures at c.read_header.ensures.is) ∙ c.in-Some.is in
-    let end = no_answer C.limits C.is_answered C.text_of c.args.list.now i.most c.loop-from.from i.enough (omega arith) c.in-Some.h e (rw c.in_default-answer.is at c.answer.ensures) in
-    let w = c.write_all-in_default-answer in
+    let end = no_answer C.limits C.is_answered C.text_of c.args.list.now i.most c.loop-from.from i.enough (omega arith) c.in-Some.h e (rw c.in_default-answer_line.is at c.answer_line.ensures) in
+    let w = c.write_all-in_default-answer_line in
     let old = g.W.Write.contents c.args.output.now in
     let now = g.W.Write.contents c.loop-from.output in
     let new = g.W.Write.contents w.new.self in
@@ -34,14 +34,14 @@ loop-from-preserved g c =
     let C = g.C.Case in
     let i = c.loop-from.invariant in
     let h = c.in-Some.h in
-    let t = take c.in-Some-answer.n c.answer.new.out in
+    let t = take c.in-Some-answer_line.n c.answer_line.new.out in
     let e = sym (rw c.limits-limits.ensures at c.read_header.ensures.is) ∙ c.in-Some.is in
-    let turn = answered C.limits C.is_answered C.text_of c.args.list.now i.most c.loop-from.from i.enough (omega arith) h e (rw c.in-Some-answer.is at c.answer.ensures) in
+    let turn = answered C.limits C.is_answered C.text_of c.args.list.now i.most c.loop-from.from i.enough (omega arith) h e (rw c.in-Some-answer_line.is at c.answer_line.ensures) in
     record {
       room = omega arith;
       most = pred i.most;
       enough = left i.most _ _ _ i.enough c.in-Some.ensures.within.place.onward;
-      done = (i.done ++ t) ++ (10 ∷ []);
-      written = Appends-trans _ _ _ _ _ (Appends-trans _ _ _ _ _ i.written c.in_ok-write_all.ensures.bytes) c.in_ok-write_all-2.ensures.bytes;
-      rest = i.rest ∙ ap (λ l. i.done ++ l) turn ∙ regroup i.done t (cases_from C.limits C.is_answered C.text_of c.args.list.now (pred i.most) h.end);
+      done = i.done ++ t;
+      written = Appends-trans _ _ _ _ _ i.written c.in_ok-write_all.ensures.bytes;
+      rest = i.rest ∙ ap (λ l. i.done ++ l) turn ∙ sym (append_assoc i.done t (cases_from C.limits C.is_answered C.text_of c.args.list.now (pred i.most) h.end));
     }
