@@ -14,7 +14,7 @@ ghost use Rattle.bytes_answers.specs.Places.{lent_places_text};
 use base_spec::Step;
 use encode_answers::{numbers_in, put_measured};
 use isa::{Instruction, Measured};
-use line_program::Answer;
+use line_program::{Answer, AnswerLines};
 use numeric_fields::UnsignedAt;
 use numeric_places::Numbers;
 use numeric_spec::Built;
@@ -126,6 +126,12 @@ impl Answer for EncodingBytes {
     }
 
     ghost room = { Prim.search rules };
+}
+
+impl AnswerLines for EncodingBytes {
+    fn answers(&self, text: &[u8], from: usize, out: &mut [u8]) -> Step {
+        answers(text, from, out)
+    }
 }
 
 /// The answers to the lines from a place on, while the buffer has room.

@@ -11,7 +11,7 @@ ghost use Rattle.encode_answers.specs.Places.{places_in, places_text};
 
 use base_spec::Step;
 use isa::{Encoded, Measured};
-use line_program::Answer;
+use line_program::{Answer, AnswerLines};
 use numeric_places::Numbers;
 use numeric_spec::Built;
 
@@ -133,6 +133,12 @@ impl Answer for Encoding {
     }
 
     ghost room = { Prim.search rules };
+}
+
+impl AnswerLines for Encoding {
+    fn answers(&self, text: &[u8], from: usize, out: &mut [u8]) -> Step {
+        answers(text, from, out)
+    }
 }
 
 /// The answers to the lines from a place on, while the buffer has room.

@@ -9,6 +9,7 @@ ghost use Rattle.explain_lines.specs.Cut.{cut_of, cut_text};
 ghost use Rattle.explain_lines.specs.Pieces.{Kept};
 ghost use Rattle.explain.specs.Rest.{Rest};
 
+use base_streams::Unfailing;
 use explain_lines::Cut;
 use std::io;
 use std::io::{ErrorKind, Read, Write};
@@ -89,5 +90,9 @@ fn print_explained<R: Read, W: Write>(input: &mut R, output: &mut W) -> io::Resu
 }
 
 fn main(rt: HostRuntime) -> io::Result<()> {
-    print_explained(&mut rt.stdin(), &mut rt.stdout())
+    let mut input = Unfailing { stream: rt.stdin() };
+    let mut output = Unfailing {
+        stream: rt.stdout(),
+    };
+    print_explained(&mut input, &mut output)
 }

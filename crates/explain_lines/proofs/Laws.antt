@@ -5,7 +5,7 @@ use mathlib.Core.Bool.{Bool, true, false, cond}
 use mathlib.Core.List.{List, [], ◌∷◌, ◌++◌, append_assoc}
 use native.Mathlib.Omega.{arith}
 use lib.Dec.{eqb, leb}
-use lib.ListN.{length, take, drop, get_or, length-take, length-drop}
+use lib.ListN.{length, take, drop, get_or, length-take, length-drop, take-append-drop}
 use lib.Seq.{take_all, paste, take-suc}
 use borrow.Author.Tests.{eq-eqb, ne_eqb, lt-ltb, le-leb, lt-leb}
 use Rattle.base_facts.specs.Tests.{Eq, same, other, eq?, cond_true, cond_false}
@@ -86,6 +86,14 @@ pub moved : (d : List ℕ) (from to : ℕ) → from ≤ to → to ≤ length d �
 moved d from to h g =
     let n : to - from ≡ length (take (to - from) (drop from d)) = rw (length-take, length-drop) (omega arith) in
     (λ j. take 0 d ++ take (to - from) (drop from d) ++ drop (0 + n j) d)
+
+pub unmoved : (d : List ℕ) (from to : ℕ) → from ≡ 0 → to ≤ length d → d ≡ placed d 0 (between from to d)
+unmoved d from to e h =
+    let n : length (take (to - from) (drop from d)) ≡ to = rw (length-take, length-drop) (omega arith) in
+    let q : to ≡ to - from = omega arith in
+    let z : 0 ≡ from = sym e in
+    let m : to ≡ 0 + length (take (to - from) (drop from d)) = omega (arith, n) in
+    sym (take-append-drop to d) ∙ (λ j. take (q j) (drop (z j) d) ++ drop (m j) d)
 
 -- a cut, case by case
 module _ (t : List ℕ) (p e : ℕ) (h : p ≤ length t) (g : e ≡ ended_of (take (length t - p) (drop p t))) where

@@ -133,6 +133,9 @@ pub fn keep(text: &mut [u8], from: usize, to: usize) -> usize
     requires { (from ≤ to) × (to ≤ length text.old) }
     ensures { (result ≡ to - from) × (text.new ≡ placed text.old 0 (between from to text.old)) }
 {
+    if from == 0 {
+        return to;
+    }
     text.copy_within(from..to, 0);
     to - from
 }

@@ -1,20 +1,30 @@
 // Prints the image of the S-records on standard input as an image line, or their refusal.
 #![tactic(auto)]
 
-ghost use Rattle.std.specs.Prelude.{◌≡◌, OnOk, IfSome};
+ghost use Rattle.std.specs.Prelude.{◌≡◌, ◌≤◌, length, OnOk, IfSome};
 ghost use Rattle.std.specs.Io.KnownBytes.{Appends};
 ghost use Rattle.srecord_spec.specs.Printed.{loaded_text, image_printed};
+ghost use Rattle.srecord_spec.specs.Promises.{PrintedInto};
 
+use base_streams::Unfailing;
 use std::io;
 use std::io::{Read, Write};
 
-// Of a text of S-records, with 45,056 words lent, and room for them at five bytes each, the start and a refusal (92).
+// What is printed for a text of S-records, with 45,056 words lent.
+fn loaded(text: &[u8], out: &mut [u8]) -> usize
+    requires { 225372 ≤ length out.old }
+    ensures { PrintedInto (loaded_text text.now 45056) out.old out.new result × (result ≤ length out.old) }
+{
+    let mut image: [u16; 45056] = base_streams::filled(0);
+    srecord_print::print_loaded(text, &mut image, out)
+}
+
+// With room for 45,056 words at five bytes each, the start and a refusal (92).
 fn print_loaded<W: Write>(text: &[u8], output: &mut W) -> io::Result<()>
     ensures { OnOk result (Appends (W.contents output.old) (W.contents output.new) (loaded_text text.now 45056)) }
 {
-    let mut image: [u16; 45056] = base_streams::filled(0);
     let mut out: [u8; 225372] = base_streams::filled(0);
-    let n = srecord_print::print_loaded(text, &mut image, &mut out);
+    let n = loaded(text, &mut out);
     output.write_all(&out[..n])
 }
 
@@ -31,5 +41,9 @@ fn print_image<R: Read, W: Write>(input: &mut R, output: &mut W) -> io::Result<(
 }
 
 fn main(rt: HostRuntime) -> io::Result<()> {
-    print_image(&mut rt.stdin(), &mut rt.stdout())
+    let mut input = Unfailing { stream: rt.stdin() };
+    let mut output = Unfailing {
+        stream: rt.stdout(),
+    };
+    print_image(&mut input, &mut output)
 }

@@ -27,6 +27,13 @@ pub trait Answer {
     ghost room: { ROOM ≤ 65536 };
 }
 
+// How a program answers its lines: by its own function, which says what they get.
+pub trait AnswerLines: Answer {
+    // The answers to the lines from a place on, while the buffer has room.
+    fn answers(&self, text: &[u8], from: usize, out: &mut [u8]) -> Step
+        ensures { (result ≡ step_of Self.answer_of Self.ROOM text.now from (length out.old)) × (out.new ≡ placed out.old 0 (answered_of Self.answer_of Self.ROOM text.now from (length out.old))) };
+}
+
 // The answers to the lines from a place on, while the buffer has room.
 pub fn answers<A: Answer>(asked: &A, text: &[u8], from: usize, out: &mut [u8]) -> Step
     ensures { (result ≡ step_of A.answer_of A.ROOM text.now from (length out.old)) × (out.new ≡ placed out.old 0 (answered_of A.answer_of A.ROOM text.now from (length out.old))) }
@@ -45,13 +52,13 @@ pub fn answers<A: Answer>(asked: &A, text: &[u8], from: usize, out: &mut [u8]) -
 }
 
 // In few writes.
-fn print_answers<A: Answer, W: Write>(asked: &A, text: &[u8], output: &mut W) -> io::Result<()>
+fn print_answers<A: AnswerLines, W: Write>(asked: &A, text: &[u8], output: &mut W) -> io::Result<()>
     ensures { OnOk result (Appends (W.contents output.old) (W.contents output.new) (answers_of A.answer_of text.now)) }
 {
     let mut out: [u8; 65536] = base_streams::filled(0);
     let mut from: usize = 0;
     while from < text.len() {
-        let step = answers(asked, text, from, &mut out);
+        let step = asked.answers(text, from, &mut out);
         output.write_all(&out[..step.count])?;
         from = step.next;
     }
@@ -59,7 +66,11 @@ fn print_answers<A: Answer, W: Write>(asked: &A, text: &[u8], output: &mut W) ->
 }
 
 // Prints the answer to each line that is read, or that the input is too long.
-pub fn run<A: Answer, R: Read, W: Write>(asked: &A, input: &mut R, output: &mut W) -> io::Result<()>
+pub fn run<A: AnswerLines, R: Read, W: Write>(
+    asked: &A,
+    input: &mut R,
+    output: &mut W,
+) -> io::Result<()>
     ensures { OnOk result (IfSome (R.remaining input.old) (λ text. Appends (W.contents output.old) (W.contents output.new) (answers_output_of A.answer_of text))) }
 {
     let mut places: [u8; 1048577] = base_streams::filled(0);

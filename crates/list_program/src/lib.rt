@@ -31,7 +31,12 @@ pub trait Case {
 }
 
 // The answer to a case with an empty line behind it, in one buffer.
-fn answer_line<C: Case>(asked: &mut C, header: Header, bytes: &[u8], out: &mut [u8]) -> Option<usize>
+fn answer_line<C: Case>(
+    asked: &mut C,
+    header: Header,
+    bytes: &[u8],
+    out: &mut [u8],
+) -> Option<usize>
     requires { Limited C.limits header × (282625 ≤ length out.old) }
     ensures { Answered (C.is_answered header bytes.now) (C.text_of header bytes.now ++ (10 ∷ [])) out.old out.new result }
 {
@@ -62,7 +67,11 @@ fn print_cases<C: Case, W: Write>(asked: &mut C, list: &[u8], output: &mut W) ->
 }
 
 /// Prints the answers to the cases of the list that is read; a list of more than 1 MiB is not in the form.
-pub fn run<C: Case, R: Read, W: Write>(asked: &mut C, input: &mut R, output: &mut W) -> io::Result<()>
+pub fn run<C: Case, R: Read, W: Write>(
+    asked: &mut C,
+    input: &mut R,
+    output: &mut W,
+) -> io::Result<()>
     ensures { OnOk result (IfSome (R.remaining input.old) (λ text. Appends (W.contents output.old) (W.contents output.new) (cases_output_of C.limits C.is_answered C.text_of text))) }
 {
     let mut places: [u8; 1048577] = base_streams::filled(0);

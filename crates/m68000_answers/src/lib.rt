@@ -11,7 +11,7 @@ ghost use Rattle.m68000_spec.specs.Answer68000.{reading_68000_text};
 ghost use Rattle.m68000_answers.specs.Kept.{run_68000_text, kept_68000_answer_of};
 
 use base_spec::Step;
-use line_program::Answer;
+use line_program::{Answer, AnswerLines};
 use m68000_spec::Unread68000;
 use read_runs::Run;
 use read_spec::Read;
@@ -64,6 +64,12 @@ impl Answer for ReadingRuns68000 {
     }
 
     ghost room = { Prim.search rules };
+}
+
+impl AnswerLines for ReadingRuns68000 {
+    fn answers(&self, text: &[u8], from: usize, out: &mut [u8]) -> Step {
+        answers(text, from, out)
+    }
 }
 
 /// The answers to the lines from a place on, while the buffer has room.

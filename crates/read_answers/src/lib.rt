@@ -14,7 +14,7 @@ ghost use Rattle.read_answers.specs.Put.{minus_if, literal_text, literals_text, 
 
 use base_spec::{Literal, Step};
 use isa::Instruction;
-use line_program::Answer;
+use line_program::{Answer, AnswerLines};
 use read_runs::Run;
 use read_spec::{Read, Unread};
 
@@ -117,6 +117,12 @@ impl Answer for ReadingRuns {
     }
 
     ghost room = { Prim.search rules };
+}
+
+impl AnswerLines for ReadingRuns {
+    fn answers(&self, text: &[u8], from: usize, out: &mut [u8]) -> Step {
+        answers(text, from, out)
+    }
 }
 
 /// The answers to the lines from a place on, while the buffer has room.

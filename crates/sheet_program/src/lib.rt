@@ -1,11 +1,12 @@
 // The program `sheet`, from the bytes that it reads to the bytes that it writes.
 #![tactic(auto)]
 
-ghost use Rattle.std.specs.Prelude.{◌≡◌, OnOk, IfSome};
+ghost use Rattle.std.specs.Prelude.{◌≡◌, ◌≤◌, OnOk, IfSome};
 ghost use Rattle.std.specs.Io.KnownBytes.{Appends};
 ghost use Rattle.sheet_spec.specs.Translate.{full};
-ghost use Rattle.print_spec.specs.Printed.{printed_of};
+ghost use Rattle.print_spec.specs.Printed.{printed_of, Put};
 
+use print_spec::Output;
 use std::io;
 use std::io::{Read, Write};
 
@@ -21,20 +22,28 @@ pub fn print_sheet<R: Read, W: Write>(input: &mut R, output: &mut W) -> io::Resu
     }
 }
 
-// With 4,096 places and 16,384 words lent, and room for 4,096 lines of at most 69 bytes.
-fn print_listing<W: Write>(text: &[u8], output: &mut W) -> io::Result<()>
-    ensures { OnOk result (Appends (W.contents output.old) (W.contents output.new) (printed_of full text.now 4096 16384)) }
+// What is printed for a sheet of at most 65,536 bytes, with 4,096 places and 16,384 words lent.
+fn listing(text: &[u8], out: &mut [u8]) -> Output
+    ensures { Put (printed_of full text.now 4096 16384) out.old out.new result × (result.count ≤ 282624) }
 {
     let mut image: [u16; 16384] = base_streams::filled(0);
     let mut scratch: [u32; 4096] = base_streams::filled(0);
+    sheet_print::print(text, &mut image, &mut scratch, out)
+}
+
+// With room for 4,096 lines of at most 69 bytes.
+fn print_listing<W: Write>(text: &[u8], output: &mut W) -> io::Result<()>
+    ensures { OnOk result (Appends (W.contents output.old) (W.contents output.new) (printed_of full text.now 4096 16384)) }
+{
     let mut out: [u8; 282624] = base_streams::filled(0);
-    let n = sheet_print::print(text, &mut image, &mut scratch, &mut out).count;
+    let n = listing(text, &mut out).count;
     output.write_all(&out[..n])
 }
 
 #[cfg(test)]
 mod tests {
     use super::*;
+    use base_streams::Unfailing;
     use std::io::ErrorKind;
 
     // Gives its text, and then an error.
@@ -89,6 +98,28 @@ mod tests {
         let mut out = Vec::new(rt.alloc());
         assert!(rt; print_sheet(&mut torn, &mut out).is_err());
         assert!(rt; out.is_empty());
+    }
+
+    #[test]
+    fn prints_what_was_read(rt: HostRuntime) {
+        let mut input = Unfailing {
+            stream: Torn {
+                text: b"START\t4096\nNOP\n",
+            },
+        };
+        let mut out = Vec::new(rt.alloc());
+        assert!(rt; print_sheet(&mut input, &mut out).is_ok());
+        assert!(rt; out.as_slice() == b"1\t00001000\t4E71\n".as_slice());
+    }
+
+    #[test]
+    fn passes_over_a_failed_write(rt: HostRuntime) {
+        let mut sheet: &[u8] = b"START\t4096\nNOP\nRTS\n";
+        let mut output = Unfailing {
+            stream: Full { left: 3 },
+        };
+        assert!(rt; print_sheet(&mut sheet, &mut output).is_ok());
+        assert!(rt; output.stream.left == 0);
     }
 
     #[test]

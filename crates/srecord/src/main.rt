@@ -6,6 +6,7 @@ ghost use Rattle.std.specs.Io.KnownBytes.{Appends};
 ghost use Rattle.srecord_spec.specs.Printed.{sheet_records};
 ghost use Rattle.srecord_spec.specs.Promises.{PrintedInto};
 
+use base_streams::Unfailing;
 use std::io;
 use std::io::{Read, Write};
 
@@ -47,5 +48,9 @@ fn print_records<R: Read, W: Write>(input: &mut R, output: &mut W) -> io::Result
 }
 
 fn main(rt: HostRuntime) -> io::Result<()> {
-    print_records(&mut rt.stdin(), &mut rt.stdout())
+    let mut input = Unfailing { stream: rt.stdin() };
+    let mut output = Unfailing {
+        stream: rt.stdout(),
+    };
+    print_records(&mut input, &mut output)
 }

@@ -1,20 +1,30 @@
 // Prints the sheet of the image of the S-records on standard input, or a refusal.
 #![tactic(auto)]
 
-ghost use Rattle.std.specs.Prelude.{◌≡◌, OnOk, IfSome};
+ghost use Rattle.std.specs.Prelude.{◌≡◌, ◌≤◌, length, OnOk, IfSome};
 ghost use Rattle.std.specs.Io.KnownBytes.{Appends};
+ghost use Rattle.srecord_spec.specs.Promises.{PrintedInto};
 ghost use Rattle.unsheet_spec.specs.Printed.{records_sheet, unsheet_printed};
 
+use base_streams::Unfailing;
 use std::io;
 use std::io::{Read, Write};
 
-// Of a text of S-records, with 45,056 words and the most bytes that a sheet has lent.
+// What is printed for a text of S-records, with 45,056 words and 65,536 bytes lent.
+fn unsheeted(text: &[u8], out: &mut [u8]) -> usize
+    requires { 65536 ≤ length out.old }
+    ensures { PrintedInto (records_sheet text.now 45056 65536) out.old out.new result × (result ≤ length out.old) }
+{
+    let mut image: [u16; 45056] = base_streams::filled(0);
+    unsheet_print::print_records(text, &mut image, 65536, out)
+}
+
+// With room for the most bytes that a sheet has.
 fn print_records<W: Write>(text: &[u8], output: &mut W) -> io::Result<()>
     ensures { OnOk result (Appends (W.contents output.old) (W.contents output.new) (records_sheet text.now 45056 65536)) }
 {
-    let mut image: [u16; 45056] = base_streams::filled(0);
     let mut out: [u8; 65536] = base_streams::filled(0);
-    let n = unsheet_print::print_records(text, &mut image, 65536, &mut out);
+    let n = unsheeted(text, &mut out);
     output.write_all(&out[..n])
 }
 
@@ -31,5 +41,9 @@ fn print_sheet<R: Read, W: Write>(input: &mut R, output: &mut W) -> io::Result<(
 }
 
 fn main(rt: HostRuntime) -> io::Result<()> {
-    print_sheet(&mut rt.stdin(), &mut rt.stdout())
+    let mut input = Unfailing { stream: rt.stdin() };
+    let mut output = Unfailing {
+        stream: rt.stdout(),
+    };
+    print_sheet(&mut input, &mut output)
 }

@@ -1,9 +1,14 @@
 // Prints what the functions on values give for each line.
 #![tactic(auto)]
 
+use base_streams::Unfailing;
 use std::io;
 use values_answers::AskingValues;
 
 fn main(rt: HostRuntime) -> io::Result<()> {
-    line_program::run(&AskingValues, &mut rt.stdin(), &mut rt.stdout())
+    let mut input = Unfailing { stream: rt.stdin() };
+    let mut output = Unfailing {
+        stream: rt.stdout(),
+    };
+    line_program::run(&AskingValues, &mut input, &mut output)
 }

@@ -11,7 +11,7 @@ ghost use Rattle.values_answers.specs.Asked.{listed_values, values_text, asked_t
 
 use base_spec::Step;
 use base_text::LineNumbers;
-use line_program::Answer;
+use line_program::{Answer, AnswerLines};
 
 pub mod asked; // the values that numbers ask for, and what the functions on them give
 
@@ -105,6 +105,12 @@ impl Answer for AskingValues {
     }
 
     ghost room = { Prim.search rules };
+}
+
+impl AnswerLines for AskingValues {
+    fn answers(&self, text: &[u8], from: usize, out: &mut [u8]) -> Step {
+        answers(text, from, out)
+    }
 }
 
 /// The answers to the lines from a place on, while the buffer has room.

@@ -12,8 +12,8 @@ use Rattle.explain.proofs.print_explained.Goals as goal
 
 pub loop-init : goal.loop-init
 loop-init g c = record {
-  text_room = c.filled-text.ensures;
-  out_room = c.filled-out.ensures;
+  text_room = c.filled-text.ensures.room;
+  out_room = c.filled-out.ensures.room;
   room = omega arith;
   read = [];
   consumed = Consumes-nil _;

@@ -20,8 +20,8 @@ slice_bounds-write_records-end c =
 
 pub returns-then-r-eq0 : goal.returns-then-r-eq0
 returns-then-r-eq0 c =
-    let s : 4096 ≡ length c.filled-scratch.result = c.filled-scratch.ensures in
-    let v : 16384 ≡ length c.filled-image.result = c.filled-image.ensures in
+    let s : 4096 ≡ length c.filled-scratch.result = c.filled-scratch.ensures.room in
+    let v : 16384 ≡ length c.filled-image.result = c.filled-image.ensures.room in
     let a = c.args in
     let start = c.start-s in
     rw (s, v) (recorded a.text.now c.filled-image.result _ (recordable c.translate-r.ensures c.if-r-eq0.true) (sym v) (omega arith) (ap (λ (i : StartAt). i.address) start.ensures) c.write_records.ensures)
@@ -29,7 +29,7 @@ returns-then-r-eq0 c =
 pub returns : goal.returns
 unfolding sheet_records
 returns c =
-    let s : 4096 ≡ length c.filled-scratch.result = c.filled-scratch.ensures in
-    let v : 16384 ≡ length c.filled-image.result = c.filled-image.ensures in
+    let s : 4096 ≡ length c.filled-scratch.result = c.filled-scratch.ensures.room in
+    let v : 16384 ≡ length c.filled-image.result = c.filled-image.ensures.room in
     let p = rw (to_z-of_z {w = w64} {z = c.translate-r.result.value} (search rules)) at c.put_refusal.ensures in
     (printed_into (rw (s, v, ← refusal_is c.translate-r.ensures c.if-r-eq0.false) p.0), omega arith)
