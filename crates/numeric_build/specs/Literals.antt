@@ -1,6 +1,9 @@
 -- Numbers in places, as literals. Assumes nothing.
-use Rattle.std.specs.Prelude.{ℕ, zero, suc, ◌+◌, ◌-◌, ◌≤◌, ◌<◌, ◌≡◌, refl, Bool, true, false, List, [], ◌∷◌, ◌++◌, length, take, drop, get_or, set, ℤ, cond, leb}
+use Rattle.std.specs.Prelude.{ℕ, zero, suc, ◌+◌, ◌-◌, ◌≤◌, ◌<◌, ◌≡◌, refl, Bool, true, false, ◌&&◌, List, [], ◌∷◌, ◌++◌, length, take, drop, get_or, set, ℤ, cond, leb}
 use Rattle.std.proofs.Common.{sym, ap, ◌∙◌, arith, take-suc, add-one}
+use Rattle.std.proofs.Common.{le-leb}
+use Rattle.std.proofs.Math.Decide.{dec_le}
+use Rattle.std.proofs.lemmas.Bool.{lt-leb}
 use Rattle.std.proofs.lemmas.List.{drop-take}
 use Rattle.std.proofs.lemmas.Grind.{take-set_at}
 use Rattle.base_facts.specs.Tests.{cond_true, cond_false, leb-true, leb_not}
@@ -45,7 +48,7 @@ literals_more ls ss ms k l w g e =
     ∙ ap (λ v. take k (literals_from ss ms) ++ (v ∷ [])) (sym (literal_at ss ms k h g))
     ∙ rw add-one (sym (take-suc (literals_from ss ms) k nothing inside))
 
-take_whole : {A : Type 0} (n : ℕ) (l : List A) → length l ≡ n → take n l ≡ l
+pub take_whole : {A : Type 0} (n : ℕ) (l : List A) → length l ≡ n → take n l ≡ l
 take_whole zero [] e = refl
 take_whole zero (x ∷ l) e = absurd (omega arith)
 take_whole (suc n) [] e = absurd (omega arith)
@@ -55,6 +58,20 @@ take_whole (suc n) (x ∷ l) e = ap (λ t. x ∷ t) (take_whole n l (omega arith
 pub literals_whole : (ls : List Literal) (ss : List Bool) (ms : List ℕ) (k : ℕ) → k ≡ 24 → length ls ≡ 24 → length ss ≡ 24 → length ms ≡ 24 → take k ls ≡ take k (literals_from ss ms) → ls ≡ literals_from ss ms
 literals_whole ls ss ms k e l a b p =
     sym (take_whole k ls (l ∙ sym e)) ∙ p ∙ take_whole k (literals_from ss ms) (omega (arith, literals_length ss ms (a ∙ sym b)))
+
+-- the first ones, where the loop ends
+pub taken_to : (ls : List Literal) (ss : List Bool) (ms : List ℕ) (k n : ℕ) → k ≡ n → take k ls ≡ take k (literals_from ss ms) → take n ls ≡ take n (literals_from ss ms)
+taken_to ls ss ms k n e p = ap (λ (t : ℕ). take t ls) (sym e) ∙ p ∙ ap (λ (t : ℕ). take t (literals_from ss ms)) e
+
+-- where the first ones agree, so do those from a place on
+pub taken_between : {A : Type 0} (a b : List A) (k n : ℕ) → k ≤ n → take n a ≡ take n b → take (n - k) (drop k a) ≡ take (n - k) (drop k b)
+taken_between a b k n h e =
+    let whole : k + (n - k) ≡ n = omega arith in
+    sym (drop-take k (n - k) a)
+    ∙ ap (λ (t : ℕ). drop k (take t a)) whole
+    ∙ ap (drop k) e
+    ∙ ap (λ (t : ℕ). drop k (take t b)) (sym whole)
+    ∙ drop-take k (n - k) b
 
 take_few : {A : Type 0} (n : ℕ) (l : List A) → length (take n l) ≤ n
 take_few zero l = omega arith
@@ -87,9 +104,9 @@ module _ (count : ℕ) (ss : List Bool) (ms : List ℕ) (k : ℕ) where
   abbrev ns : Numbers
   ns = numbers_in count ss ms
 
-  pub build_is : k ≤ count → count ≤ 24 → built_of (form.numbers_in (take (count - k) (drop k (literals_from ss ms)))) ≡ built_from ns k
+  pub build_between : k ≤ count → count ≤ 24 → built_of (form.numbers_in (take (count - k) (drop k (literals_from ss ms)))) ≡ built_from ns k
   unfolding numbers_held
-  build_is h g =
+  build_between h g =
       let whole : k + (count - k) ≡ count = omega arith in
       ap built_of (
       ap form.numbers_in (sym (drop-take k (count - k) (literals_from ss ms)))
@@ -111,3 +128,36 @@ module _ (count : ℕ) (ss : List Bool) (ms : List ℕ) (k : ℕ) where
 
   pub build_many : 24 < count → NotInForm ≡ built_from ns k
   build_many h = sym (cond_false (leb count 24) _ _ (leb_not count 24 h))
+
+-- what the code builds of the literals from a place on
+abbrev pub build_of : Numbers → ℕ → Built
+build_of ns k =
+    cond (leb k ns.count && leb ns.count 24)
+    (built_of (form.numbers_in (take (ns.count - k) (drop k (literals_from ns.negative ns.magnitude)))))
+    NotInForm
+
+module _ (ns : Numbers) (k : ℕ) where
+  abbrev within : Bool
+  within = leb k ns.count && leb ns.count 24
+
+  pub build_there : k ≤ ns.count → ns.count ≤ 24 → built_of (form.numbers_in (take (ns.count - k) (drop k (literals_from ns.negative ns.magnitude)))) ≡ build_of ns k
+  build_there h g = sym (cond_true within _ _ (rw (le-leb k ns.count h, le-leb ns.count 24 g) refl))
+
+  pub build_over : 24 < ns.count → NotInForm ≡ build_of ns k
+  build_over g = sym (cond_false within _ _ (go (leb k ns.count) (leb ns.count 24) (lt-leb ns.count 24 g)))
+    where
+      go : (s t : Bool) → t ≡ false → s && t ≡ false
+      go true t e = e
+      go false t e = refl
+
+  pub build_beyond : ns.count < k → NotInForm ≡ build_of ns k
+  build_beyond h = sym (cond_false within _ _ (rw (lt-leb k ns.count h) refl))
+
+  -- is what the numbers from that place on say
+  pub build_is : build_of ns k ≡ built_from ns k
+  build_is = go (dec_le k ns.count) (dec_le ns.count 24)
+    where
+      go : Dec (k ≤ ns.count) → Dec (ns.count ≤ 24) → build_of ns k ≡ built_from ns k
+      go (yes h) (yes g) = sym (build_there h g) ∙ build_between ns.count ns.negative ns.magnitude k h g
+      go (yes h) (no g) = sym (build_over (omega arith)) ∙ build_many ns.count ns.negative ns.magnitude k (omega arith)
+      go (no h) d = sym (build_beyond (omega arith)) ∙ build_past ns.count ns.negative ns.magnitude k (omega arith)

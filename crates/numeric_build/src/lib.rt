@@ -1,29 +1,33 @@
-// From numbers in places to an instruction: the callers' form of `numeric_form::build`.
+// From numbers in places to an instruction: the form that callers of `numeric_form` use.
 #![tactic(auto)]
 
-ghost use Rattle.std.specs.Prelude.{◌≡◌, ◌<◌, ◌≤◌, length};
+ghost use Rattle.std.specs.Prelude.{◌≡◌, ◌<◌, ◌≤◌, length, take};
 ghost use Rattle.numeric_fields.specs.Number.{numbers_in};
 ghost use Rattle.numeric_fields.specs.Taken.{Whole};
-ghost use Rattle.numeric_places.specs.Places.{built_from};
+ghost use Rattle.numeric_places.specs.Places.{built_from, numbers_from};
+ghost use Rattle.numeric_spec.specs.Form.{form_of};
+ghost use Rattle.numeric_build.specs.Places.{in_places};
 ghost use Rattle.numeric_build.specs.Literals.{literals_from};
-ghost use Rattle.numeric_form.specs.Numbers.{as_built};
+ghost use Rattle.numeric_form.specs.Numbers as form;
+ghost use Rattle.numeric_spec.specs.Build.{built_of};
 
-use base_spec::Literal;
+use base_spec::{Literal, Literals};
 use isa::Instruction;
+use numeric_form::Form;
 pub use numeric_places::Numbers;
 pub use numeric_spec::Built;
 
-// Signs and magnitudes, as literals.
-fn literals(negative: &[bool; 24], magnitude: &[u64; 24]) -> [Literal; 24]
-    requires { (length negative.now ≡ 24) × (length magnitude.now ≡ 24) }
-    ensures { result ≡ literals_from negative.now magnitude.now }
+// Signs and magnitudes, the first ones as literals.
+fn literals(count: usize, negative: &[bool; 24], magnitude: &[u64; 24]) -> [Literal; 24]
+    requires { (count ≤ 24) × (length negative.now ≡ 24) × (length magnitude.now ≡ 24) }
+    ensures { (length result ≡ 24) × (take count result ≡ take count (literals_from negative.now magnitude.now)) }
 {
     let mut literals = [Literal {
         negative: false,
         magnitude: 0,
     }; 24];
     let mut i: usize = 0;
-    while i < 24 {
+    while i < count {
         literals[i] = Literal {
             negative: negative[i],
             magnitude: magnitude[i],
@@ -33,11 +37,19 @@ fn literals(negative: &[bool; 24], magnitude: &[u64; 24]) -> [Literal; 24]
     literals
 }
 
-fn built(instruction: Option<Instruction>) -> Built
-    ensures { result ≡ as_built instruction }
+// The instruction whose numbers these are, to their end.
+#[tactic(auto, using(crate::proofs::Whole::built_whole, crate::proofs::Whole::built_more, crate::proofs::Whole::built_none))]
+fn built(numbers: &[Literal]) -> Built
+    ensures { result ≡ built_of (form.numbers_in numbers.now) }
 {
-    match instruction {
-        Some(i) => Built::Instruction(i),
+    match Instruction::take(numbers) {
+        Some((instruction, rest)) => {
+            if rest.is_empty() {
+                Built::Instruction(instruction)
+            } else {
+                Built::NotInForm
+            }
+        }
         None => Built::NotInForm,
     }
 }
@@ -47,9 +59,9 @@ pub fn build_in(count: usize, negative: &[bool; 24], magnitude: &[u64; 24], from
     requires { Whole (numbers_in count negative.now magnitude.now) }
     ensures { result ≡ built_from (numbers_in count negative.now magnitude.now) from }
 {
-    let literals = literals(negative, magnitude);
     if from <= count && count <= 24 {
-        built(numeric_form::build(&literals[from..count]))
+        let literals = literals(count, negative, magnitude);
+        built(&literals[from..count])
     } else {
         Built::NotInForm
     }
@@ -62,4 +74,31 @@ pub fn build(numbers: Numbers, from: usize) -> Built
     let negative = numbers.negative;
     let magnitude = numbers.magnitude;
     build_in(numbers.count, &negative, &magnitude, from)
+}
+
+fn in_places(literals: Literals) -> Numbers
+    requires { length literals.places ≡ 24 }
+    ensures { result ≡ in_places literals }
+{
+    let places = literals.places;
+    let mut negative: [bool; 24] = [false; 24];
+    let mut magnitude: [u64; 24] = [0; 24];
+    let mut i: usize = 0;
+    while i < 24 {
+        negative[i] = places[i].negative;
+        magnitude[i] = places[i].magnitude;
+        i += 1;
+    }
+    Numbers {
+        count: literals.count,
+        negative,
+        magnitude,
+    }
+}
+
+// The numbers of an instruction, at most 17: `build` gives it back.
+pub fn numbers(instruction: Instruction) -> Numbers
+    ensures { (result ≡ numbers_from (form_of instruction)) × (result.count ≤ 17) }
+{
+    in_places(numeric_form::numbers(instruction))
 }
