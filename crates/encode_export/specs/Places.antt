@@ -125,13 +125,27 @@ build_of ns k =
     (built_of (form.numbers_in (take (ns.count - k) (drop k (literals_from ns.negative ns.magnitude)))))
     NotInForm
 
+module _ (ns : Numbers) (k : ℕ) where
+  abbrev within : Bool
+  within = leb k ns.count && leb ns.count 24
+
+  pub build_there : k ≤ ns.count → ns.count ≤ 24 → built_of (form.numbers_in (take (ns.count - k) (drop k (literals_from ns.negative ns.magnitude)))) ≡ build_of ns k
+  build_there h g = sym (cond_true within _ _ (rw (le-leb k ns.count h, le-leb ns.count 24 g) refl))
+
+  pub build_over : 24 < ns.count → NotInForm ≡ build_of ns k
+  build_over g = sym (cond_false within _ _ (go (leb k ns.count) (leb ns.count 24) (lt-leb ns.count 24 g)))
+    where
+      go : (s t : Bool) → t ≡ false → s && t ≡ false
+      go true t e = e
+      go false t e = refl
+
+  pub build_beyond : ns.count < k → NotInForm ≡ build_of ns k
+  build_beyond h = sym (cond_false within _ _ (rw (lt-leb k ns.count h) refl))
+
 pub build_is : (ns : Numbers) (k : ℕ) → build_of ns k ≡ built_from ns k
 build_is ns k = go (dec_le k ns.count) (dec_le ns.count 24)
   where
-    t : Bool
-    t = leb k ns.count && leb ns.count 24
-
     go : Dec (k ≤ ns.count) → Dec (ns.count ≤ 24) → build_of ns k ≡ built_from ns k
-    go (yes h) (yes g) = cond_true t _ _ (rw (le-leb k ns.count h, le-leb ns.count 24 g) refl) ∙ build_between ns.count ns.negative ns.magnitude k h g
-    go (yes h) (no g) = cond_false t _ _ (rw (le-leb k ns.count h, lt-leb ns.count 24 (omega arith)) refl) ∙ build_many ns.count ns.negative ns.magnitude k (omega arith)
-    go (no h) d = cond_false t _ _ (rw (lt-leb k ns.count (omega arith)) refl) ∙ build_past ns.count ns.negative ns.magnitude k (omega arith)
+    go (yes h) (yes g) = sym (build_there ns k h g) ∙ build_between ns.count ns.negative ns.magnitude k h g
+    go (yes h) (no g) = sym (build_over ns k (omega arith)) ∙ build_many ns.count ns.negative ns.magnitude k (omega arith)
+    go (no h) d = sym (build_beyond ns k (omega arith)) ∙ build_past ns.count ns.negative ns.magnitude k (omega arith)
