@@ -184,14 +184,38 @@ pub fn read_numbers(line: &[u8]) -> LineNumbers
     r
 }
 
-/// The text from place `at` on; the next place.
-pub fn put(out: &mut [u8], at: usize, text: &[u8]) -> usize
+// Byte by byte: a call of memcpy costs more than a short text.
+fn put_short(out: &mut [u8], at: usize, text: &[u8]) -> usize
+    requires { at + length text.now ≤ length out.old }
+    ensures { (result ≡ at + length text.now) × (out.new ≡ placed out.old at text.now) }
+{
+    let mut i: usize = 0;
+    while i < text.len() {
+        out[at + i] = text[i];
+        i += 1;
+    }
+    at + i
+}
+
+fn put_long(out: &mut [u8], at: usize, text: &[u8]) -> usize
     requires { at + length text.now ≤ length out.old }
     ensures { (result ≡ at + length text.now) × (out.new ≡ placed out.old at text.now) }
 {
     let end = at + text.len();
     out[at..end].copy_from_slice(text);
     end
+}
+
+/// The text from place `at` on; the next place.
+pub fn put(out: &mut [u8], at: usize, text: &[u8]) -> usize
+    requires { at + length text.now ≤ length out.old }
+    ensures { (result ≡ at + length text.now) × (out.new ≡ placed out.old at text.now) }
+{
+    if text.len() < 16 {
+        put_short(out, at, text)
+    } else {
+        put_long(out, at, text)
+    }
 }
 
 /// One byte at place `at`; the next place.
