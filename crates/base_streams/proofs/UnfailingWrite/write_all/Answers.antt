@@ -1,4 +1,4 @@
-use Rattle.std.proofs.Common.{◌≤◌, rules, arith, length, take, subst}
+use Rattle.std.proofs.Common.{◌≤◌, arith, length, take, subst}
 use Rattle.std.proofs.lemmas.List.{take_rest, length-drop}
 use lib.Seq.{take-add}
 use Rattle.std.specs.Io.KnownBytes.{Appends}
