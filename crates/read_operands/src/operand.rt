@@ -1,7 +1,7 @@
 // Effective addresses.
 #![tactic(auto, using(crate::specs::ReadLaws::read_more, crate::specs::ReadLaws::read_bind))]
 
-ghost use Rattle.std.specs.Prelude.{◌≡◌, ℕ};
+ghost use Rattle.std.specs.Prelude.{◌≡◌, ◌<◌, ℕ};
 ghost use Rattle.read_places.specs.RunAt.{run_at};
 ghost use Rattle.read_spec.specs.Operand.{immediate_tree, special_tree, mode_tree, operand_tree};
 ghost use Rattle.read_operands.specs.Read.{read_of_at};
@@ -96,6 +96,27 @@ fn special(
     }
 }
 
+// By the mode field and the register field, where words follow.
+// Not inlined: the operands without words would go by memory.
+#[inline(never)]
+fn with_words(
+    words: &[u16],
+    address: u32,
+    at: usize,
+    size: Size,
+    m: u8,
+    k: u8,
+) -> Result<(Operand, usize), Unread>
+    ensures { 4 < m → result ≡ read_of_at (run_at (mode_tree size m k) address words.now at) }
+{
+    match m {
+        5 => displaced(words, at, k),
+        6 => index::indexed(words, address, at, k),
+        7 => special(words, address, at, size, k),
+        _ => Err(Unread::Nothing),
+    }
+}
+
 // By the mode field and the register field.
 fn by_mode(
     words: &[u16],
@@ -113,10 +134,7 @@ fn by_mode(
         2 => Ok((Operand::Indirect(k), at)),
         3 => Ok((Operand::PostIndirect(k), at)),
         4 => Ok((Operand::PreIndirect(k), at)),
-        5 => displaced(words, at, k),
-        6 => index::indexed(words, address, at, k),
-        7 => special(words, address, at, size, k),
-        _ => Err(Unread::Nothing),
+        _ => with_words(words, address, at, size, m, k),
     }
 }
 
