@@ -1,4 +1,0 @@
-use Rattle.read_operands.proofs.operand.by_mode.Goals as goal
-
-pub returns-in-5 : goal.returns-in-5
-returns-in-5 c = rw c.in-5.is (c.displaced.ensures c.args.address)
