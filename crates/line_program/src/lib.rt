@@ -51,7 +51,8 @@ pub fn answers<A: Answer>(asked: &A, text: &[u8], from: usize, out: &mut [u8]) -
     Step { next, count: at }
 }
 
-// In few writes.
+// In few writes. Not inlined: an input that is too long needs no room for answers.
+#[inline(never)]
 fn print_answers<A: AnswerLines, W: Write>(asked: &A, text: &[u8], output: &mut W) -> io::Result<()>
     ensures { OnOk result (Appends (W.contents output.old) (W.contents output.new) (answers_of A.answer_of text.now)) }
 {

@@ -31,7 +31,8 @@ fn listing(text: &[u8], out: &mut [u8]) -> Output
     sheet_print::print(text, &mut image, &mut scratch, out)
 }
 
-// With room for 4,096 lines of at most 69 bytes.
+// With room for 4,096 lines of at most 69 bytes. Not inlined: a text that is too long needs no such room.
+#[inline(never)]
 fn print_listing<W: Write>(text: &[u8], output: &mut W) -> io::Result<()>
     ensures { OnOk result (Appends (W.contents output.old) (W.contents output.new) (printed_of full text.now 4096 16384)) }
 {

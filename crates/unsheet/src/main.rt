@@ -19,7 +19,8 @@ fn unsheeted(text: &[u8], out: &mut [u8]) -> usize
     unsheet_print::print_records(text, &mut image, 65536, out)
 }
 
-// With room for the most bytes that a sheet has.
+// With room for the most bytes that a sheet has. Not inlined: a text that is too long needs no such room.
+#[inline(never)]
 fn print_records<W: Write>(text: &[u8], output: &mut W) -> io::Result<()>
     ensures { OnOk result (Appends (W.contents output.old) (W.contents output.new) (records_sheet text.now 45056 65536)) }
 {
