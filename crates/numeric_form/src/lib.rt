@@ -37,6 +37,15 @@ pub trait Form: Sized {
     ghost exact: { Exact form taken };
 }
 
+/// No numbers yet.
+pub const NO_NUMBERS: Literals = Literals {
+    places: [Literal {
+        negative: false,
+        magnitude: 0,
+    }; 24],
+    count: 0,
+};
+
 /// The instruction whose numbers these are.
 #[tactic(auto, using(crate::proofs::Whole::built_whole, crate::proofs::Whole::built_more, crate::proofs::Whole::built_none))]
 pub fn build(numbers: &[Literal]) -> Option<Instruction>
@@ -46,19 +55,23 @@ pub fn build(numbers: &[Literal]) -> Option<Instruction>
     rest.is_empty().then_some(instruction)
 }
 
-/// The numbers of an instruction, at most 17: `build` gives it back.
+/// The numbers of an instruction, at most 17, in place of those that are there: `build` gives it back.
+// Lent: a `Literals` of 392 bytes that is returned is filled and copied three times.
 #[tactic(auto, using(crate::specs::PushedLaws::form_pushed, crate::specs::PushedLaws::form_count), unfolding(crate::specs::Numbers::none))]
+pub fn write_numbers(instruction: Instruction, numbers: &mut Literals)
+    ensures value { numbers.new ≡ numbers_from (form_of instruction) }
+    ensures few { numbers.new.count ≤ 17 }
+{
+    *numbers = NO_NUMBERS;
+    instruction.push(numbers);
+}
+
+/// The numbers of an instruction, at most 17: `build` gives it back.
 pub fn numbers(instruction: Instruction) -> Literals
     ensures value { result ≡ numbers_from (form_of instruction) }
     ensures few { result.count ≤ 17 }
 {
-    let mut numbers = Literals {
-        places: [Literal {
-            negative: false,
-            magnitude: 0,
-        }; 24],
-        count: 0,
-    };
-    instruction.push(&mut numbers);
+    let mut numbers = NO_NUMBERS;
+    write_numbers(instruction, &mut numbers);
     numbers
 }

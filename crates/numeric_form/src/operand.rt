@@ -17,6 +17,8 @@ impl Form for Operand {
 
     ghost taken = { take_operand };
 
+    // Not inlined: each of the places that call it would fill a copy of the operand for every instruction.
+    #[inline(never)]
     fn push(self, numbers: &mut Literals) {
         match self {
             Operand::Immediate(value) => {

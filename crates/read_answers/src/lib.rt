@@ -65,7 +65,8 @@ fn put_instruction(out: &mut [u8], at: usize, instruction: Instruction, bytes: u
     requires { at + 398 ≤ length out.old }
     ensures { Wrote out.old at (read_text (numbers_of instruction) bytes) out.new result × (result ≤ at + 398) }
 {
-    let numbers = numeric_form::numbers(instruction);
+    let mut numbers = numeric_form::NO_NUMBERS;
+    numeric_form::write_numbers(instruction, &mut numbers);
     put_read(out, at, &numbers.places[..numbers.count], bytes)
 }
 

@@ -98,7 +98,8 @@ pub fn put_line(
     requires { at + 374 ≤ length out.old }
     ensures { Wrote out.old at (spell (tokens_of (lands_in start lines.now) instruction) ++ (10 ∷ [])) out.new result × (result ≤ at + 374) }
 {
-    let numbers = numeric_form::numbers(instruction);
+    let mut numbers = numeric_form::NO_NUMBERS;
+    numeric_form::write_numbers(instruction, &mut numbers);
     let count = numbers.count;
     let mut kinds = sheet_kinds::INSTRUCTION;
     let mut next = at;

@@ -6,5 +6,5 @@ use Rattle.read_answers.proofs.put_instruction.Goals as goal
 pub returns : goal.returns
 unfolding literals_held
 returns c =
-    let ns = c.numbers-numbers in
-    rw (put_text_lem c.args.instruction ns.result c.args.bytes ns.ensures.value) at c.put_read.ensures
+    let ns = c.write_numbers in
+    rw (put_text_lem c.args.instruction ns.new.numbers c.args.bytes ns.ensures.value) at c.put_read.ensures
