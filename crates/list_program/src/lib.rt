@@ -20,6 +20,9 @@ pub trait Case {
 
     ghost text_of: { Header → List ℕ → List ℕ };
 
+    /// Whether the empty line behind an answer is a write of its own.
+    const APART: bool;
+
     /// How many numbers a header has, and how large they are.
     fn limits(&self) -> Limits
         ensures { result ≡ limits };
@@ -46,7 +49,19 @@ fn answer_line<C: Case>(
     Some(n + 1)
 }
 
-// Each answer with an empty line behind it, in one write, as far as the list is in the form.
+// In one write, or the last byte in one of its own.
+fn write_line<W: Write>(line: &[u8], apart: bool, output: &mut W) -> io::Result<()>
+    ensures { OnOk result (Appends (W.contents output.old) (W.contents output.new) line.now) }
+{
+    if apart && !line.is_empty() {
+        let last = line.len() - 1;
+        output.write_all(&line[..last])?;
+        return output.write_all(&line[last..]);
+    }
+    output.write_all(line)
+}
+
+// Each answer with an empty line behind it, as far as the list is in the form.
 fn print_cases<C: Case, W: Write>(asked: &mut C, list: &[u8], output: &mut W) -> io::Result<()>
     ensures { OnOk result (Appends (W.contents output.old) (W.contents output.new) (cases_of C.limits C.is_answered C.text_of list.now)) }
 {
@@ -60,7 +75,7 @@ fn print_cases<C: Case, W: Write>(asked: &mut C, list: &[u8], output: &mut W) ->
         let Some(n) = answer_line(asked, h, &list[h.begin..h.end], &mut out) else {
             return output.write_all(b"list\n");
         };
-        output.write_all(&out[..n])?;
+        write_line(&out[..n], C::APART, output)?;
         from = h.end;
     }
     Ok(())

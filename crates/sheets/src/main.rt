@@ -67,6 +67,8 @@ impl Case for Sheets {
 
     ghost text_of = { case_text };
 
+    const APART: bool = false;
+
     fn limits(&self) -> Limits {
         Limits {
             least: 3,

@@ -98,6 +98,8 @@ impl Case for Records {
 
     ghost text_of = { case_text };
 
+    const APART: bool = true;
+
     fn limits(&self) -> Limits {
         Limits {
             least: 3,

@@ -41,6 +41,8 @@ impl Case for Images {
 
     ghost text_of = { case_text };
 
+    const APART: bool = true;
+
     fn limits(&self) -> Limits {
         Limits {
             least: 2,

@@ -42,6 +42,6 @@ loop-from-preserved g c =
       most = pred i.most;
       enough = left i.most _ _ _ i.enough c.in-Some.ensures.within.place.onward;
       done = i.done ++ t;
-      written = Appends-trans _ _ _ _ _ i.written c.in_ok-write_all.ensures.bytes;
+      written = Appends-trans _ _ _ _ _ i.written c.in_ok-write_line.ensures;
       rest = i.rest ∙ ap (λ l. i.done ++ l) turn ∙ sym (append_assoc i.done t (cases_from C.limits C.is_answered C.text_of c.args.list.now (pred i.most) h.end));
     }
