@@ -54,6 +54,7 @@ pub fn immediate_reason(operation: ImmediateOperation) -> u8
 
 // ORI ANDI SUBI ADDI EORI CMPI: the immediate's words, then the destination's.
 #[tactic(auto, unfolding(encode_spec::specs::Arithmetic::immediate_parts))]
+#[inline(never)]
 pub fn immediate_into(
     e: Encoder,
     operation: ImmediateOperation,
@@ -91,6 +92,7 @@ pub fn quick_bit(operation: QuickOperation) -> u16
 
 // ADDQ SUBQ: the count in bits 11 to 9, 8 written as 0.
 #[tactic(auto, unfolding(encode_spec::specs::Arithmetic::quick_parts, encode_spec::specs::Ea::single))]
+#[inline(never)]
 pub fn quick(
     e: Encoder,
     operation: QuickOperation,
@@ -302,6 +304,7 @@ pub fn high_bits(high: Option<u8>) -> u16
 
 // MULS.L MULU.L.
 #[tactic(auto, unfolding(encode_spec::specs::Arithmetic::mull_parts))]
+#[inline(never)]
 pub fn mull(
     e: Encoder,
     source: Operand,
@@ -321,6 +324,7 @@ pub fn mull(
 
 // DIVS.L DIVU.L and their long forms.
 #[tactic(auto, unfolding(encode_spec::specs::Arithmetic::divl_parts))]
+#[inline(never)]
 pub fn divl(
     e: Encoder,
     source: Operand,
@@ -405,6 +409,7 @@ pub fn ext_opmode(from: Size, to: Size) -> u16
 
 // EXT.W EXT.L EXTB.L.
 #[tactic(auto, unfolding(encode_spec::specs::Arithmetic::ext_parts))]
+#[inline(never)]
 pub fn ext(e: Encoder, register: RegisterOperand, from: Size, to: Size) -> Result<Encoder, Refusal>
     ensures { result ≡ run_parts (ext_parts register from to) (Ok e) }
 {
@@ -416,6 +421,7 @@ pub fn ext(e: Encoder, register: RegisterOperand, from: Size, to: Size) -> Resul
 
 // SWAP.
 #[tactic(auto, unfolding(encode_spec::specs::Arithmetic::swap_parts))]
+#[inline(never)]
 pub fn swap(e: Encoder, register: RegisterOperand) -> Result<Encoder, Refusal>
     ensures { result ≡ run_parts (swap_parts register) (Ok e) }
 {

@@ -129,6 +129,7 @@ pub fn in_range(e: Encoder, field: BitField) -> Result<Encoder, Refusal>
 
 // The bit-field instructions.
 #[tactic(auto, unfolding(encode_spec::specs::Bits::bit_field_parts, encode_spec::specs::Ea::permits))]
+#[inline(never)]
 pub fn bit_field(
     e: Encoder,
     operation: BitFieldOperation,

@@ -71,6 +71,7 @@ pub fn branch(
 
 // Bcc.
 #[tactic(auto, unfolding(encode_spec::specs::Control::bcc_parts, encode_spec::specs::Control::branch_parts))]
+#[inline(never)]
 pub fn bcc(
     e: Encoder,
     target: u32,
@@ -86,6 +87,7 @@ pub fn bcc(
 
 // DBcc.
 #[tactic(auto, unfolding(encode_spec::specs::Control::dbcc_parts))]
+#[inline(never)]
 pub fn dbcc(
     e: Encoder,
     register: RegisterOperand,
@@ -107,6 +109,7 @@ pub fn dbcc(
 
 // Scc.
 #[tactic(auto, unfolding(encode_spec::specs::Control::scc_parts, encode_spec::specs::Ea::single))]
+#[inline(never)]
 pub fn scc(e: Encoder, target: Operand, condition: Condition) -> Result<Encoder, Refusal>
     ensures { result ≡ run_parts (scc_parts target condition) (Ok e) }
 {
@@ -147,6 +150,7 @@ fn trap_words(e: Encoder, operand: TrapOperand) -> Result<Encoder, Refusal>
 
 // TRAPcc.
 #[tactic(auto, unfolding(encode_spec::specs::Control::trapcc_parts))]
+#[inline(never)]
 pub fn trapcc(e: Encoder, condition: Condition, operand: TrapOperand) -> Result<Encoder, Refusal>
     ensures { result ≡ run_parts (trapcc_parts condition operand) (Ok e) }
 {
@@ -156,6 +160,7 @@ pub fn trapcc(e: Encoder, condition: Condition, operand: TrapOperand) -> Result<
 
 // RTD.
 #[tactic(auto, unfolding(encode_spec::specs::Control::rtd_parts))]
+#[inline(never)]
 pub fn rtd(e: Encoder, displacement: u32) -> Result<Encoder, Refusal>
     ensures { result ≡ run_parts (rtd_parts displacement) (Ok e) }
 {

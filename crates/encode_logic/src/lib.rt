@@ -146,6 +146,7 @@ pub fn shift_memory(
 
 // A shift or rotate.
 #[tactic(auto, unfolding(encode_spec::specs::Logic::shift_parts, encode_spec::specs::Logic::shift_register_parts, encode_spec::specs::Logic::shift_memory_parts, encode_spec::specs::Ea::single))]
+#[inline(never)]
 pub fn shift(
     e: Encoder,
     operation: ShiftOperation,

@@ -69,6 +69,7 @@ pub fn movem_reason(direction: TargetDirection) -> u8
 
 // MOVEM: the mask before the operand's words.
 #[tactic(auto, unfolding(encode_spec::specs::Movement::movem_parts))]
+#[inline(never)]
 pub fn movem(
     e: Encoder,
     direction: TargetDirection,
@@ -123,6 +124,7 @@ pub fn movep(
 
 // MOVEQ: the data in bits 7 to 0.
 #[tactic(auto, unfolding(encode_spec::specs::Movement::moveq_parts))]
+#[inline(never)]
 pub fn moveq(e: Encoder, value: u8, register: RegisterOperand) -> Result<Encoder, Refusal>
     ensures { result ≡ run_parts (moveq_parts value register) (Ok e) }
 {
@@ -150,6 +152,7 @@ pub fn exg_opmode(first: RegisterOperand, second: RegisterOperand) -> u16
 
 // EXG.
 #[tactic(auto, unfolding(encode_spec::specs::Movement::exg_parts))]
+#[inline(never)]
 pub fn exg(e: Encoder, first: RegisterOperand, second: RegisterOperand) -> Result<Encoder, Refusal>
     ensures { result ≡ run_parts (exg_parts first second) (Ok e) }
 {
@@ -191,6 +194,7 @@ pub fn linkl(e: Encoder, register: RegisterOperand, displacement: u32) -> Result
 
 // UNLK.
 #[tactic(auto, unfolding(encode_spec::specs::Movement::unlk_parts))]
+#[inline(never)]
 pub fn unlk(e: Encoder, register: RegisterOperand) -> Result<Encoder, Refusal>
     ensures { result ≡ run_parts (unlk_parts register) (Ok e) }
 {

@@ -18,6 +18,7 @@ use isa::{
 
 // ADDA SUBA CMPA MOVEA CMP CHK2 CMP2.
 #[tactic(auto, unfolding(encode_spec::specs::Instruction::register_parts))]
+#[inline(never)]
 pub fn into_register(
     e: Encoder,
     op: RegisterOperation,
@@ -40,6 +41,7 @@ pub fn into_register(
 
 // MOVEP MOVES.
 #[tactic(auto, unfolding(encode_spec::specs::Instruction::transfer_parts))]
+#[inline(never)]
 pub fn transfer(
     e: Encoder,
     op: TransferOperation,
@@ -58,6 +60,7 @@ pub fn transfer(
 
 // MOVE ADD SUB ADDX SUBX CMPM OR AND EOR.
 #[tactic(auto, unfolding(encode_spec::specs::Instruction::pair_parts))]
+#[inline(never)]
 pub fn pair(
     e: Encoder,
     op: PairOperation,
@@ -102,6 +105,7 @@ pub fn pair(
 
 // DIVx MULx.
 #[tactic(auto, unfolding(encode_spec::specs::Instruction::word_parts))]
+#[inline(never)]
 pub fn word_into_data(
     e: Encoder,
     op: WordOperation,
@@ -138,6 +142,7 @@ pub fn word_into_data(
 
 // LEA CHK CHKL.
 #[tactic(auto, unfolding(encode_spec::specs::Instruction::unsized_register_parts))]
+#[inline(never)]
 pub fn unsized_into_register(
     e: Encoder,
     op: UnsizedRegisterOperation,
@@ -228,6 +233,7 @@ fn written(
 
 // PEA NBCD JSR JMP TAS, and MOVE to and from CCR and SR.
 #[tactic(auto, unfolding(encode_spec::specs::Instruction::unsized_one_parts))]
+#[inline(never)]
 pub fn unsized_one(e: Encoder, op: UnsizedOneOperation, o: Operand) -> Result<Encoder, Refusal>
     ensures { result ≡ run_parts (unsized_one_parts op o) (Ok e) }
 {
@@ -246,6 +252,7 @@ pub fn unsized_one(e: Encoder, op: UnsizedOneOperation, o: Operand) -> Result<En
 
 // ABCD SBCD BTST BCLR BSET BCHG.
 #[tactic(auto, unfolding(encode_spec::specs::Instruction::unsized_pair_parts))]
+#[inline(never)]
 pub fn unsized_pair(
     e: Encoder,
     op: UnsizedPairOperation,
@@ -266,6 +273,7 @@ pub fn unsized_pair(
 
 // CLR NEG NEGX NOT TST.
 #[tactic(auto, unfolding(encode_spec::specs::Instruction::one_parts))]
+#[inline(never)]
 pub fn one_operand(e: Encoder, op: OneOperation, o: Operand, s: Size) -> Result<Encoder, Refusal>
     ensures { result ≡ run_parts (one_parts op o s) (Ok e) }
 {
@@ -281,6 +289,7 @@ pub fn one_operand(e: Encoder, op: OneOperation, o: Operand, s: Size) -> Result<
 
 // BRA BSR.
 #[tactic(auto, unfolding(encode_spec::specs::Instruction::branches_parts))]
+#[inline(never)]
 pub fn branches(
     e: Encoder,
     op: BranchOperation,
@@ -297,6 +306,7 @@ pub fn branches(
 
 // LINK LINK.L.
 #[tactic(auto, unfolding(encode_spec::specs::Instruction::links_parts))]
+#[inline(never)]
 pub fn links(
     e: Encoder,
     op: LinkOperation,
@@ -313,6 +323,7 @@ pub fn links(
 
 // PACK UNPK.
 #[tactic(auto, unfolding(encode_spec::specs::Instruction::packs_parts))]
+#[inline(never)]
 pub fn packs(
     e: Encoder,
     op: PackOperation,

@@ -25,6 +25,7 @@ fn status_operation(e: Encoder, operation: StatusOperation) -> Result<Encoder, R
 
 // ANDI, ORI and EORI to SR, and STOP.
 #[tactic(auto, unfolding(encode_spec::specs::System::status_parts))]
+#[inline(never)]
 pub fn status(e: Encoder, operation: StatusOperation, value: u16) -> Result<Encoder, Refusal>
     ensures { result ≡ run_parts (status_parts operation value) (Ok e) }
 {
@@ -48,6 +49,7 @@ fn condition_code_operation(
 
 // ANDI, ORI and EORI to CCR.
 #[tactic(auto, unfolding(encode_spec::specs::System::condition_code_parts))]
+#[inline(never)]
 pub fn condition_code(
     e: Encoder,
     operation: ConditionCodeOperation,
@@ -61,6 +63,7 @@ pub fn condition_code(
 
 // TRAP and BKPT.
 #[tactic(auto, unfolding(encode_spec::specs::System::vector_parts))]
+#[inline(never)]
 pub fn vector(e: Encoder, operation: VectorOperation, value: u8) -> Result<Encoder, Refusal>
     ensures { result ≡ run_parts (vector_parts operation value) (Ok e) }
 {
@@ -85,6 +88,7 @@ fn usp_field(to_usp: bool) -> u16
 
 // MOVE USP.
 #[tactic(auto, unfolding(encode_spec::specs::System::moveusp_parts))]
+#[inline(never)]
 pub fn moveusp(e: Encoder, to_usp: bool, register: RegisterOperand) -> Result<Encoder, Refusal>
     ensures { result ≡ run_parts (moveusp_parts to_usp register) (Ok e) }
 {
@@ -99,6 +103,7 @@ pub fn moveusp(e: Encoder, to_usp: bool, register: RegisterOperand) -> Result<En
 
 // MOVEC.
 #[tactic(auto, unfolding(encode_spec::specs::System::movec_parts))]
+#[inline(never)]
 pub fn movec(
     e: Encoder,
     to_control: bool,
@@ -138,6 +143,7 @@ pub fn moves(
 
 // CAS.
 #[tactic(auto, unfolding(encode_spec::specs::System::cas_parts))]
+#[inline(never)]
 pub fn cas(
     e: Encoder,
     compare: u8,
@@ -178,6 +184,7 @@ fn cas2_word(
 
 // CAS2.
 #[tactic(auto, unfolding(encode_spec::specs::System::cas2_parts))]
+#[inline(never)]
 pub fn cas2(
     e: Encoder,
     compare1: u8,
@@ -198,6 +205,7 @@ pub fn cas2(
 
 // LINEA and LINEF, which stay in their line, and any other word.
 #[tactic(auto, unfolding(encode_spec::specs::System::raw_parts))]
+#[inline(never)]
 pub fn raw(e: Encoder, operation: RawOperation, word: u16) -> Result<Encoder, Refusal>
     ensures { result ≡ run_parts (raw_parts operation word) (Ok e) }
 {
@@ -216,6 +224,7 @@ pub fn raw(e: Encoder, operation: RawOperation, word: u16) -> Result<Encoder, Re
 
 // Instructions without operands.
 #[tactic(auto, unfolding(encode_spec::specs::System::no_operand_parts))]
+#[inline(never)]
 pub fn no_operand(e: Encoder, operation: NoOperandOperation) -> Result<Encoder, Refusal>
     ensures { result ≡ run_parts (no_operand_parts operation) (Ok e) }
 {

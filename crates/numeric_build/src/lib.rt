@@ -17,15 +17,21 @@ use numeric_form::Form;
 pub use numeric_places::Numbers;
 pub use numeric_spec::Built;
 
-// Signs and magnitudes, the first ones as literals.
-fn literals(count: usize, negative: &[bool; 24], magnitude: &[u64; 24]) -> [Literal; 24]
-    requires { (count ≤ 24) × (length negative.now ≡ 24) × (length magnitude.now ≡ 24) }
-    ensures { (length result ≡ 24) × (take count result ≡ take count (literals_from negative.now magnitude.now)) }
+const NOTHING: Literal = Literal {
+    negative: false,
+    magnitude: 0,
+};
+
+// Signs and magnitudes, the first ones as literals in a lent place.
+fn write_literals(
+    count: usize,
+    negative: &[bool; 24],
+    magnitude: &[u64; 24],
+    literals: &mut [Literal; 24],
+)
+    requires { (count ≤ 24) × (length negative.now ≡ 24) × (length magnitude.now ≡ 24) × (length literals.old ≡ 24) }
+    ensures { (length literals.new ≡ 24) × (take count literals.new ≡ take count (literals_from negative.now magnitude.now)) }
 {
-    let mut literals = [Literal {
-        negative: false,
-        magnitude: 0,
-    }; 24];
     let mut i: usize = 0;
     while i < count {
         literals[i] = Literal {
@@ -34,7 +40,6 @@ fn literals(count: usize, negative: &[bool; 24], magnitude: &[u64; 24]) -> [Lite
         };
         i += 1;
     }
-    literals
 }
 
 // The instruction whose numbers these are, to their end.
@@ -60,7 +65,8 @@ pub fn build_in(count: usize, negative: &[bool; 24], magnitude: &[u64; 24], from
     ensures { result ≡ built_from (numbers_in count negative.now magnitude.now) from }
 {
     if from <= count && count <= 24 {
-        let literals = literals(count, negative, magnitude);
+        let mut literals = [NOTHING; 24];
+        write_literals(count, negative, magnitude, &mut literals);
         built(&literals[from..count])
     } else {
         Built::NotInForm

@@ -8,7 +8,7 @@ pub returns-then-count-le24 : goal.returns-then-count-le24
 returns-then-count-le24 c =
     let a = c.args in
     let ns = numbers_in a.count a.negative.now a.magnitude.now in
-    let e = taken_between c.literals-literals.result (literals_from a.negative.now a.magnitude.now) a.from a.count c.if-from-count.true c.literals-literals.ensures.1 in
+    let e = taken_between c.write_literals.new.literals (literals_from a.negative.now a.magnitude.now) a.from a.count c.if-from-count.true c.write_literals.ensures.1 in
     rw (c.built.ensures, e) (build_there ns a.from c.if-from-count.true c.if-count-le24.true ∙ build_is ns a.from)
 
 pub returns-else-from-count : goal.returns-else-from-count
