@@ -57,7 +57,6 @@ fn print_by(
 #[derive(Drop)]
 struct Sheets {
     image: [u16; 45056],
-    scratch: [u32; 4096],
 }
 
 impl Case for Sheets {
@@ -83,16 +82,15 @@ impl Case for Sheets {
         let way = Way::try_from(header.fourth).ok()?;
         let room = header.third;
         let places = header.second;
+        let mut scratch: [u32; 4096] = base_streams::filled(0);
         let image = &mut self.image[..room];
-        let scratch = &mut self.scratch[..places];
-        Some(print_by(way, bytes, image, scratch, out).count)
+        Some(print_by(way, bytes, image, &mut scratch[..places], out).count)
     }
 }
 
 fn main(rt: HostRuntime) -> io::Result<()> {
     let mut sheets = Sheets {
         image: base_streams::filled(0),
-        scratch: base_streams::filled(0),
     };
     let mut input = Unfailing { stream: rt.stdin() };
     let mut output = Unfailing {
