@@ -27,10 +27,17 @@ pub trait Case {
     fn limits(&self) -> Limits
         ensures { result ≡ limits };
 
-    /// Written into the front of `out`; how many bytes.
-    fn answer(&mut self, header: Header, bytes: &[u8], out: &mut [u8]) -> Option<usize>
-        requires { Limited limits header × (282624 ≤ length out.old) }
-        ensures { Answered (is_answered header bytes.now) (text_of header bytes.now) out.old out.new result };
+    /// Written into the front of `out`; how many bytes. The scratch is lent as the case before left it.
+    fn answer(
+        &mut self,
+        header: Header,
+        bytes: &[u8],
+        scratch: &mut [u32],
+        out: &mut [u8],
+    ) -> Option<usize>
+        requires { Limited limits header × (4096 ≤ length scratch.old) × (282624 ≤ length out.old) }
+        ensures answered { Answered (is_answered header bytes.now) (text_of header bytes.now) out.old out.new result }
+        ensures same_room { length scratch.new ≡ length scratch.old };
 }
 
 // The answer to a case with an empty line behind it, in one buffer.
@@ -38,13 +45,15 @@ fn answer_line<C: Case>(
     asked: &mut C,
     header: Header,
     bytes: &[u8],
+    scratch: &mut [u32],
     out: &mut [u8],
 ) -> Option<usize>
-    requires { Limited C.limits header × (282625 ≤ length out.old) }
-    ensures { Answered (C.is_answered header bytes.now) (C.text_of header bytes.now ++ (10 ∷ [])) out.old out.new result }
+    requires { Limited C.limits header × (4096 ≤ length scratch.old) × (282625 ≤ length out.old) }
+    ensures answered { Answered (C.is_answered header bytes.now) (C.text_of header bytes.now ++ (10 ∷ [])) out.old out.new result }
+    ensures same_room { length scratch.new ≡ length scratch.old }
 {
     let room = out.len() - 1;
-    let n = asked.answer(header, bytes, &mut out[..room])?;
+    let n = asked.answer(header, bytes, scratch, &mut out[..room])?;
     out[n] = b'\n';
     Some(n + 1)
 }
@@ -66,13 +75,15 @@ fn print_cases<C: Case, W: Write>(asked: &mut C, list: &[u8], output: &mut W) ->
     ensures { OnOk result (Appends (W.contents output.old) (W.contents output.new) (cases_of C.limits C.is_answered C.text_of list.now)) }
 {
     let limits = asked.limits();
+    let mut scratch: [u32; 4096] = base_streams::filled(0);
     let mut out: [u8; 282625] = base_streams::filled(0);
     let mut from: usize = 0;
     while from < list.len() {
         let Some(h) = base_list::read_header(list, from, limits) else {
             return output.write_all(b"list\n");
         };
-        let Some(n) = answer_line(asked, h, &list[h.begin..h.end], &mut out) else {
+        let bytes = &list[h.begin..h.end];
+        let Some(n) = answer_line(asked, h, bytes, &mut scratch, &mut out) else {
             return output.write_all(b"list\n");
         };
         write_line(&out[..n], C::APART, output)?;

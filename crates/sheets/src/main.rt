@@ -53,7 +53,7 @@ fn print_by(
     }
 }
 
-// What is lent for each sheet of the list.
+// The image that is lent for each sheet of the list.
 #[derive(Drop)]
 struct Sheets {
     image: [u16; 45056],
@@ -78,11 +78,16 @@ impl Case for Sheets {
         }
     }
 
-    fn answer(&mut self, header: Header, bytes: &[u8], out: &mut [u8]) -> Option<usize> {
+    fn answer(
+        &mut self,
+        header: Header,
+        bytes: &[u8],
+        scratch: &mut [u32],
+        out: &mut [u8],
+    ) -> Option<usize> {
         let way = Way::try_from(header.fourth).ok()?;
         let room = header.third;
         let places = header.second;
-        let mut scratch: [u32; 4096] = base_streams::filled(0);
         let image = &mut self.image[..room];
         Some(print_by(way, bytes, image, &mut scratch[..places], out).count)
     }

@@ -110,7 +110,13 @@ impl Case for Records {
         }
     }
 
-    fn answer(&mut self, header: Header, bytes: &[u8], out: &mut [u8]) -> Option<usize> {
+    fn answer(
+        &mut self,
+        header: Header,
+        bytes: &[u8],
+        _: &mut [u32],
+        out: &mut [u8],
+    ) -> Option<usize> {
         answer_by(header.second, bytes, header.third, &mut self.image, out)
     }
 }

@@ -53,7 +53,13 @@ impl Case for Images {
         }
     }
 
-    fn answer(&mut self, header: Header, bytes: &[u8], out: &mut [u8]) -> Option<usize> {
+    fn answer(
+        &mut self,
+        header: Header,
+        bytes: &[u8],
+        _: &mut [u32],
+        out: &mut [u8],
+    ) -> Option<usize> {
         unsheeted(bytes, header.second, &mut self.image, out)
     }
 }
