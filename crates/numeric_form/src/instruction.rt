@@ -133,10 +133,10 @@ impl Form for Instruction {
 
     ghost taken = { take_instruction };
 
-    fn push(self, numbers: &mut Literals) {
+    fn push(&self, numbers: &mut Literals) {
         match self {
             Instruction::IntoRegister(operation, source, register, size) => {
-                push_unsigned(operation as u64, numbers);
+                push_unsigned(*operation as u64, numbers);
                 source.push(numbers);
                 register.push(numbers);
                 size.push(numbers);
@@ -160,20 +160,20 @@ impl Form for Instruction {
                 register,
                 target,
             } => {
-                push_unsigned(operation as u64, numbers);
+                push_unsigned(*operation as u64, numbers);
                 direction.push(numbers);
                 size.push(numbers);
                 register.push(numbers);
                 target.push(numbers);
             }
             Instruction::Pair(operation, source, destination, size) => {
-                push_unsigned(operation as u64, numbers);
+                push_unsigned(*operation as u64, numbers);
                 source.push(numbers);
                 destination.push(numbers);
                 size.push(numbers);
             }
             Instruction::Quick(operation, value, target, size) => {
-                push_unsigned(operation as u64, numbers);
+                push_unsigned(*operation as u64, numbers);
                 value.push(numbers);
                 target.push(numbers);
                 size.push(numbers);
@@ -184,13 +184,13 @@ impl Form for Instruction {
                 register.push(numbers);
             }
             Instruction::ImmediateInto(operation, value, target, size) => {
-                push_unsigned(operation as u64, numbers);
+                push_unsigned(*operation as u64, numbers);
                 value.push(numbers);
                 target.push(numbers);
                 size.push(numbers);
             }
             Instruction::WordIntoData(operation, source, register, sign) => {
-                push_unsigned(operation as u64, numbers);
+                push_unsigned(*operation as u64, numbers);
                 source.push(numbers);
                 register.push(numbers);
                 sign.push(numbers);
@@ -205,16 +205,16 @@ impl Form for Instruction {
                 second.push(numbers);
             }
             Instruction::UnsizedIntoRegister(operation, source, register) => {
-                push_unsigned(operation as u64, numbers);
+                push_unsigned(*operation as u64, numbers);
                 source.push(numbers);
                 register.push(numbers);
             }
             Instruction::UnsizedOne(operation, target) => {
-                push_unsigned(operation as u64, numbers);
+                push_unsigned(*operation as u64, numbers);
                 target.push(numbers);
             }
             Instruction::UnsizedPair(operation, source, destination) => {
-                push_unsigned(operation as u64, numbers);
+                push_unsigned(*operation as u64, numbers);
                 source.push(numbers);
                 destination.push(numbers);
             }
@@ -225,7 +225,7 @@ impl Form for Instruction {
                 to.push(numbers);
             }
             Instruction::OneOperand(operation, target, size) => {
-                push_unsigned(operation as u64, numbers);
+                push_unsigned(*operation as u64, numbers);
                 target.push(numbers);
                 size.push(numbers);
             }
@@ -247,12 +247,12 @@ impl Form for Instruction {
                 condition.push(numbers);
             }
             Instruction::Branch(operation, target, size) => {
-                push_unsigned(operation as u64, numbers);
+                push_unsigned(*operation as u64, numbers);
                 target.push(numbers);
                 size.push(numbers);
             }
             Instruction::Link(operation, register, displacement) => {
-                push_unsigned(operation as u64, numbers);
+                push_unsigned(*operation as u64, numbers);
                 register.push(numbers);
                 displacement.push(numbers);
             }
@@ -261,22 +261,22 @@ impl Form for Instruction {
                 register.push(numbers);
             }
             Instruction::Shift(operation, count, target, direction, size) => {
-                push_unsigned(operation as u64, numbers);
+                push_unsigned(*operation as u64, numbers);
                 count.push(numbers);
                 target.push(numbers);
                 direction.push(numbers);
                 size.push(numbers);
             }
             Instruction::Vector(operation, vector) => {
-                push_unsigned(operation as u64, numbers);
+                push_unsigned(*operation as u64, numbers);
                 vector.push(numbers);
             }
             Instruction::Status(operation, value) => {
-                push_unsigned(operation as u64, numbers);
+                push_unsigned(*operation as u64, numbers);
                 value.push(numbers);
             }
             Instruction::ConditionCode(operation, value) => {
-                push_unsigned(operation as u64, numbers);
+                push_unsigned(*operation as u64, numbers);
                 value.push(numbers);
             }
             Instruction::MOVEUSP { to_usp, register } => {
@@ -285,11 +285,11 @@ impl Form for Instruction {
                 register.push(numbers);
             }
             Instruction::Raw(operation, word) => {
-                push_unsigned(operation as u64, numbers);
+                push_unsigned(*operation as u64, numbers);
                 word.push(numbers);
             }
             Instruction::NoOperand(operation) => {
-                push_unsigned(operation as u64, numbers);
+                push_unsigned(*operation as u64, numbers);
             }
             Instruction::RTD(displacement) => {
                 push_unsigned(83, numbers);
@@ -323,7 +323,7 @@ impl Form for Instruction {
                 sign.push(numbers);
             }
             Instruction::Pack(operation, source, destination, adjustment) => {
-                push_unsigned(operation as u64, numbers);
+                push_unsigned(*operation as u64, numbers);
                 source.push(numbers);
                 destination.push(numbers);
                 adjustment.push(numbers);

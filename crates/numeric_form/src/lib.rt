@@ -27,8 +27,8 @@ pub trait Form: Sized {
     ghost taken: { Take Self };
 
     /// Writes the numbers of the value after those that are there.
-    fn push(self, numbers: &mut Literals)
-        ensures { numbers.new ≡ pushed_all numbers.old (form self) };
+    fn push(&self, numbers: &mut Literals)
+        ensures { numbers.new ≡ pushed_all numbers.old (form self.now) };
 
     /// The value that stands first, and the numbers after it.
     fn take(numbers: &[Literal]) -> Option<(Self, &[Literal])>
@@ -56,7 +56,7 @@ pub fn build(numbers: &[Literal]) -> Option<Instruction>
 }
 
 /// The numbers of an instruction, at most 17, in place of those that are there: `build` gives it back.
-// Lent: a `Literals` of 392 bytes that is returned is filled and copied three times.
+// Lent: a `Literals` of 392 bytes that is returned is filled three times and copied twice.
 #[tactic(auto, using(crate::specs::PushedLaws::form_pushed, crate::specs::PushedLaws::form_count), unfolding(crate::specs::Numbers::none))]
 pub fn write_numbers(instruction: Instruction, numbers: &mut Literals)
     ensures value { numbers.new ≡ numbers_from (form_of instruction) }

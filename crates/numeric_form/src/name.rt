@@ -31,8 +31,8 @@ impl Form for Size {
 
     ghost taken = { take_size };
 
-    fn push(self, numbers: &mut Literals) {
-        push_unsigned(self as u64, numbers);
+    fn push(&self, numbers: &mut Literals) {
+        push_unsigned(*self as u64, numbers);
     }
 
     fn take(numbers: &[Literal]) -> Option<(Size, &[Literal])> {
@@ -57,8 +57,8 @@ impl Form for TargetDirection {
 
     ghost taken = { take_target_direction };
 
-    fn push(self, numbers: &mut Literals) {
-        push_unsigned(self as u64, numbers);
+    fn push(&self, numbers: &mut Literals) {
+        push_unsigned(*self as u64, numbers);
     }
 
     fn take(numbers: &[Literal]) -> Option<(TargetDirection, &[Literal])> {
@@ -83,8 +83,8 @@ impl Form for AddressWidth {
 
     ghost taken = { take_address_width };
 
-    fn push(self, numbers: &mut Literals) {
-        push_unsigned(self as u64, numbers);
+    fn push(&self, numbers: &mut Literals) {
+        push_unsigned(*self as u64, numbers);
     }
 
     fn take(numbers: &[Literal]) -> Option<(AddressWidth, &[Literal])> {
@@ -123,8 +123,8 @@ impl Form for Condition {
 
     ghost taken = { take_condition };
 
-    fn push(self, numbers: &mut Literals) {
-        push_unsigned(self as u64, numbers);
+    fn push(&self, numbers: &mut Literals) {
+        push_unsigned(*self as u64, numbers);
     }
 
     fn take(numbers: &[Literal]) -> Option<(Condition, &[Literal])> {
@@ -150,8 +150,8 @@ impl Form for BranchSize {
 
     ghost taken = { take_branch_size };
 
-    fn push(self, numbers: &mut Literals) {
-        push_unsigned(self as u64, numbers);
+    fn push(&self, numbers: &mut Literals) {
+        push_unsigned(*self as u64, numbers);
     }
 
     fn take(numbers: &[Literal]) -> Option<(BranchSize, &[Literal])> {
@@ -176,8 +176,8 @@ impl Form for ShiftDirection {
 
     ghost taken = { take_shift_direction };
 
-    fn push(self, numbers: &mut Literals) {
-        push_unsigned(self as u64, numbers);
+    fn push(&self, numbers: &mut Literals) {
+        push_unsigned(*self as u64, numbers);
     }
 
     fn take(numbers: &[Literal]) -> Option<(ShiftDirection, &[Literal])> {
@@ -202,8 +202,8 @@ impl Form for Sign {
 
     ghost taken = { take_sign };
 
-    fn push(self, numbers: &mut Literals) {
-        push_unsigned(self as u64, numbers);
+    fn push(&self, numbers: &mut Literals) {
+        push_unsigned(*self as u64, numbers);
     }
 
     fn take(numbers: &[Literal]) -> Option<(Sign, &[Literal])> {
@@ -234,8 +234,8 @@ impl Form for BitFieldOperation {
 
     ghost taken = { take_bit_field_operation };
 
-    fn push(self, numbers: &mut Literals) {
-        push_unsigned(self as u64, numbers);
+    fn push(&self, numbers: &mut Literals) {
+        push_unsigned(*self as u64, numbers);
     }
 
     fn take(numbers: &[Literal]) -> Option<(BitFieldOperation, &[Literal])> {

@@ -79,8 +79,8 @@ impl Form for u8 {
 
     ghost taken = { take_byte };
 
-    fn push(self, numbers: &mut Literals) {
-        push_unsigned(u64::from(self), numbers);
+    fn push(&self, numbers: &mut Literals) {
+        push_unsigned(u64::from(*self), numbers);
     }
 
     fn take(numbers: &[Literal]) -> Option<(u8, &[Literal])> {
@@ -96,8 +96,8 @@ impl Form for u16 {
 
     ghost taken = { take_word };
 
-    fn push(self, numbers: &mut Literals) {
-        push_unsigned(u64::from(self), numbers);
+    fn push(&self, numbers: &mut Literals) {
+        push_unsigned(u64::from(*self), numbers);
     }
 
     fn take(numbers: &[Literal]) -> Option<(u16, &[Literal])> {
@@ -113,8 +113,8 @@ impl Form for u32 {
 
     ghost taken = { take_long };
 
-    fn push(self, numbers: &mut Literals) {
-        push_unsigned(u64::from(self), numbers);
+    fn push(&self, numbers: &mut Literals) {
+        push_unsigned(u64::from(*self), numbers);
     }
 
     fn take(numbers: &[Literal]) -> Option<(u32, &[Literal])> {
@@ -130,8 +130,8 @@ impl Form for u64 {
 
     ghost taken = { take_address };
 
-    fn push(self, numbers: &mut Literals) {
-        push_unsigned(self, numbers);
+    fn push(&self, numbers: &mut Literals) {
+        push_unsigned(*self, numbers);
     }
 
     fn take(numbers: &[Literal]) -> Option<(u64, &[Literal])> {
@@ -156,10 +156,10 @@ impl Form for i32 {
 
     ghost taken = { take_signed };
 
-    fn push(self, numbers: &mut Literals) {
+    fn push(&self, numbers: &mut Literals) {
         store(
             Literal {
-                negative: self < 0,
+                negative: *self < 0,
                 magnitude: u64::from(self.unsigned_abs()),
             },
             numbers,
@@ -178,8 +178,8 @@ impl Form for bool {
 
     ghost taken = { take_flag };
 
-    fn push(self, numbers: &mut Literals) {
-        push_unsigned(u64::from(self), numbers);
+    fn push(&self, numbers: &mut Literals) {
+        push_unsigned(u64::from(*self), numbers);
     }
 
     fn take(numbers: &[Literal]) -> Option<(bool, &[Literal])> {

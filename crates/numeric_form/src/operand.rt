@@ -17,9 +17,9 @@ impl Form for Operand {
 
     ghost taken = { take_operand };
 
-    // Not inlined: each of the places that call it would fill a copy of the operand for every instruction.
+    // Not inlined: 22 places call it.
     #[inline(never)]
-    fn push(self, numbers: &mut Literals) {
+    fn push(&self, numbers: &mut Literals) {
         match self {
             Operand::Immediate(value) => {
                 push_unsigned(0, numbers);

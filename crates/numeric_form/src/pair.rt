@@ -14,10 +14,9 @@ impl<A: Form + Drop, B: Form> Form for (A, B) {
 
     ghost taken = { take_both A.taken B.taken };
 
-    fn push(self, numbers: &mut Literals) {
-        let (first, second) = self;
-        first.push(numbers);
-        second.push(numbers);
+    fn push(&self, numbers: &mut Literals) {
+        self.0.push(numbers);
+        self.1.push(numbers);
     }
 
     fn take(numbers: &[Literal]) -> Option<((A, B), &[Literal])> {

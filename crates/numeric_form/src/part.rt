@@ -17,7 +17,7 @@ impl Form for RegisterOperand {
 
     ghost taken = { take_register };
 
-    fn push(self, numbers: &mut Literals) {
+    fn push(&self, numbers: &mut Literals) {
         match self {
             RegisterOperand::Address(number) => {
                 push_unsigned(0, numbers);
@@ -47,7 +47,7 @@ impl Form for IndexRegister {
 
     ghost taken = { take_index };
 
-    fn push(self, numbers: &mut Literals) {
+    fn push(&self, numbers: &mut Literals) {
         self.register.push(numbers);
         self.size.push(numbers);
     }
@@ -66,7 +66,7 @@ impl Form for FieldValue {
 
     ghost taken = { take_field_value };
 
-    fn push(self, numbers: &mut Literals) {
+    fn push(&self, numbers: &mut Literals) {
         match self {
             FieldValue::Immediate(number) => {
                 push_unsigned(0, numbers);
@@ -96,7 +96,7 @@ impl Form for BitField {
 
     ghost taken = { take_bit_field };
 
-    fn push(self, numbers: &mut Literals) {
+    fn push(&self, numbers: &mut Literals) {
         self.offset.push(numbers);
         self.width.push(numbers);
     }
@@ -115,7 +115,7 @@ impl Form for TrapOperand {
 
     ghost taken = { take_trap_operand };
 
-    fn push(self, numbers: &mut Literals) {
+    fn push(&self, numbers: &mut Literals) {
         match self {
             TrapOperand::None => push_unsigned(0, numbers),
             TrapOperand::Word(value) => {
@@ -153,7 +153,7 @@ impl Form for Option<u8> {
 
     ghost taken = { take_register_choice };
 
-    fn push(self, numbers: &mut Literals) {
+    fn push(&self, numbers: &mut Literals) {
         match self {
             None => push_unsigned(0, numbers),
             Some(number) => {
