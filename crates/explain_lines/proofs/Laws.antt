@@ -6,20 +6,24 @@ use mathlib.Core.List.{List, [], ◌∷◌, ◌++◌, append_assoc}
 use native.Mathlib.Omega.{arith}
 use lib.Dec.{eqb, leb}
 use lib.ListN.{length, take, drop, get_or, length-take, length-drop, take-append-drop}
-use lib.Seq.{take_all, paste, paste-zero, take-suc}
+use lib.Seq.{take_all, paste, take-suc}
 use borrow.Author.Tests.{eq-eqb, ne_eqb, lt-ltb, le-leb, lt-leb}
 use Rattle.base_facts.specs.Tests.{Eq, same, other, eq?, cond_true, cond_false}
 use Rattle.base_spec.specs.Written.{placed}
 use Rattle.base_text.specs.Parts.{before}
 use Rattle.explain_spec.specs.declared.Refusal.{Refusal}
-use Rattle.explain_spec.specs.Refusal.{refusal_in}
-use Rattle.explain_spec.specs.Sentence.{sentence_of}
+use Rattle.explain_spec.specs.Refusal.{no_refusal, refusal_in}
+use Rattle.explain_spec.specs.Sentence.{sentence_of, is_known, wrong_of}
 use Rattle.explain_spec.specs.Explained.{explained_line}
 use Rattle.explain_lines.specs.Cut.{ended_of, first_end, cut_from, cut_of, between}
 
 pub line_sentence : (l : List ℕ) (r : Refusal) → r ≡ refusal_in l → length l < 65536 → explained_line l ≡ l ++ (10 ∷ []) ++ sentence_of r
 unfolding explained_line
 line_sentence l r e h = rw (lt-ltb (length l) 65536 h) (ap (λ (q : Refusal). l ++ (10 ∷ sentence_of q)) (sym e) ∙ sym (append_assoc l (10 ∷ []) (sentence_of r)))
+
+pub empty_line : explained_line [] ≡ 10 ∷ []
+unfolding explained_line refusal_in sentence_of is_known wrong_of no_refusal
+empty_line = refl
 
 -- a byte more at the end
 ended_snoc : (a : List ℕ) (b : ℕ) → ended_of (a ++ (b ∷ [])) ≡ cond (eqb b 10) (suc (length a)) (ended_of a)
@@ -126,8 +130,3 @@ module _ (begun : Bool) (t : List ℕ) where
   pub cut_whole : begun ≡ false → cut_from t 0 ≡ cut_of begun t
   unfolding cut_of
   cut_whole b = rw b
-
--- an empty text placed
-pub nothing_placed : (buf : List ℕ) (at : ℕ) (t : List ℕ) → length t ≡ 0 → (at ≡ at + length t) × (buf ≡ placed buf at t)
-nothing_placed buf at [] h = (omega arith, paste-zero buf at [])
-nothing_placed buf at (x ∷ t) h = absurd (omega arith)

@@ -1,7 +1,7 @@
 // A text with the sentences of its refusals, written into a lent buffer, and how a text is cut that comes in pieces.
 #![tactic(auto)]
 
-ghost use Rattle.std.specs.Prelude.{◌≡◌, ◌+◌, ◌-◌, ◌≤◌, length};
+ghost use Rattle.std.specs.Prelude.{◌≡◌, ◌+◌, ◌-◌, ◌≤◌, [], length};
 ghost use Rattle.base_spec.specs.Written.{placed};
 ghost use Rattle.base_spec.specs.Lines.{answered_of, step_of};
 ghost use Rattle.base_text.specs.Wrote.{Wrote};
@@ -20,29 +20,26 @@ pub struct Cut {
     pub begun: bool,
 }
 
-// A line. Of an empty one there is nothing to put: `explain` counts 31 instructions for it so, 38 where `put` is asked.
-fn put_line(line: &[u8], out: &mut [u8], at: usize) -> usize
-    requires { at + length line.now ≤ length out.old }
-    ensures { (result ≡ at + length line.now) × (out.new ≡ placed out.old at line.now) }
-{
-    if line.len() == 0 {
-        return at;
-    }
-    base_text::put(out, at, line)
-}
-
 // A line, its LF and the sentence of its refusal.
 fn put_explained(line: &[u8], out: &mut [u8], at: usize) -> usize
     requires { (at + 73728 ≤ length out.old) × (length line.now ≤ 65536) }
     ensures { Wrote out.old at (explained_line line.now) out.new result × (result ≤ at + 73728) }
 {
-    let mut next = put_line(line, out, at);
+    let mut next = base_text::put(out, at, line);
     next = base_text::put_byte(out, next, b'\n');
     if line.len() < 65536 {
         let r = explain_refusal::refusal_in(line);
         return explain_sentence::put_sentence(r, out, next);
     }
     next
+}
+
+// An empty line, which is no refusal.
+fn put_empty(out: &mut [u8], at: usize) -> usize
+    requires { at + 73728 ≤ length out.old }
+    ensures { Wrote out.old at (explained_line []) out.new result × (result ≤ at + 73728) }
+{
+    base_text::put_byte(out, at, b'\n')
 }
 
 // The lines from a place on, while the buffer has room.
@@ -56,9 +53,14 @@ fn put_lines(text: &[u8], from: usize, out: &mut [u8]) -> Step
         if out.len() - at < 73728 {
             return Step { next, count: at };
         }
-        let e = base_text::line_end(text, next);
-        at = put_explained(&text[next..e], out, at);
-        next = e + 1;
+        if text[next] == b'\n' {
+            at = put_empty(out, at);
+            next += 1;
+        } else {
+            let e = base_text::line_end(text, next);
+            at = put_explained(&text[next..e], out, at);
+            next = e + 1;
+        }
     }
     Step { next, count: at }
 }
