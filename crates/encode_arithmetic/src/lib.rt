@@ -59,21 +59,21 @@ pub fn immediate_into(
     e: Encoder,
     operation: ImmediateOperation,
     value: u32,
-    destination: Operand,
+    destination: &Operand,
     size: Size,
 ) -> Result<Encoder, Refusal>
-    ensures { result ≡ run_parts (immediate_parts operation value destination size) (Ok e) }
+    ensures { result ≡ run_parts (immediate_parts operation value destination.now size) (Ok e) }
 {
     let e = e.operation(
         0,
         immediate_kind(operation),
         encode_state::standard_size(size),
-        isa_operands::ea_field(destination),
+        isa_operands::ea_field(*destination),
     );
     let e = encode_ea::immediate(e, value, size)?;
     encode_ea::effective(
         e,
-        destination,
+        *destination,
         size,
         immediate_modes(operation),
         immediate_reason(operation),
@@ -97,20 +97,20 @@ pub fn quick(
     e: Encoder,
     operation: QuickOperation,
     count: u8,
-    target: Operand,
+    target: &Operand,
     size: Size,
 ) -> Result<Encoder, Refusal>
-    ensures { result ≡ run_parts (quick_parts operation count target size) (Ok e) }
+    ensures { result ≡ run_parts (quick_parts operation count target.now size) (Ok e) }
 {
     let e = e.fits(Field::Count, count as i64)?;
-    let e = e.allow(!isa_operands::byte_of_address(size, target), 55)?;
+    let e = e.allow(!isa_operands::byte_of_address(size, *target), 55)?;
     let opmode = 4 * quick_bit(operation) + encode_state::standard_size(size);
     encode_ea::single(
         e,
         5,
         (count % 8) as u16,
         opmode,
-        target,
+        *target,
         size,
         isa_operands::ALTERABLE,
         56,
@@ -307,19 +307,19 @@ pub fn high_bits(high: Option<u8>) -> u16
 #[inline(never)]
 pub fn mull(
     e: Encoder,
-    source: Operand,
+    source: &Operand,
     low: u8,
     high: Option<u8>,
     sign: Sign,
 ) -> Result<Encoder, Refusal>
-    ensures { result ≡ run_parts (mull_parts source low high sign) (Ok e) }
+    ensures { result ≡ run_parts (mull_parts source.now low high sign) (Ok e) }
 {
-    let e = e.operation(4, 6, 0, isa_operands::ea_field(source));
+    let e = e.operation(4, 6, 0, isa_operands::ea_field(*source));
     let e = e.register(high_number(high))?;
     let e = e.register(low)?;
     let upper = (low % 8) as u16 * 4096 + signed_bit(sign) * 2048;
     let e = e.word(upper + high_bits(high));
-    encode_ea::effective(e, source, Size::Long, isa_operands::DATA, 28)
+    encode_ea::effective(e, *source, Size::Long, isa_operands::DATA, 28)
 }
 
 // DIVS.L DIVU.L and their long forms.
@@ -327,22 +327,22 @@ pub fn mull(
 #[inline(never)]
 pub fn divl(
     e: Encoder,
-    source: Operand,
+    source: &Operand,
     quotient: u8,
     remainder: u8,
     wide: bool,
     sign: Sign,
 ) -> Result<Encoder, Refusal>
-    ensures { result ≡ run_parts (divl_parts source quotient remainder wide sign) (Ok e) }
+    ensures { result ≡ run_parts (divl_parts source.now quotient remainder wide sign) (Ok e) }
 {
-    let e = e.operation(4, 6, 1, isa_operands::ea_field(source));
+    let e = e.operation(4, 6, 1, isa_operands::ea_field(*source));
     let e = e.register(quotient)?;
     let e = e.register(remainder)?;
     let upper = (quotient % 8) as u16 * 4096
         + signed_bit(sign) * 2048
         + encode_state::bit(wide) * 1024;
     let e = e.word(upper + (remainder % 8) as u16);
-    encode_ea::effective(e, source, Size::Long, isa_operands::DATA, 29)
+    encode_ea::effective(e, *source, Size::Long, isa_operands::DATA, 29)
 }
 
 // TST: any operand, an address register not as a byte.
@@ -421,7 +421,6 @@ pub fn ext(e: Encoder, register: RegisterOperand, from: Size, to: Size) -> Resul
 
 // SWAP.
 #[tactic(auto, unfolding(encode_spec::specs::Arithmetic::swap_parts))]
-#[inline(never)]
 pub fn swap(e: Encoder, register: RegisterOperand) -> Result<Encoder, Refusal>
     ensures { result ≡ run_parts (swap_parts register) (Ok e) }
 {

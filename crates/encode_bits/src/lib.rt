@@ -133,11 +133,11 @@ pub fn in_range(e: Encoder, field: BitField) -> Result<Encoder, Refusal>
 pub fn bit_field(
     e: Encoder,
     operation: BitFieldOperation,
-    target: Operand,
+    target: &Operand,
     field: BitField,
     register: u8,
 ) -> Result<Encoder, Refusal>
-    ensures { result ≡ run_parts (bit_field_parts operation target field register) (Ok e) }
+    ensures { result ≡ run_parts (bit_field_parts operation target.now field register) (Ok e) }
 {
     let code = bit_field_operation::code(operation);
     let offset = field.offset;
@@ -146,16 +146,16 @@ pub fn bit_field(
         14,
         4 + code / 2,
         4 * (code % 2) + 3,
-        isa_operands::ea_field(target),
+        isa_operands::ea_field(*target),
     );
     let e = in_range(e, field)?;
     let e = e.register(register)?;
     let number = (register % 8) as u16;
     let e = e.word(number * 4096 + value_bits(offset) * 64 + value_bits(width));
     if bit_field_operation::writes(operation) {
-        encode_ea::effective(e, target, Size::Byte, isa_operands::BIT_FIELD_WRITTEN, 32)
+        encode_ea::effective(e, *target, Size::Byte, isa_operands::BIT_FIELD_WRITTEN, 32)
     } else {
-        encode_ea::effective(e, target, Size::Byte, isa_operands::BIT_FIELD_READ, 33)
+        encode_ea::effective(e, *target, Size::Byte, isa_operands::BIT_FIELD_READ, 33)
     }
 }
 

@@ -110,8 +110,8 @@ pub fn dbcc(
 // Scc.
 #[tactic(auto, unfolding(encode_spec::specs::Control::scc_parts, encode_spec::specs::Ea::single))]
 #[inline(never)]
-pub fn scc(e: Encoder, target: Operand, condition: Condition) -> Result<Encoder, Refusal>
-    ensures { result ≡ run_parts (scc_parts target condition) (Ok e) }
+pub fn scc(e: Encoder, target: &Operand, condition: Condition) -> Result<Encoder, Refusal>
+    ensures { result ≡ run_parts (scc_parts target.now condition) (Ok e) }
 {
     let code = isa_values::condition::code(condition);
     encode_ea::single(
@@ -119,7 +119,7 @@ pub fn scc(e: Encoder, target: Operand, condition: Condition) -> Result<Encoder,
         5,
         code / 2,
         4 * (code % 2) + 3,
-        target,
+        *target,
         Size::Byte,
         isa_operands::DATA_ALTERABLE,
         35,

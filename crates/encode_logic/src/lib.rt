@@ -150,23 +150,23 @@ pub fn shift_memory(
 pub fn shift(
     e: Encoder,
     operation: ShiftOperation,
-    count: Operand,
-    target: Operand,
+    count: &Operand,
+    target: &Operand,
     direction: ShiftDirection,
     size: Size,
 ) -> Result<Encoder, Refusal>
-    ensures { result ≡ run_parts (shift_parts operation count target direction size) (Ok e) }
+    ensures { result ≡ run_parts (shift_parts operation count.now target.now direction size) (Ok e) }
 {
-    if isa_operands::is_register(target) {
+    if isa_operands::is_register(*target) {
         shift_register(
             e,
             operation,
-            count,
-            isa_operands::register_in(target),
+            *count,
+            isa_operands::register_in(*target),
             direction,
             size,
         )
     } else {
-        shift_memory(e, operation, count, target, direction, size)
+        shift_memory(e, operation, *count, *target, direction, size)
     }
 }

@@ -75,18 +75,18 @@ pub fn movem(
     direction: TargetDirection,
     size: Size,
     registers_mask: u16,
-    target: Operand,
+    target: &Operand,
 ) -> Result<Encoder, Refusal>
-    ensures { result ≡ run_parts (movem_parts direction size registers_mask target) (Ok e) }
+    ensures { result ≡ run_parts (movem_parts direction size registers_mask target.now) (Ok e) }
 {
     let x = 4 + 2 * encode_state::from_memory(direction);
     let opmode = 2 + encode_state::long_bit(size);
-    let e = e.operation(4, x, opmode, isa_operands::ea_field(target));
+    let e = e.operation(4, x, opmode, isa_operands::ea_field(*target));
     let e = e.allow(!encode_state::is_byte(size), 20)?;
     let e = e.word(registers_mask);
     encode_ea::effective(
         e,
-        target,
+        *target,
         size,
         isa_operands::movem_modes(direction),
         movem_reason(direction),
@@ -124,7 +124,6 @@ pub fn movep(
 
 // MOVEQ: the data in bits 7 to 0.
 #[tactic(auto, unfolding(encode_spec::specs::Movement::moveq_parts))]
-#[inline(never)]
 pub fn moveq(e: Encoder, value: u8, register: RegisterOperand) -> Result<Encoder, Refusal>
     ensures { result ≡ run_parts (moveq_parts value register) (Ok e) }
 {
@@ -194,7 +193,6 @@ pub fn linkl(e: Encoder, register: RegisterOperand, displacement: u32) -> Result
 
 // UNLK.
 #[tactic(auto, unfolding(encode_spec::specs::Movement::unlk_parts))]
-#[inline(never)]
 pub fn unlk(e: Encoder, register: RegisterOperand) -> Result<Encoder, Refusal>
     ensures { result ≡ run_parts (unlk_parts register) (Ok e) }
 {

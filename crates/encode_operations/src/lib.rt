@@ -22,20 +22,20 @@ use isa::{
 pub fn into_register(
     e: Encoder,
     op: RegisterOperation,
-    o: Operand,
+    o: &Operand,
     r: RegisterOperand,
     s: Size,
 ) -> Result<Encoder, Refusal>
-    ensures { result ≡ run_parts (register_parts op o r s) (Ok e) }
+    ensures { result ≡ run_parts (register_parts op o.now r s) (Ok e) }
 {
     match op {
-        RegisterOperation::ADDA => encode_arithmetic::into_address(e, 13, 44, o, r, s),
-        RegisterOperation::SUBA => encode_arithmetic::into_address(e, 9, 37, o, r, s),
-        RegisterOperation::CMPA => encode_arithmetic::into_address(e, 11, 40, o, r, s),
-        RegisterOperation::MOVEA => encode_movement::movea(e, o, r, s),
-        RegisterOperation::CMP => encode_arithmetic::into_data(e, 11, 39, o, r, s),
-        RegisterOperation::CHK2 => encode_arithmetic::bounds(e, true, o, r, s),
-        RegisterOperation::CMP2 => encode_arithmetic::bounds(e, false, o, r, s),
+        RegisterOperation::ADDA => encode_arithmetic::into_address(e, 13, 44, *o, r, s),
+        RegisterOperation::SUBA => encode_arithmetic::into_address(e, 9, 37, *o, r, s),
+        RegisterOperation::CMPA => encode_arithmetic::into_address(e, 11, 40, *o, r, s),
+        RegisterOperation::MOVEA => encode_movement::movea(e, *o, r, s),
+        RegisterOperation::CMP => encode_arithmetic::into_data(e, 11, 39, *o, r, s),
+        RegisterOperation::CHK2 => encode_arithmetic::bounds(e, true, *o, r, s),
+        RegisterOperation::CMP2 => encode_arithmetic::bounds(e, false, *o, r, s),
     }
 }
 
@@ -48,13 +48,13 @@ pub fn transfer(
     direction: TargetDirection,
     s: Size,
     r: RegisterOperand,
-    o: Operand,
+    o: &Operand,
 ) -> Result<Encoder, Refusal>
-    ensures { result ≡ run_parts (transfer_parts op direction s r o) (Ok e) }
+    ensures { result ≡ run_parts (transfer_parts op direction s r o.now) (Ok e) }
 {
     match op {
-        TransferOperation::MOVEP => encode_movement::movep(e, direction, s, r, o),
-        TransferOperation::MOVES => encode_system::moves(e, direction, s, r, o),
+        TransferOperation::MOVEP => encode_movement::movep(e, direction, s, r, *o),
+        TransferOperation::MOVES => encode_system::moves(e, direction, s, r, *o),
     }
 }
 
@@ -64,40 +64,40 @@ pub fn transfer(
 pub fn pair(
     e: Encoder,
     op: PairOperation,
-    o: Operand,
-    d: Operand,
+    o: &Operand,
+    d: &Operand,
     s: Size,
 ) -> Result<Encoder, Refusal>
-    ensures { result ≡ run_parts (pair_parts op o d s) (Ok e) }
+    ensures { result ≡ run_parts (pair_parts op o.now d.now s) (Ok e) }
 {
     match op {
-        PairOperation::MOVE => encode_movement::move_data(e, o, d, s),
-        PairOperation::ADD => encode_arithmetic::arithmetic(e, 13, o, d, s),
-        PairOperation::SUB => encode_arithmetic::arithmetic(e, 9, o, d, s),
+        PairOperation::MOVE => encode_movement::move_data(e, *o, *d, s),
+        PairOperation::ADD => encode_arithmetic::arithmetic(e, 13, *o, *d, s),
+        PairOperation::SUB => encode_arithmetic::arithmetic(e, 9, *o, *d, s),
         PairOperation::ADDX => encode_arithmetic::extended(
             e,
             13,
             4 + encode_state::standard_size(s),
-            o,
-            d,
+            *o,
+            *d,
         ),
         PairOperation::SUBX => encode_arithmetic::extended(
             e,
             9,
             4 + encode_state::standard_size(s),
-            o,
-            d,
+            *o,
+            *d,
         ),
-        PairOperation::CMPM => encode_arithmetic::cmpm(e, o, d, s),
-        PairOperation::OR => encode_logic::logical(e, 8, o, d, s),
-        PairOperation::AND => encode_logic::logical(e, 12, o, d, s),
+        PairOperation::CMPM => encode_arithmetic::cmpm(e, *o, *d, s),
+        PairOperation::OR => encode_logic::logical(e, 8, *o, *d, s),
+        PairOperation::AND => encode_logic::logical(e, 12, *o, *d, s),
         PairOperation::EOR => encode_ea::from_data(
             e,
             11,
             isa_operands::DATA_ALTERABLE,
             42,
-            o,
-            d,
+            *o,
+            *d,
             s,
         ),
     }
@@ -109,11 +109,11 @@ pub fn pair(
 pub fn word_into_data(
     e: Encoder,
     op: WordOperation,
-    o: Operand,
+    o: &Operand,
     r: RegisterOperand,
     sign: Sign,
 ) -> Result<Encoder, Refusal>
-    ensures { result ≡ run_parts (word_parts op o r sign) (Ok e) }
+    ensures { result ≡ run_parts (word_parts op o.now r sign) (Ok e) }
 {
     let opmode = 3 + 4 * encode_arithmetic::signed_bit(sign);
     match op {
@@ -122,7 +122,7 @@ pub fn word_into_data(
             8,
             r,
             opmode,
-            o,
+            *o,
             Size::Word,
             isa_operands::DATA,
             29,
@@ -132,7 +132,7 @@ pub fn word_into_data(
             12,
             r,
             opmode,
-            o,
+            *o,
             Size::Word,
             isa_operands::DATA,
             28,
@@ -146,10 +146,10 @@ pub fn word_into_data(
 pub fn unsized_into_register(
     e: Encoder,
     op: UnsizedRegisterOperation,
-    o: Operand,
+    o: &Operand,
     r: RegisterOperand,
 ) -> Result<Encoder, Refusal>
-    ensures { result ≡ run_parts (unsized_register_parts op o r) (Ok e) }
+    ensures { result ≡ run_parts (unsized_register_parts op o.now r) (Ok e) }
 {
     match op {
         UnsizedRegisterOperation::LEA => encode_ea::with_address(
@@ -157,7 +157,7 @@ pub fn unsized_into_register(
             4,
             r,
             7,
-            o,
+            *o,
             Size::Long,
             isa_operands::CONTROL,
             34,
@@ -167,7 +167,7 @@ pub fn unsized_into_register(
             4,
             r,
             6,
-            o,
+            *o,
             Size::Word,
             isa_operands::DATA,
             27,
@@ -177,7 +177,7 @@ pub fn unsized_into_register(
             4,
             r,
             4,
-            o,
+            *o,
             Size::Long,
             isa_operands::DATA,
             27,
@@ -234,19 +234,19 @@ fn written(
 // PEA NBCD JSR JMP TAS, and MOVE to and from CCR and SR.
 #[tactic(auto, unfolding(encode_spec::specs::Instruction::unsized_one_parts))]
 #[inline(never)]
-pub fn unsized_one(e: Encoder, op: UnsizedOneOperation, o: Operand) -> Result<Encoder, Refusal>
-    ensures { result ≡ run_parts (unsized_one_parts op o) (Ok e) }
+pub fn unsized_one(e: Encoder, op: UnsizedOneOperation, o: &Operand) -> Result<Encoder, Refusal>
+    ensures { result ≡ run_parts (unsized_one_parts op o.now) (Ok e) }
 {
     match op {
-        UnsizedOneOperation::PEA => control_operand(e, 4, 1, o, 18),
-        UnsizedOneOperation::NBCD => written(e, 4, 0, o, Size::Byte, 17),
-        UnsizedOneOperation::JSR => control_operand(e, 7, 2, o, 25),
-        UnsizedOneOperation::JMP => control_operand(e, 7, 3, o, 26),
-        UnsizedOneOperation::TAS => written(e, 5, 3, o, Size::Byte, 23),
-        UnsizedOneOperation::MOVEtoCCR => word_read(e, 2, o, 15),
-        UnsizedOneOperation::MOVEfromCCR => written(e, 1, 3, o, Size::Word, 14),
-        UnsizedOneOperation::MOVEtoSR => word_read(e, 3, o, 16),
-        UnsizedOneOperation::MOVEfromSR => written(e, 0, 3, o, Size::Word, 13),
+        UnsizedOneOperation::PEA => control_operand(e, 4, 1, *o, 18),
+        UnsizedOneOperation::NBCD => written(e, 4, 0, *o, Size::Byte, 17),
+        UnsizedOneOperation::JSR => control_operand(e, 7, 2, *o, 25),
+        UnsizedOneOperation::JMP => control_operand(e, 7, 3, *o, 26),
+        UnsizedOneOperation::TAS => written(e, 5, 3, *o, Size::Byte, 23),
+        UnsizedOneOperation::MOVEtoCCR => word_read(e, 2, *o, 15),
+        UnsizedOneOperation::MOVEfromCCR => written(e, 1, 3, *o, Size::Word, 14),
+        UnsizedOneOperation::MOVEtoSR => word_read(e, 3, *o, 16),
+        UnsizedOneOperation::MOVEfromSR => written(e, 0, 3, *o, Size::Word, 13),
     }
 }
 
@@ -256,34 +256,34 @@ pub fn unsized_one(e: Encoder, op: UnsizedOneOperation, o: Operand) -> Result<En
 pub fn unsized_pair(
     e: Encoder,
     op: UnsizedPairOperation,
-    o: Operand,
-    d: Operand,
+    o: &Operand,
+    d: &Operand,
 ) -> Result<Encoder, Refusal>
-    ensures { result ≡ run_parts (unsized_pair_parts op o d) (Ok e) }
+    ensures { result ≡ run_parts (unsized_pair_parts op o.now d.now) (Ok e) }
 {
     match op {
-        UnsizedPairOperation::ABCD => encode_arithmetic::extended(e, 12, 4, o, d),
-        UnsizedPairOperation::SBCD => encode_arithmetic::extended(e, 8, 4, o, d),
-        UnsizedPairOperation::BTST => encode_bits::bit(e, 0, o, d),
-        UnsizedPairOperation::BCLR => encode_bits::bit(e, 2, o, d),
-        UnsizedPairOperation::BSET => encode_bits::bit(e, 3, o, d),
-        UnsizedPairOperation::BCHG => encode_bits::bit(e, 1, o, d),
+        UnsizedPairOperation::ABCD => encode_arithmetic::extended(e, 12, 4, *o, *d),
+        UnsizedPairOperation::SBCD => encode_arithmetic::extended(e, 8, 4, *o, *d),
+        UnsizedPairOperation::BTST => encode_bits::bit(e, 0, *o, *d),
+        UnsizedPairOperation::BCLR => encode_bits::bit(e, 2, *o, *d),
+        UnsizedPairOperation::BSET => encode_bits::bit(e, 3, *o, *d),
+        UnsizedPairOperation::BCHG => encode_bits::bit(e, 1, *o, *d),
     }
 }
 
 // CLR NEG NEGX NOT TST.
 #[tactic(auto, unfolding(encode_spec::specs::Instruction::one_parts))]
 #[inline(never)]
-pub fn one_operand(e: Encoder, op: OneOperation, o: Operand, s: Size) -> Result<Encoder, Refusal>
-    ensures { result ≡ run_parts (one_parts op o s) (Ok e) }
+pub fn one_operand(e: Encoder, op: OneOperation, o: &Operand, s: Size) -> Result<Encoder, Refusal>
+    ensures { result ≡ run_parts (one_parts op o.now s) (Ok e) }
 {
     let opmode = encode_state::standard_size(s);
     match op {
-        OneOperation::CLR => written(e, 1, opmode, o, s, 54),
-        OneOperation::NEG => written(e, 2, opmode, o, s, 54),
-        OneOperation::NEGX => written(e, 0, opmode, o, s, 54),
-        OneOperation::NOT => written(e, 3, opmode, o, s, 54),
-        OneOperation::TST => encode_arithmetic::tst(e, o, s),
+        OneOperation::CLR => written(e, 1, opmode, *o, s, 54),
+        OneOperation::NEG => written(e, 2, opmode, *o, s, 54),
+        OneOperation::NEGX => written(e, 0, opmode, *o, s, 54),
+        OneOperation::NOT => written(e, 3, opmode, *o, s, 54),
+        OneOperation::TST => encode_arithmetic::tst(e, *o, s),
     }
 }
 
@@ -327,15 +327,15 @@ pub fn links(
 pub fn packs(
     e: Encoder,
     op: PackOperation,
-    o: Operand,
-    d: Operand,
+    o: &Operand,
+    d: &Operand,
     adjustment: u16,
 ) -> Result<Encoder, Refusal>
-    ensures { result ≡ run_parts (packs_parts op o d adjustment) (Ok e) }
+    ensures { result ≡ run_parts (packs_parts op o.now d.now adjustment) (Ok e) }
 {
     match op {
-        PackOperation::PACK => encode_bits::pack(e, 5, o, d, adjustment),
-        PackOperation::UNPK => encode_bits::pack(e, 6, o, d, adjustment),
+        PackOperation::PACK => encode_bits::pack(e, 5, *o, *d, adjustment),
+        PackOperation::UNPK => encode_bits::pack(e, 6, *o, *d, adjustment),
     }
 }
 

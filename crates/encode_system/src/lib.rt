@@ -88,7 +88,6 @@ fn usp_field(to_usp: bool) -> u16
 
 // MOVE USP.
 #[tactic(auto, unfolding(encode_spec::specs::System::moveusp_parts))]
-#[inline(never)]
 pub fn moveusp(e: Encoder, to_usp: bool, register: RegisterOperand) -> Result<Encoder, Refusal>
     ensures { result ≡ run_parts (moveusp_parts to_usp register) (Ok e) }
 {
@@ -148,21 +147,21 @@ pub fn cas(
     e: Encoder,
     compare: u8,
     update: u8,
-    target: Operand,
+    target: &Operand,
     size: Size,
 ) -> Result<Encoder, Refusal>
-    ensures { result ≡ run_parts (cas_parts compare update target size) (Ok e) }
+    ensures { result ≡ run_parts (cas_parts compare update target.now size) (Ok e) }
 {
     let e = e.operation(
         0,
         5 + encode_state::standard_size(size),
         3,
-        isa_operands::ea_field(target),
+        isa_operands::ea_field(*target),
     );
     let e = e.register(update)?;
     let e = e.register(compare)?;
     let e = e.word((update % 8) as u16 * 64 + (compare % 8) as u16);
-    encode_ea::effective(e, target, size, isa_operands::MEMORY_ALTERABLE, 30)
+    encode_ea::effective(e, *target, size, isa_operands::MEMORY_ALTERABLE, 30)
 }
 
 // One of the two extension words of CAS2.
@@ -224,7 +223,6 @@ pub fn raw(e: Encoder, operation: RawOperation, word: u16) -> Result<Encoder, Re
 
 // Instructions without operands.
 #[tactic(auto, unfolding(encode_spec::specs::System::no_operand_parts))]
-#[inline(never)]
 pub fn no_operand(e: Encoder, operation: NoOperandOperation) -> Result<Encoder, Refusal>
     ensures { result ≡ run_parts (no_operand_parts operation) (Ok e) }
 {
