@@ -6,7 +6,7 @@ use mathlib.Core.List.{List, [], ◌∷◌, ◌++◌, append_assoc}
 use native.Mathlib.Omega.{arith}
 use lib.Dec.{eqb, leb}
 use lib.ListN.{length, take, drop, get_or, length-take, length-drop, take-append-drop}
-use lib.Seq.{take_all, paste, take-suc}
+use lib.Seq.{take_all, paste, paste-zero, take-suc}
 use borrow.Author.Tests.{eq-eqb, ne_eqb, lt-ltb, le-leb, lt-leb}
 use Rattle.base_facts.specs.Tests.{Eq, same, other, eq?, cond_true, cond_false}
 use Rattle.base_spec.specs.Written.{placed}
@@ -130,3 +130,8 @@ module _ (begun : Bool) (t : List ℕ) where
   pub cut_whole : begun ≡ false → cut_from t 0 ≡ cut_of begun t
   unfolding cut_of
   cut_whole b = rw b
+
+-- an empty text placed
+pub nothing_placed : (buf : List ℕ) (at : ℕ) (t : List ℕ) → length t ≡ 0 → (at ≡ at + length t) × (buf ≡ placed buf at t)
+nothing_placed buf at [] h = (omega arith, paste-zero buf at [])
+nothing_placed buf at (x ∷ t) h = absurd (omega arith)

@@ -10,11 +10,11 @@ returns-then-line-lt65536 c =
     let a = c.args in
     let r = c.refusal_in-r in
     let words = c.put_sentence.ensures in
-    let line = wrote_then (wrote c.put-next.ensures) (wrote c.put_byte-next.ensures) (omega arith) in
+    let line = wrote_then (wrote c.put_line-next.ensures) (wrote c.put_byte-next.ensures) (omega arith) in
     (wrote_as (line_sentence a.line.now r.result r.ensures (omega arith)) (wrote_then line words.0 (omega arith)), omega arith)
 
 pub returns : goal.returns
 returns c =
     let a = c.args in
-    let line = wrote_then (wrote c.put-next.ensures) (wrote c.put_byte-next.ensures) (omega arith) in
+    let line = wrote_then (wrote c.put_line-next.ensures) (wrote c.put_byte-next.ensures) (omega arith) in
     (wrote_as (line_long a.line.now (omega arith)) line, omega arith)
