@@ -1,7 +1,8 @@
 // A program that answers each line of its input, from the bytes that it reads to the bytes that it writes.
 #![tactic(auto)]
 
-ghost use Rattle.std.specs.Prelude.{◌≡◌, ◌+◌, ◌≤◌, ℕ, List, length, drop, OnOk, IfSome};
+ghost use Rattle.std.proofs.Common.{rules};
+ghost use Rattle.std.specs.Prelude.{◌≡◌, ◌+◌, ◌≤◌, ℕ, List, [], ◌∷◌, length, drop, OnOk, IfSome};
 ghost use Rattle.std.specs.Io.KnownBytes.{Appends};
 ghost use Rattle.base_spec.specs.Written.{placed};
 ghost use Rattle.base_spec.specs.Lines.{answers_of, answered_of, step_of};
@@ -67,7 +68,7 @@ fn print_answers<A: AnswerLines, W: Write>(asked: &A, text: &[u8], output: &mut 
 }
 
 // Prints the answer to each line that is read, or that the input is too long.
-pub fn run<A: AnswerLines, R: Read, W: Write>(
+pub fn run_lines<A: AnswerLines, R: Read, W: Write>(
     asked: &A,
     input: &mut R,
     output: &mut W,
@@ -78,5 +79,60 @@ pub fn run<A: AnswerLines, R: Read, W: Write>(
     match base_streams::read_whole(input, &mut places)? {
         Some(text) => print_answers(asked, text, output),
         None => output.write_all(&base_text::too_long()),
+    }
+}
+
+// In few writes, by the `answers` above.
+fn print_each<A: Answer, W: Write>(asked: &A, text: &[u8], output: &mut W) -> io::Result<()>
+    ensures { OnOk result (Appends (W.contents output.old) (W.contents output.new) (answers_of A.answer_of text.now)) }
+{
+    let mut out: [u8; 65536] = base_streams::filled(0);
+    let mut next: usize = 0;
+    while next < text.len() {
+        let part = answers(asked, text, next, &mut out);
+        output.write_all(&out[..part.count])?;
+        next = part.next;
+    }
+    Ok(())
+}
+
+// Prints the answer to each line that is read, or that the input is too long; for a type without `answers` of its own.
+pub fn run<A: Answer, R: Read, W: Write>(asked: &A, input: &mut R, output: &mut W) -> io::Result<()>
+    ensures { OnOk result (IfSome (R.remaining input.old) (λ text. Appends (W.contents output.old) (W.contents output.new) (answers_output_of A.answer_of text))) }
+{
+    let mut lent: [u8; 1048577] = base_streams::filled(0);
+    match base_streams::read_whole(input, &mut lent)? {
+        Some(text) => print_each(asked, text, output),
+        None => output.write_all(&base_text::too_long()),
+    }
+}
+
+#[cfg(test)]
+mod tests {
+    use super::*;
+
+    // A point for each line.
+    struct Points;
+
+    impl Answer for Points {
+        ghost answer_of = { λ line. 46 ∷ 10 ∷ [] };
+
+        ghost ROOM = { 2 };
+
+        const ROOM: usize = 2;
+
+        fn answer(&self, _line: &[u8], out: &mut [u8], at: usize) -> usize {
+            base_text::put(out, at, b".\n")
+        }
+
+        ghost room = { Prim.search rules };
+    }
+
+    #[test]
+    fn answers_each_line(rt: HostRuntime) {
+        let mut text: &[u8] = b"NOP\n\nRTS";
+        let mut out = Vec::new(rt.alloc());
+        assert!(rt; run(&Points, &mut text, &mut out).is_ok());
+        assert!(rt; out.as_slice() == b".\n.\n.\n".as_slice());
     }
 }

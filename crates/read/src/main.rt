@@ -10,5 +10,5 @@ fn main(rt: HostRuntime) -> io::Result<()> {
     let mut output = Unfailing {
         stream: rt.stdout(),
     };
-    line_program::run(&ReadingRuns, &mut input, &mut output)
+    line_program::run_lines(&ReadingRuns, &mut input, &mut output)
 }
