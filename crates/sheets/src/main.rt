@@ -9,7 +9,7 @@ ghost use Rattle.sheets.specs.Ways.{way_of, rule_by, limits, is_answered, case_t
 
 use base_list::{Header, Limits};
 use base_streams::Unfailing;
-use list_program::Case;
+use list_program::LentCase;
 use print_spec::Output;
 use std::io;
 
@@ -59,7 +59,7 @@ struct Sheets {
     image: [u16; 45056],
 }
 
-impl Case for Sheets {
+impl LentCase for Sheets {
     ghost limits = { limits };
 
     ghost is_answered = { is_answered };
@@ -101,5 +101,5 @@ fn main(rt: HostRuntime) -> io::Result<()> {
     let mut output = Unfailing {
         stream: rt.stdout(),
     };
-    list_program::run(&mut sheets, &mut input, &mut output)
+    list_program::run_lent(&mut sheets, &mut input, &mut output)
 }

@@ -12,7 +12,7 @@ ghost use Rattle.srecord_spec.specs.Printed.{written_text, loaded_text};
 
 use base_list::{Header, Limits};
 use base_streams::Unfailing;
-use list_program::Case;
+use list_program::LentCase;
 use std::io;
 
 // What is done with the bytes of a case.
@@ -91,7 +91,7 @@ struct Records {
     image: [u16; 209715],
 }
 
-impl Case for Records {
+impl LentCase for Records {
     ghost limits = { limits };
 
     ghost is_answered = { is_answered_case };
@@ -129,5 +129,5 @@ fn main(rt: HostRuntime) -> io::Result<()> {
     let mut output = Unfailing {
         stream: rt.stdout(),
     };
-    list_program::run(&mut records, &mut input, &mut output)
+    list_program::run_lent(&mut records, &mut input, &mut output)
 }

@@ -11,7 +11,7 @@ ghost use Rattle.unsheets.specs.Answer.{limits, is_answered, case_text};
 
 use base_list::{Header, Limits};
 use base_streams::Unfailing;
-use list_program::Case;
+use list_program::LentCase;
 use std::io;
 
 // The sheet of an image line, with the first `room` bytes lent.
@@ -34,7 +34,7 @@ struct Images {
     image: [u16; 209715],
 }
 
-impl Case for Images {
+impl LentCase for Images {
     ghost limits = { limits };
 
     ghost is_answered = { is_answered };
@@ -72,5 +72,5 @@ fn main(rt: HostRuntime) -> io::Result<()> {
     let mut output = Unfailing {
         stream: rt.stdout(),
     };
-    list_program::run(&mut images, &mut input, &mut output)
+    list_program::run_lent(&mut images, &mut input, &mut output)
 }

@@ -19,7 +19,7 @@ loop-from-init g c = record {
 
 pub returns-in_default : goal.returns-in_default
 returns-in_default g c =
-    let C = g.C.Case in
+    let C = g.C.LentCase in
     let i = c.loop-from.invariant in
     let e = sym (rw c.limits-limits.ensures at c.read_header.ensures.is) ∙ c.in_default.is in
     let end = no_header C.limits C.is_answered C.text_of c.args.list.now i.most c.loop-from.from i.enough (omega arith) e in
@@ -32,7 +32,7 @@ returns-in_default g c =
 
 pub returns-in_default-answer_line : goal.returns-in_default-answer_line
 returns-in_default-answer_line g c =
-    let C = g.C.Case in
+    let C = g.C.LentCase in
     let i = c.loop-from.invariant in
     let e = sym (rw c.limits-limits.ensures at c.read_header.ensures.is) ∙ c.in-Some.is in
     let end = no_answer C.limits C.is_answered C.text_of c.args.list.now i.most c.loop-from.from i.enough (omega arith) c.in-Some.h e (rw c.in_default-answer_line.is at c.answer_line.ensures.answered) in
@@ -45,7 +45,7 @@ returns-in_default-answer_line g c =
 
 pub loop-from-preserved : goal.loop-from-preserved
 loop-from-preserved g c =
-    let C = g.C.Case in
+    let C = g.C.LentCase in
     let i = c.loop-from.invariant in
     let h = c.in-Some.h in
     let t = take c.in-Some-answer_line.n c.answer_line.new.out in

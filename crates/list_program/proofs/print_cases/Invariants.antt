@@ -6,7 +6,7 @@ use Rattle.list_program.proofs.print_cases.Given as goal
 -- The cases before `from` are answered; `most` are left at most.
 abbrev pub invariant-loop-from : goal.invariant-loop-from
 invariant-loop-from g l =
-    let C = g.C.Case in record {
+    let C = g.C.LentCase in record {
       places : 4096 ≡ length l.scratch;
       room : 282625 ≡ length l.out;
       most : ℕ;
