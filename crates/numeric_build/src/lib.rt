@@ -13,7 +13,7 @@ ghost use Rattle.numeric_spec.specs.Build.{built_of};
 
 use base_spec::{Literal, Literals};
 use isa::Instruction;
-use numeric_form::Form;
+use numeric_form::lent::LentForm;
 pub use numeric_places::Numbers;
 pub use numeric_spec::Built;
 

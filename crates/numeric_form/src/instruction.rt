@@ -9,8 +9,9 @@ ghost use Rattle.numeric_spec.specs.Build.{take_instruction, take_shape};
 ghost use Rattle.numeric_facts.specs.Form.{instruction_exact};
 ghost use Rattle.numeric_form.specs.Numbers.{numbers_in, said, pushed_all};
 
+use crate::lent::LentForm;
 use crate::number::{push_unsigned, take_unsigned};
-use crate::{Form, shape};
+use crate::shape;
 use base_spec::{Literal, Literals};
 use isa::{
     BranchOperation, ConditionCodeOperation, ImmediateOperation, Instruction, LinkOperation,
@@ -128,7 +129,7 @@ fn take_at(place: u64, numbers: &[Literal]) -> Option<(Instruction, &[Literal])>
     }
 }
 
-impl Form for Instruction {
+impl LentForm for Instruction {
     ghost form = { form_of };
 
     ghost taken = { take_instruction };

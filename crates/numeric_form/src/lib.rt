@@ -9,10 +9,13 @@ ghost use Rattle.numeric_spec.specs.Take.{Take};
 ghost use Rattle.numeric_facts.specs.Exact.{Exact};
 ghost use Rattle.numeric_form.specs.Numbers.{as_built, numbers_in, said, pushed_all, none, numbers_from};
 
+use crate::lent::LentForm;
 use base_spec::{Literal, Literals};
 use isa::Instruction;
 
+pub mod given; // values that are given away
 pub mod instruction; // instructions
+pub mod lent; // the trait for values that are lent
 pub mod name; // enums without fields
 pub mod number; // numbers and flags
 pub mod operand; // operands
@@ -27,8 +30,8 @@ pub trait Form: Sized {
     ghost taken: { Take Self };
 
     /// Writes the numbers of the value after those that are there.
-    fn push(&self, numbers: &mut Literals)
-        ensures { numbers.new ≡ pushed_all numbers.old (form self.now) };
+    fn push(self, numbers: &mut Literals)
+        ensures { numbers.new ≡ pushed_all numbers.old (form self) };
 
     /// The value that stands first, and the numbers after it.
     fn take(numbers: &[Literal]) -> Option<(Self, &[Literal])>
@@ -51,7 +54,7 @@ pub const NO_NUMBERS: Literals = Literals {
 pub fn build(numbers: &[Literal]) -> Option<Instruction>
     ensures { as_built result ≡ built_of (numbers_in numbers.now) }
 {
-    let (instruction, rest) = Instruction::take(numbers)?;
+    let (instruction, rest) = <Instruction as LentForm>::take(numbers)?;
     rest.is_empty().then_some(instruction)
 }
 
@@ -63,7 +66,7 @@ pub fn write_numbers(instruction: Instruction, numbers: &mut Literals)
     ensures few { numbers.new.count ≤ 17 }
 {
     *numbers = NO_NUMBERS;
-    instruction.push(numbers);
+    LentForm::push(&instruction, numbers);
 }
 
 /// The numbers of an instruction, at most 17: `build` gives it back.

@@ -8,7 +8,7 @@ ghost use Rattle.numeric_spec.specs.Take.{take_size, take_target_direction, take
 ghost use Rattle.numeric_facts.specs.Payload.{size_exact, target-direction_exact, address_width_exact, condition_exact, branch_size_exact, shift_direction_exact, sign_exact, bit_field_operation_exact};
 ghost use Rattle.numeric_form.specs.Numbers.{numbers_in, said, pushed_all};
 
-use crate::Form;
+use crate::lent::LentForm;
 use crate::number::{push_unsigned, take_unsigned};
 use base_spec::{Literal, Literals};
 use isa::{
@@ -26,7 +26,7 @@ fn size_of(place: u64) -> Size
     }
 }
 
-impl Form for Size {
+impl LentForm for Size {
     ghost form = { size_form };
 
     ghost taken = { take_size };
@@ -52,7 +52,7 @@ fn target_direction_of(place: u64) -> TargetDirection
     }
 }
 
-impl Form for TargetDirection {
+impl LentForm for TargetDirection {
     ghost form = { target_direction_form };
 
     ghost taken = { take_target_direction };
@@ -78,7 +78,7 @@ fn address_width_of(place: u64) -> AddressWidth
     }
 }
 
-impl Form for AddressWidth {
+impl LentForm for AddressWidth {
     ghost form = { address_width_form };
 
     ghost taken = { take_address_width };
@@ -118,7 +118,7 @@ fn condition_of(place: u64) -> Condition
     }
 }
 
-impl Form for Condition {
+impl LentForm for Condition {
     ghost form = { condition_form };
 
     ghost taken = { take_condition };
@@ -145,7 +145,7 @@ fn branch_size_of(place: u64) -> BranchSize
     }
 }
 
-impl Form for BranchSize {
+impl LentForm for BranchSize {
     ghost form = { branch_size_form };
 
     ghost taken = { take_branch_size };
@@ -171,7 +171,7 @@ fn shift_direction_of(place: u64) -> ShiftDirection
     }
 }
 
-impl Form for ShiftDirection {
+impl LentForm for ShiftDirection {
     ghost form = { shift_direction_form };
 
     ghost taken = { take_shift_direction };
@@ -197,7 +197,7 @@ fn sign_of(place: u64) -> Sign
     }
 }
 
-impl Form for Sign {
+impl LentForm for Sign {
     ghost form = { sign_form };
 
     ghost taken = { take_sign };
@@ -229,7 +229,7 @@ fn bit_field_operation_of(place: u64) -> BitFieldOperation
     }
 }
 
-impl Form for BitFieldOperation {
+impl LentForm for BitFieldOperation {
     ghost form = { bit_field_operation_form };
 
     ghost taken = { take_bit_field_operation };

@@ -9,7 +9,7 @@ ghost use Rattle.numeric_facts.specs.Payload.{byte_exact, word_exact, long_exact
 ghost use Rattle.numeric_facts.specs.Exact.{signed_exact};
 ghost use Rattle.numeric_form.specs.Numbers.{number_of, numbers_in, said, unsigned_in, signed_in, stored, pushed, pushed_all};
 
-use crate::Form;
+use crate::lent::LentForm;
 use base_spec::{Literal, Literals};
 
 /// The number, where it is between 0 and `top`.
@@ -74,7 +74,7 @@ pub fn take_unsigned(numbers: &[Literal], top: u64) -> Option<(u64, &[Literal])>
     Some((value, rest))
 }
 
-impl Form for u8 {
+impl LentForm for u8 {
     ghost form = { byte_form };
 
     ghost taken = { take_byte };
@@ -91,7 +91,7 @@ impl Form for u8 {
     ghost exact = { byte_exact };
 }
 
-impl Form for u16 {
+impl LentForm for u16 {
     ghost form = { word_form };
 
     ghost taken = { take_word };
@@ -108,7 +108,7 @@ impl Form for u16 {
     ghost exact = { word_exact };
 }
 
-impl Form for u32 {
+impl LentForm for u32 {
     ghost form = { long_form };
 
     ghost taken = { take_long };
@@ -125,7 +125,7 @@ impl Form for u32 {
     ghost exact = { long_exact };
 }
 
-impl Form for u64 {
+impl LentForm for u64 {
     ghost form = { address_form };
 
     ghost taken = { take_address };
@@ -151,7 +151,7 @@ pub fn take_signed(numbers: &[Literal]) -> Option<(i32, &[Literal])>
     Some((value, rest))
 }
 
-impl Form for i32 {
+impl LentForm for i32 {
     ghost form = { signed_form };
 
     ghost taken = { take_signed };
@@ -173,7 +173,7 @@ impl Form for i32 {
     ghost exact = { signed_exact };
 }
 
-impl Form for bool {
+impl LentForm for bool {
     ghost form = { flag_form };
 
     ghost taken = { take_flag };

@@ -7,12 +7,12 @@ ghost use Rattle.numeric_spec.specs.Take.{take_operand};
 ghost use Rattle.numeric_facts.specs.Payload.{operand_exact};
 ghost use Rattle.numeric_form.specs.Numbers.{numbers_in, said, pushed_all};
 
-use crate::Form;
+use crate::lent::LentForm;
 use crate::number::{push_unsigned, take_unsigned};
 use base_spec::{Literal, Literals};
 use isa::{AddressWidth, IndexRegister, Operand, RegisterOperand};
 
-impl Form for Operand {
+impl LentForm for Operand {
     ghost form = { operand_form };
 
     ghost taken = { take_operand };

@@ -6,10 +6,10 @@ ghost use Rattle.numeric_spec.specs.Take.{take_both};
 ghost use Rattle.numeric_facts.specs.Exact.{thence};
 ghost use Rattle.numeric_form.specs.Numbers.{numbers_in, said, pushed_all};
 
-use crate::Form;
+use crate::lent::LentForm;
 use base_spec::{Literal, Literals};
 
-impl<A: Form + Drop, B: Form> Form for (A, B) {
+impl<A: LentForm + Drop, B: LentForm> LentForm for (A, B) {
     ghost form = { λ x. A.form x.0 ++ B.form x.1 };
 
     ghost taken = { take_both A.taken B.taken };

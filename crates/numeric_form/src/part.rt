@@ -7,12 +7,12 @@ ghost use Rattle.numeric_spec.specs.Take.{take_register, take_index, take_field_
 ghost use Rattle.numeric_facts.specs.Payload.{register_exact, index_exact, field-value_exact, bit_field_exact, trap_operand_exact, register_choice_exact};
 ghost use Rattle.numeric_form.specs.Numbers.{numbers_in, said, pushed_all};
 
-use crate::Form;
+use crate::lent::LentForm;
 use crate::number::{push_unsigned, take_unsigned};
 use base_spec::{Literal, Literals};
 use isa::{BitField, FieldValue, IndexRegister, RegisterOperand, Size, TrapOperand};
 
-impl Form for RegisterOperand {
+impl LentForm for RegisterOperand {
     ghost form = { register_form };
 
     ghost taken = { take_register };
@@ -42,7 +42,7 @@ impl Form for RegisterOperand {
     ghost exact = { register_exact };
 }
 
-impl Form for IndexRegister {
+impl LentForm for IndexRegister {
     ghost form = { index_form };
 
     ghost taken = { take_index };
@@ -61,7 +61,7 @@ impl Form for IndexRegister {
     ghost exact = { index_exact };
 }
 
-impl Form for FieldValue {
+impl LentForm for FieldValue {
     ghost form = { field_value_form };
 
     ghost taken = { take_field_value };
@@ -91,7 +91,7 @@ impl Form for FieldValue {
     ghost exact = { field-value_exact };
 }
 
-impl Form for BitField {
+impl LentForm for BitField {
     ghost form = { bit_field_form };
 
     ghost taken = { take_bit_field };
@@ -110,7 +110,7 @@ impl Form for BitField {
     ghost exact = { bit_field_exact };
 }
 
-impl Form for TrapOperand {
+impl LentForm for TrapOperand {
     ghost form = { trap_operand_form };
 
     ghost taken = { take_trap_operand };
@@ -148,7 +148,7 @@ impl Form for TrapOperand {
     ghost exact = { trap_operand_exact };
 }
 
-impl Form for Option<u8> {
+impl LentForm for Option<u8> {
     ghost form = { register_choice_form };
 
     ghost taken = { take_register_choice };

@@ -6,7 +6,7 @@ ghost use Rattle.numeric_spec.specs.Shape.{into_register, movem, transfer, pair,
 ghost use Rattle.numeric_spec.specs.Build.{take_shape};
 ghost use Rattle.numeric_form.specs.Numbers.{numbers_in, said};
 
-use crate::Form;
+use crate::lent::LentForm;
 use base_spec::Literal;
 use isa::{
     BitField, BitFieldOperation, BranchOperation, BranchSize, Condition, ConditionCodeOperation,
@@ -349,7 +349,7 @@ pub fn mull(numbers: &[Literal]) -> Option<(Instruction, &[Literal])>
 {
     let (source, rest) = Operand::take(numbers)?;
     let (low, rest) = u8::take(rest)?;
-    let (high, rest) = <Option<u8> as Form>::take(rest)?;
+    let (high, rest) = <Option<u8> as LentForm>::take(rest)?;
     let (sign, rest) = Sign::take(rest)?;
     Some((
         Instruction::MULL {
