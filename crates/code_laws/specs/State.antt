@@ -1,14 +1,14 @@
 -- Laws of the encoder's state: a refusal stays, and what passes leaves the address of the next word. Assumes nothing.
-use Rattle.std.specs.Prelude.{◌≡◌, ℕ, ◌+◌, ◌<◌, Bool, true, false, cond, List, [], ◌∷◌, ◌++◌, length, Result, Ok, Err}
-use Rattle.std.proofs.Common.{ap, sym, ◌∙◌}
+use Rattle.std.specs.Prelude.{◌≡◌, ℕ, ◌+◌, ◌<◌, ◌≤◌, Bool, true, false, cond, List, [], ◌∷◌, ◌++◌, length, Result, Ok, Err, IfErr, ⊤}
+use Rattle.std.proofs.Common.{ap, sym, ◌∙◌, arith}
 use Rattle.std.proofs.Math.Path.{refl}
 use Rattle.isa.specs.declared.Field.{Field}
-use Rattle.encode_spec.specs.Item.{Item, Part, Verdict, fine, malformed, out_of_range, no_encoding, words_in, count_of, or_else, failure}
+use Rattle.encode_spec.specs.Item.{Item, Part, Verdict, fine, malformed, out_of_range, no_encoding, word, check, range, ranged, words_in, count_of, or_else, failure}
 use Rattle.encode_spec.specs.Item as item
 use Rattle.encode_spec.specs.Encode.{encoded_as}
 use Rattle.encode_state.specs.declared.Encoder.{Encoder}
 use Rattle.encode_state.specs.declared.Refusal.{Refusal}
-use Rattle.encode_state.specs.declared.Refusal.TheVariants.{NoEncoding}
+use Rattle.encode_state.specs.declared.Refusal.TheVariants.{Malformed, OutOfRange, NoEncoding, FewBytes, Numbered}
 use Rattle.encode_state.specs.Encoder.{State, and_then, pushed, marked, step, run, next_address, run_parts, holding}
 use Rattle.encode_state.specs.Laws.{run-refused, run_holding, finished, refusal}
 use Rattle.encode_state.specs.Laws as laws
@@ -113,3 +113,41 @@ finish_holding (no_encoding r) a b ws = refl
 finish_run : (xs : List Item) (a : ℕ) (b : Bool) (ws : List ℕ) → length ws + count_of xs < 12
     → finished (run xs (Ok (holding a b ws))) ≡ encoded_as (failure b xs) (ws ++ words_in xs)
 finish_run xs a b ws m = ap finished (run_holding a b xs ws m) ∙ finish_holding (failure b xs) a b (ws ++ words_in xs)
+
+-- ---- which refusals there are
+-- one of the four, and not one in numbers
+abbrev pub OneOfFour : Refusal → Type 0
+OneOfFour Malformed = ⊤
+OneOfFour (OutOfRange f z) = ⊤
+OneOfFour (NoEncoding r) = ⊤
+OneOfFour FewBytes = ⊤
+OneOfFour (Numbered n d z) = ⊥
+
+pub four_numbers : (r : Refusal) → OneOfFour r → (1 ≤ (refusal r).number) × ((refusal r).number ≤ 4)
+four_numbers Malformed h = (omega arith, omega arith)
+four_numbers (OutOfRange f z) h = (omega arith, omega arith)
+four_numbers (NoEncoding r) h = (omega arith, omega arith)
+four_numbers FewBytes h = (omega arith, omega arith)
+four_numbers (Numbered n d z) h = absurd h
+
+marked_four : (v : Verdict) (e : Encoder) → IfErr (marked v e) OneOfFour
+marked_four fine e = tt
+marked_four malformed e = tt
+marked_four (out_of_range f z) e = tt
+marked_four (no_encoding r) e = tt
+
+pub step_four : (s : State) (x : Item) → IfErr s OneOfFour → IfErr (and_then s (λ e. step e x)) OneOfFour
+step_four (Ok e) (word w) h = tt
+step_four (Ok e) (check v) h = marked_four v e
+step_four (Ok e) (range f z) h = marked_four (ranged e.check f z) e
+step_four (Err r) x h = h
+
+-- items refuse with one of the four, and so do parts
+pub run_four : (xs : List Item) (s : State) → IfErr s OneOfFour → IfErr (run xs s) OneOfFour
+run_four [] s h = h
+run_four (x ∷ xs) s h = run_four xs _ (step_four s x h)
+
+pub parts_four : (ps : List Part) (s : State) → IfErr s OneOfFour → IfErr (run_parts ps s) OneOfFour
+parts_four [] s h = h
+parts_four (p ∷ ps) (Ok e) h = parts_four ps _ (run_four (p (next_address e)) (Ok e) tt)
+parts_four (p ∷ ps) (Err r) h = parts_four ps (Err r) h
