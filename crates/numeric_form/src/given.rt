@@ -1,4 +1,5 @@
 //! The numeric form of a value that is given away: by that of the value lent, and of two values one after the other.
+// An impl a type: one for every type with `LentForm` would overlap that of two values.
 #![tactic(auto, using(crate::specs::PushedLaws::pushed_append))]
 
 ghost use Rattle.std.specs.Prelude.{◌≡◌, ◌++◌};
@@ -397,14 +398,25 @@ mod tests {
     use super::*;
     use crate::NO_NUMBERS;
 
-    // Whether a value is written, and taken again with all other places left over.
+    fn same(a: &Literal, b: &Literal) -> bool {
+        a.negative == b.negative && a.magnitude == b.magnitude
+    }
+
+    // Whether the value that is taken from the numbers of a value has the same numbers, which are all that it takes.
     fn comes_back<T: Form + Drop>(value: T) -> bool {
         let mut numbers = NO_NUMBERS;
         value.push(&mut numbers);
-        match T::take(&numbers.places) {
-            Some((_, rest)) => rest.len() == 24usize.saturating_sub(numbers.count),
-            None => false,
+        let Some((taken, rest)) = T::take(&numbers.places) else {
+            return false;
+        };
+        let mut again = NO_NUMBERS;
+        taken.push(&mut again);
+        for (a, b) in numbers.places.iter().zip(again.places.iter()) {
+            if !same(a, b) {
+                return false;
+            }
         }
+        again.count == numbers.count && rest.len() == 24usize.saturating_sub(numbers.count)
     }
 
     #[test]
