@@ -82,7 +82,8 @@ pub fn run_lines<A: AnswerLines, R: Read, W: Write>(
     }
 }
 
-// In few writes, by the `answers` above.
+// In few writes, by the `answers` above. Beside `print_answers`, since no `AnswerLines` can be made of an `Answer`: the kit has no
+// proof of a const in an impl for every A.
 fn print_each<A: Answer, W: Write>(asked: &A, text: &[u8], output: &mut W) -> io::Result<()>
     ensures { OnOk result (Appends (W.contents output.old) (W.contents output.new) (answers_of A.answer_of text.now)) }
 {

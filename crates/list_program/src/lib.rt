@@ -45,7 +45,7 @@ pub trait LentCase {
     fn limits(&self) -> Limits
         ensures { result ≡ limits };
 
-    /// Written into the front of `out`; how many bytes. The scratch is lent as the case before left it.
+    /// Written into the front of `out`; how many bytes. The scratch is lent as the case before left it, all 0 for the first.
     fn answer(
         &mut self,
         header: Header,
